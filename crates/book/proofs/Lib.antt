@@ -1,0 +1,6 @@
+pub mod Choosing
+pub mod Filling
+pub mod Laws
+pub mod Opening
+pub mod Lists
+pub mod Writing

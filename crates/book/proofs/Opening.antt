@@ -1,0 +1,72 @@
+-- Which facts lead to which answer of `openRefusal`, and what a book that opens is. Assumes nothing.
+use mathlib.Core.Path.{_≡_, refl, sym, ap, _∙_}
+use mathlib.Core.Logic.{_⊎_, inl, inr}
+use mathlib.Core.Bool.{not}
+use mathlib.Core.List.{List}
+use Prim.Native.Nat.{ℕ, zero, suc, _+_, _≤_, _<_}
+use native.Mathlib.Omega.{arith}
+use borrow.Author.Tests.{le-leb, lt-leb, eq-eqb, ne-eqb}
+use lib.ListN.{length}
+use lib.Dec.{T, leb, eqb, leb→le, eqb→eq}
+use Rattle.book.specs.Choose.{refuse, choose}
+use Rattle.book.specs.Bytes.{u8At, u32At}
+use Rattle.book.specs.Open.{Opens, openRefusal, opened}
+use Rattle.book.specs.declared.Opened.{Opened}
+use Rattle.book.specs.declared.Opened.the-variants.{Body, Refused}
+use Rattle.book.proofs.Choosing.{passed, refuse-case}
+
+module _ (b : List ℕ) (h : ℕ) where
+  pub short : length b < 5 → openRefusal b h ≡ 1
+  unfolding openRefusal refuse choose
+  short p = simp lt-leb
+
+  pub miscounted : 5 ≤ length b → (length b ≡ 4 + u32At b 0 → ⊥) → openRefusal b h ≡ 1
+  unfolding openRefusal refuse choose
+  miscounted p q = simp (le-leb, ne-eqb)
+
+  pub other : 5 ≤ length b → length b ≡ 4 + u32At b 0 → (u8At b 4 ≡ 1 → ⊥) → openRefusal b h ≡ 2
+  unfolding openRefusal refuse choose
+  other p q r = simp (le-leb, eq-eqb, ne-eqb)
+
+  pub headless : 5 ≤ length b → length b ≡ 4 + u32At b 0 → u8At b 4 ≡ 1 → length b < 5 + h → openRefusal b h ≡ 3
+  unfolding openRefusal refuse choose
+  headless p q r s = simp (le-leb, lt-leb, eq-eqb)
+
+  pub whole : 5 ≤ length b → length b ≡ 4 + u32At b 0 → u8At b 4 ≡ 1 → 5 + h ≤ length b → openRefusal b h ≡ 0
+  unfolding openRefusal refuse choose
+  whole p q r s = simp (le-leb, eq-eqb)
+
+  -- no test fails exactly if the book opens
+  pub opens : openRefusal b h ≡ 0 → Opens b h
+  unfolding openRefusal
+  opens e =
+      let p = passed _ _ _ e (omega arith) in
+      let q = passed _ _ _ (p .1) (omega arith) in
+      let r = passed _ _ _ (q .1) (omega arith) in
+      let s = passed _ _ _ (r .1) (omega arith) in
+      record { counted = eqb→eq _ _ (q .0); version = eqb→eq _ _ (r .0); headed = leb→le _ _ (s .0) }
+
+  -- the tests of an opening are 1, 2 and 3
+  pub open-most : openRefusal b h ≤ 3
+  unfolding openRefusal
+  open-most =
+      refuse-case (λ n. n ≤ 3) _ (λ _. omega arith) (λ _.
+      refuse-case (λ n. n ≤ 3) _ (λ _. omega arith) (λ _.
+      refuse-case (λ n. n ≤ 3) _ (λ _. omega arith) (λ _.
+      refuse-case (λ n. n ≤ 3) _ (λ _. omega arith) (λ _. omega arith))))
+
+  pub open-zero : Opens b h → openRefusal b h ≡ 0
+  open-zero o = whole (omega (arith, o .headed)) (o .counted) (o .version) (o .headed)
+
+-- the answer's cases, back to the number
+pub opened-body : (n : ℕ) → opened n ≡ Body → n ≡ 0
+unfolding opened
+opened-body zero e = refl
+opened-body (suc n) e = let z : _≡_ {A = ℕ} 0 1 = cc in absurd (omega arith)
+
+pub opened-refused : (n why : ℕ) → opened n ≡ Refused why → (n ≡ why) × (1 ≤ why)
+unfolding opened
+opened-refused zero why e = let z : _≡_ {A = ℕ} 0 1 = cc in absurd (omega arith)
+opened-refused (suc n) why e =
+    let q : suc n ≡ why = cc in
+    (q, omega arith)

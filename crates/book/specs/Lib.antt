@@ -1,0 +1,5 @@
+pub mod Choose
+pub mod Bytes
+pub mod Writing
+pub mod Open
+pub mod Lists
