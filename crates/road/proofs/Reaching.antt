@@ -1,0 +1,44 @@
+-- Whether all of the first distances are reached, one at a time. Assumes nothing.
+use mathlib.Core.Path.{_≡_, refl, sym, _∙_}
+use mathlib.Core.Bool.{Bool, true, false, _&&_}
+use mathlib.Core.List.{List}
+use Prim.Native.Nat.{ℕ, zero, suc, _+_, _≤_, _<_}
+use native.Mathlib.Decide.{ℕ-discrete}
+use native.Mathlib.Numerals.{add-one}
+use native.Mathlib.Omega.{arith}
+use lib.ListN.{length, getD}
+use lib.Dec.{ltb}
+use borrow.Author.Tests.{lt-ltb, le-ltb}
+use Rattle.road.specs.Dijkstra.{far, at}
+use Rattle.road.specs.Refusal.{reached}
+use Rattle.road.proofs.Shortening.{at-inside}
+
+pub none-yet : (ds : List ℕ) → reached ds 0 ≡ true
+unfolding reached
+none-yet ds = refl
+
+module _ (ds : List ℕ) (i : ℕ) (inside : i < length ds) where
+  pub one-more : reached ds i ≡ true → getD ds i 0 < far → reached ds (i + 1) ≡ true
+  unfolding reached
+  one-more e h = rw (add-one, e, ← at-inside ds i inside, lt-ltb (getD ds i 0) far h) refl
+
+  unreached : far ≤ getD ds i 0 → reached ds (suc i) ≡ false
+  unfolding reached
+  unreached h = rw (← at-inside ds i inside, le-ltb (getD ds i 0) far h) (and-false (reached ds i))
+    where
+      and-false : (b : Bool) → b && false ≡ false
+      and-false true = refl
+      and-false false = refl
+
+  pub stops : far ≤ getD ds i 0 → (n : ℕ) → i < n → reached ds n ≡ false
+  unfolding reached
+  stops h zero l = absurd (omega arith)
+  stops h (suc n) l = go (ℕ-discrete i n) (λ k. stops h n k)
+    where
+      go : Dec (i ≡ n) → (i < n → reached ds n ≡ false) → reached ds (suc n) ≡ false
+      go (yes e) rest = rw (← e) (unreached h)
+      go (no e) rest = rw (rest (omega arith)) refl
+
+-- the answer by the distances and the count that were used
+pub reached-by : (r : Bool) (ds es : List ℕ) (n m : ℕ) → r ≡ reached ds n → ds ≡ es → n ≡ m → r ≡ reached es m
+reached-by r ds es n m e f g = rw (← f, ← g) e

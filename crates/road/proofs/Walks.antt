@@ -1,0 +1,43 @@
+-- Walks join and turn round; least totals are unique, 0 from a junction to itself, symmetric, and within the triangle.
+use mathlib.Core.Path.{_≡_, ap}
+use mathlib.Core.List.{List, [], _∷_, List·Memᴰ, List·Memᴰ·head, List·Memᴰ·tail}
+use Prim.Native.Nat.{ℕ, zero, suc, _+_, _≤_, _<_}
+use native.Mathlib.Nat.{zero-add, add-zero, add-comm, add-assoc}
+use native.Mathlib.Omega.{arith}
+use Rattle.road_layout.specs.Road.{Road}
+use Rattle.road.specs.Walk.{Arc, along, back, arcs, Walk, stay, step, Least}
+
+module _ {net : List Arc} where
+  -- One walk after another.
+  pub join : {u v w s t : ℕ} → Walk net u v s → Walk net v w t → Walk net u w (s + t)
+  join stay y = rw zero-add y
+  join (step a m x) y = rw add-assoc (step a m (join x y))
+
+  -- One more arc at the end of a walk.
+  pub snoc : {u t : ℕ} (a : Arc) → List·Memᴰ a net → Walk net u (a .from) t → Walk net u (a .to) (t + a .seconds)
+  snoc a m x = join x (rw add-zero at (step a m stay))
+
+  pub least-unique : {u v s t : ℕ} → Least net u v s → Least net u v t → s ≡ t
+  least-unique {s = s} {t = t} x y = omega (arith, x .least t (y .walk), y .least s (x .walk))
+
+  pub least-self : (u : ℕ) → Least net u u 0
+  least-self u = record { walk = stay; least = λ s w. omega arith }
+
+  pub least-triangle : {u v w r s t : ℕ} → Least net u v s → Least net v w t → Least net u w r → r ≤ s + t
+  least-triangle {s = s} {t = t} x y z = z .least (s + t) (join (x .walk) (y .walk))
+
+-- The arc back is an arc of the same roads.
+back-mem : (rs : List Road) (a : Arc) → List·Memᴰ a (arcs rs) → List·Memᴰ (back a) (arcs rs)
+unfolding arcs back along
+back-mem (r ∷ rs) a (List·Memᴰ·head e) = List·Memᴰ·tail (List·Memᴰ·head (ap back e))
+back-mem (r ∷ rs) a (List·Memᴰ·tail (List·Memᴰ·head e)) = List·Memᴰ·head (ap back e)
+back-mem (r ∷ rs) a (List·Memᴰ·tail (List·Memᴰ·tail m)) = List·Memᴰ·tail (List·Memᴰ·tail (back-mem rs a m))
+
+-- A walk along roads, the other way round.
+pub turn : (rs : List Road) {u v t : ℕ} → Walk (arcs rs) u v t → Walk (arcs rs) v u t
+unfolding back
+turn rs stay = stay
+turn rs (step {t = t} a m x) = rw (add-comm (a .seconds) t) (snoc (back a) (back-mem rs a m) (turn rs x))
+
+pub least-symmetric : (rs : List Road) {u v s t : ℕ} → Least (arcs rs) u v s → Least (arcs rs) v u t → s ≡ t
+least-symmetric rs {s = s} {t = t} x y = omega (arith, x .least t (turn rs (y .walk)), y .least s (turn rs (x .walk)))

@@ -1,0 +1,60 @@
+use borrow.Author.Needs.{needs}
+use native.Mathlib.Omega.{arith}
+use Rattle.road.proofs.Stepping.{sizes, near-by, walks-by, rests-by}
+use Rattle.road.proofs.walk.round.Statement.{statement}
+use Rattle.road.proofs.walk.round.Tie as tie
+
+least-requires : tie.Need-least-requires
+least-requires c κs = search needs
+
+cast-walk-on : tie.Need-cast-walk-on
+cast-walk-on c = search needs
+
+cast-walk-on-2 : tie.Need-cast-walk-on-2
+cast-walk-on-2 c = search needs
+
+walk-on-requires : tie.Need-walk-on-requires
+walk-on-requires c κs =
+    let p = c .before .before .before .before .before .before .before .before .before .before .before .before .before .before .pre in (
+      p .0,
+      sizes _ _ _ _ _ _ (p .0 .layout) (p .1) (p .3),
+      omega arith,
+      near-by _ _ _ _ _ _ (p .0 .layout) (p .1) (p .3) _ (c .before .before .before .before .least .ensures) (c .before .before .before .if1 .taken) (p .2),
+    )
+
+same-length : tie.Need-same-length
+same-length c = search needs
+
+same-length-2 : tie.Need-same-length-2
+same-length-2 c = search needs
+
+same-length-3 : tie.Need-same-length-3
+same-length-3 c = search needs
+
+returns : tie.Need-returns
+returns c =
+    let p = c .before .before .before .before .before .before .before .before .before .before .before .before .before .before .before .before .before .before .before .before .before .pre in
+    walks-by _ _ _ _ _ _ (p .0 .layout) (p .1) (p .3) _ (c .before .before .before .before .before .before .before .before .before .before .before .least .ensures) _ _ _ (c .before .before .before .before .before .before .before .before .before .before .if1 .taken) (c .before .before .before .before .before .before .walk-on .ensures .0) (c .before .before .before .before .before .before .walk-on .ensures .1)
+
+same-length-4 : tie.Need-same-length-4
+same-length-4 c = search needs
+
+returns-2 : tie.Need-returns-2
+returns-2 c =
+    let p = c .before .before .before .before .before .before .before .before .before .before .before .pre in
+    rests-by _ _ _ _ _ _ (p .0 .layout) (p .1) (p .3) _ (c .before .least .ensures) (c .if1 .left)
+
+pub round-spec : {M : Type 1} → statement M
+round-spec =
+    tie.close
+    (tie.spec
+    least-requires
+    cast-walk-on
+    cast-walk-on-2
+    walk-on-requires
+    same-length
+    same-length-2
+    same-length-3
+    returns
+    same-length-4
+    returns-2)

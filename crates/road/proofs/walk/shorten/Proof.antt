@@ -1,0 +1,54 @@
+use borrow.Author.Needs.{needs}
+use native.Mathlib.Omega.{arith}
+use Rattle.road.proofs.Shortening.{shortened, short-enough}
+use Rattle.road.proofs.walk.shorten.Statement.{statement}
+use Rattle.road.proofs.walk.shorten.Tie as tie
+
+mul-if1 : tie.Need-mul-if1
+mul-if1 c = search needs
+
+slice-read-if1 : tie.Need-slice-read-if1
+slice-read-if1 c = search needs
+
+mul-ds : tie.Need-mul-ds
+mul-ds c = search needs
+
+slice-write-ds : tie.Need-slice-write-ds
+slice-write-ds c = search needs
+
+mul-put : tie.Need-mul-put
+mul-put c = search needs
+
+add-put : tie.Need-add-put
+add-put c = search needs
+
+put-requires : tie.Need-put-requires
+put-requires c κs = search needs
+
+same-length : tie.Need-same-length
+same-length c = search needs
+
+same-length-2 : tie.Need-same-length-2
+same-length-2 c = search needs
+
+returns : tie.Need-returns
+returns c = shortened _ _ _ _ (omega arith) _ (omega arith) (c .before .before .put .ensures)
+
+returns-2 : tie.Need-returns-2
+returns-2 c = short-enough _ _ _ _ (omega arith) (omega arith)
+
+pub shorten-spec : {M : Type 1} → statement M
+shorten-spec =
+    tie.close
+    (tie.spec
+    mul-if1
+    slice-read-if1
+    mul-ds
+    slice-write-ds
+    mul-put
+    add-put
+    put-requires
+    same-length
+    same-length-2
+    returns
+    returns-2)

@@ -1,0 +1,53 @@
+use borrow.Author.Needs.{needs}
+use Rattle.road.proofs.Stepping.{starts-by}
+use Rattle.road.proofs.walk.start.Statement.{statement}
+use Rattle.road.proofs.walk.start.Tie as tie
+
+reset-requires : tie.Need-reset-requires
+reset-requires c κs = search needs
+
+clear-requires : tie.Need-clear-requires
+clear-requires c κs = search needs
+
+cast-s : tie.Need-cast-s
+cast-s c = search needs
+
+mul-ds : tie.Need-mul-ds
+mul-ds c = search needs
+
+slice-write-ds : tie.Need-slice-write-ds
+slice-write-ds c = search needs
+
+cast-put : tie.Need-cast-put
+cast-put c = search needs
+
+put-requires : tie.Need-put-requires
+put-requires c κs = search needs
+
+same-length : tie.Need-same-length
+same-length c = search needs
+
+same-length-2 : tie.Need-same-length-2
+same-length-2 c = search needs
+
+same-length-3 : tie.Need-same-length-3
+same-length-3 c = search needs
+
+returns : tie.Need-returns
+returns c = λ b. starts-by b _ _ _ _ _ (c .before .before .before .before .before .before .before .before .before .before .before .before .before .before .before .before .before .before .before .before .pre .1) (c .before .before .before .before .before .before .before .before .before .before .before .before .before .before .reset .ensures .0) (c .before .before .before .before .before .before .before .before .before .before .before .before .before .before .reset .ensures .1) (c .before .before .before .before .before .before .before .before .clear .ensures) (c .before .before .put .ensures)
+
+pub start-spec : {M : Type 1} → statement M
+start-spec =
+    tie.close
+    (tie.spec
+    reset-requires
+    clear-requires
+    cast-s
+    mul-ds
+    slice-write-ds
+    cast-put
+    put-requires
+    same-length
+    same-length-2
+    same-length-3
+    returns)

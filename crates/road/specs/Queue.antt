@@ -1,0 +1,60 @@
+-- The walk's queue: a tournament tree over the junctions, by distance and then number. Assumes nothing: these are definitions.
+use mathlib.Core.Path.{_≡_}
+use mathlib.Core.Bool.{Bool}
+use mathlib.Core.List.{List, [], _∷_}
+use Prim.Native.Nat.{ℕ, _+_, _*_, _<_}
+use lib.ListN.{length, set}
+use lib.Dec.{ltb, eqb}
+use Rattle.book.specs.Choose.{choose}
+use Rattle.tournament.specs.Tournament.{putLeaf, leaf, Tournament}
+use Rattle.road_layout.specs.Road.{junctions}
+use Rattle.road.specs.Walk.{Arc, net}
+use Rattle.road.specs.Dijkstra.{far, width, at, State, score, start, rounds}
+
+abbrev pub state : List ℕ → List Bool → State
+state ds done = record { ds = ds; done = done }
+
+-- the word of a junction that is not queued: above every other
+abbrev pub mark : ℕ
+mark = 4398046510080
+
+-- the word of a queued junction: by distance, then by number
+abbrev pub word : ℕ → ℕ → ℕ
+word d v = d * 1024 + v
+
+-- junction v's word: it is queued while it is reached and not walked on from
+unfoldable pub wordOf : State → ℕ → ℕ
+wordOf st v = choose (ltb (score st v) far) (word (score st v) v) mark
+
+-- The queue holds each junction's word.
+pub record Queued (queue : List ℕ) (st : State) : Type 0 where
+  pub tournament : Tournament queue
+  pub words : (v : ℕ) → v < width → leaf queue v ≡ wordOf st v
+
+-- the distances and the queue
+pub record Reach : Type 0 where
+  pub ds : List ℕ
+  pub queue : List ℕ
+
+abbrev pub reach : List ℕ → List ℕ → Reach
+reach ds queue = record { ds = ds; queue = queue }
+
+-- x for junction v if that is shorter, in both
+unfoldable pub shortenBoth : Reach → ℕ → ℕ → Reach
+shortenBoth s v x = choose (ltb x (at (s .ds) v)) (reach (set (s .ds) v x) (putLeaf (s .queue) v (word x v))) s
+
+-- every arc of a list relaxed that leaves u, which is at distance d
+unfoldable pub relaxBoth : ℕ → ℕ → List Arc → Reach → Reach
+relaxBoth u d [] s = s
+relaxBoth u d (a ∷ arcs) s = relaxBoth u d arcs (choose (eqb (a .from) u) (shortenBoth s (a .to) (d + a .seconds)) s)
+
+-- The arrays of a walk from a source in a road book hold what k rounds give.
+pub record Walking (b : List ℕ) (source k : ℕ) (ds : List ℕ) (done : List Bool) (queue : List ℕ) : Type 0 where
+  pub rounded : state ds done ≡ rounds (net b) (junctions b) k (start source)
+  pub queued : Queued queue (state ds done)
+
+-- The arrays' lengths.
+pub record Roomy (ds : List ℕ) (done : List Bool) (queue : List ℕ) : Type 0 where
+  pub distances : length ds ≡ width
+  pub marks : length done ≡ width
+  pub words : length queue ≡ 2048

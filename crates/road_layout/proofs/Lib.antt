@@ -1,0 +1,4 @@
+pub mod Roads
+pub mod Rising
+pub mod Reading
+pub mod Layouts

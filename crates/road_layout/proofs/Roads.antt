@@ -1,0 +1,33 @@
+-- What stands at a road's place is the road. Assumes nothing.
+use mathlib.Core.Path.{_≡_, refl}
+use mathlib.Core.List.{List, [], _∷_}
+use Prim.Native.Nat.{ℕ, suc, _+_, _*_}
+use Rattle.book.specs.Bytes.{u16At}
+use Rattle.road_layout.specs.Road.{Road, junctions, roadCount, roadAt, roadsTo, roads}
+
+pub read-road : (b : List ℕ) (k at low high seconds : ℕ) → at ≡ 9 + 6 * k → low ≡ u16At b at → high ≡ u16At b (at + 2) → seconds ≡ u16At b (at + 4)
+    → record { low = low; high = high; seconds = seconds } ≡ roadAt b k
+unfolding roadAt
+read-road b k at low high seconds place el eh es = rw (el, eh, es, place) refl
+
+-- the counts
+pub read-junctions : (b : List ℕ) → u16At b 5 ≡ junctions b
+unfolding junctions
+read-junctions b = refl
+
+pub read-count : (b : List ℕ) → u16At b 7 ≡ roadCount b
+unfolding roadCount
+read-count b = refl
+
+-- the roads, one more at a time
+pub roads-none : (b : List ℕ) → roadsTo b 0 ≡ []
+unfolding roadsTo
+roads-none b = refl
+
+pub roads-more : (b : List ℕ) (k : ℕ) → roadsTo b (suc k) ≡ roadAt b k ∷ roadsTo b k
+unfolding roadsTo
+roads-more b k = refl
+
+pub roads-all : (b : List ℕ) → roads b ≡ roadsTo b (roadCount b)
+unfolding roads
+roads-all b = refl

@@ -1,0 +1,100 @@
+use borrow.Author.Needs.{needs}
+use mathlib.Core.Path.{_≡_, sym, _∙_}
+use native.Mathlib.Omega.{arith}
+use borrow.Author.Tests.{not-true, not-false}
+use Rattle.book.specs.Open.{openRefusal}
+use Rattle.book.proofs.Opening.{opened-body, opens}
+use Rattle.road_layout.proofs.Reading.{unopened, refused, sound, no-junction, many-junctions, many-roads, misfit, wrong, right}
+use Rattle.road_layout.proofs.read.Statement.{statement}
+use Rattle.road_layout.proofs.read.Tie as tie
+
+-- past the first `let else` the book opens
+body : (c : tie.After-enum-told) → openRefusal (c .before .before .before .before .args .b .now) 4 ≡ 0
+body c = opened-body _ (sym (c .before .before .«open» .ensures) ∙ c .enum-told .given .1)
+
+open-requires : tie.Need-open-requires
+open-requires c κs = search needs
+
+enum-told : tie.Need-enum-told
+enum-told c = search needs
+
+enum-known-o : tie.Need-enum-known-o
+enum-known-o c = search needs
+
+enum-known-o-2 : tie.Need-enum-known-o-2
+enum-known-o-2 c = search needs
+
+enum-told-2 : tie.Need-enum-told-2
+enum-told-2 c = search needs
+
+returns : tie.Need-returns
+returns c = search needs
+
+returns-2 : tie.Need-returns-2
+returns-2 c =
+    let o = c .before .before .before .before in
+    unopened _ _ (sym (o .before .before .«open» .ensures) ∙ o .o .given .1 ∙ c .before .o2 .given .1)
+
+u16-at-requires : tie.Need-u16-at-requires
+u16-at-requires c κs = omega (arith, opens _ _ (body c) .headed)
+
+u16-at-requires-2 : tie.Need-u16-at-requires-2
+u16-at-requires-2 c κs = omega (arith, opens _ _ (body (c .before)) .headed)
+
+returns-3 : tie.Need-returns-3
+returns-3 c = refused _ (body (c .before .before .before)) _ _ (c .before .before .u16-at .ensures) (c .before .u16-at2 .ensures) 3 (no-junction _ (body (c .before .before .before)) _ _ (c .before .before .u16-at .ensures) (c .before .u16-at2 .ensures) (c .if1 .taken)) (omega arith)
+
+returns-4 : tie.Need-returns-4
+returns-4 c = refused _ (body (c .before .before .before .before)) _ _ (c .before .before .before .u16-at .ensures) (c .before .before .u16-at2 .ensures) 3 (many-junctions _ (body (c .before .before .before .before)) _ _ (c .before .before .before .u16-at .ensures) (c .before .before .u16-at2 .ensures) (omega arith) (c .if2 .taken)) (omega arith)
+
+returns-5 : tie.Need-returns-5
+returns-5 c = refused _ (body (c .before .before .before .before .before)) _ _ (c .before .before .before .before .u16-at .ensures) (c .before .before .before .u16-at2 .ensures) 3 (many-roads _ (body (c .before .before .before .before .before)) _ _ (c .before .before .before .before .u16-at .ensures) (c .before .before .before .u16-at2 .ensures) (omega arith) (omega arith) (c .if3 .taken)) (omega arith)
+
+cast-count : tie.Need-cast-count
+cast-count c = search needs
+
+mul-if4 : tie.Need-mul-if4
+mul-if4 c = search needs
+
+add-if4 : tie.Need-add-if4
+add-if4 c = search needs
+
+returns-6 : tie.Need-returns-6
+returns-6 c = refused _ (body (c .before .before .before .before .before .before)) _ _ (c .before .before .before .before .before .u16-at .ensures) (c .before .before .before .before .u16-at2 .ensures) 4 (misfit _ (body (c .before .before .before .before .before .before)) _ _ (c .before .before .before .before .before .u16-at .ensures) (c .before .before .before .before .u16-at2 .ensures) (omega arith) (omega arith) (omega arith) (c .if4 .taken)) (omega arith)
+
+roads-ok-requires : tie.Need-roads-ok-requires
+roads-ok-requires c κs = search needs
+
+returns-7 : tie.Need-returns-7
+returns-7 c =
+    let v = sym (c .before .roads-ok .ensures) ∙ not-true _ (c .if5 .taken) in
+    refused _ (body (c .before .before .before .before .before .before .before .before)) _ _ (c .before .before .before .before .before .before .before .u16-at .ensures) (c .before .before .before .before .before .before .u16-at2 .ensures) 5 (wrong _ (body (c .before .before .before .before .before .before .before .before)) _ _ (c .before .before .before .before .before .before .before .u16-at .ensures) (c .before .before .before .before .before .before .u16-at2 .ensures) (omega arith) (omega arith) (omega arith) (omega arith) v) (omega arith)
+
+returns-8 : tie.Need-returns-8
+returns-8 c =
+    let v = sym (c .before .roads-ok .ensures) ∙ not-false _ (c .if5 .left) in
+    sound _ (body (c .before .before .before .before .before .before .before .before)) _ _ (c .before .before .before .before .before .before .before .u16-at .ensures) (c .before .before .before .before .before .before .u16-at2 .ensures) (right _ (body (c .before .before .before .before .before .before .before .before)) _ _ (c .before .before .before .before .before .before .before .u16-at .ensures) (c .before .before .before .before .before .before .u16-at2 .ensures) (omega arith) (omega arith) (omega arith) (omega arith) v)
+
+pub read-spec : {M : Type 1} → statement M
+read-spec =
+    tie.close
+    (tie.spec
+    open-requires
+    enum-told
+    enum-known-o
+    enum-known-o-2
+    enum-told-2
+    returns
+    returns-2
+    u16-at-requires
+    u16-at-requires-2
+    returns-3
+    returns-4
+    returns-5
+    cast-count
+    mul-if4
+    add-if4
+    returns-6
+    roads-ok-requires
+    returns-7
+    returns-8)

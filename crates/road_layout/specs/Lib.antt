@@ -1,0 +1,3 @@
+pub mod Road
+pub mod Layout
+pub mod Facts

@@ -1,0 +1,50 @@
+ghost use mathlib.Core.Path.{_≡_};
+ghost use Prim.Native.Nat.{ℕ, _<_, min};
+ghost use lib.ListN.{length, replicate};
+ghost use Rattle.tournament.specs.Tournament.{top, putLeaf};
+
+// The lesser of two words.
+pub fn lesser(a: u64, b: u64) -> u64
+    ensures { λ r. ⌜ r ≡ min a b ⌝ }
+{
+    if a <= b { a } else { b }
+}
+
+// Makes every word x.
+pub fn clear(tree: &mut [u64], x: u64)
+    requires { ⌜ length (now tree) ≡ 2048 ⌝ }
+    ensures { λ _. ⌜ now (tree .exit) ≡ replicate 2048 x ⌝ }
+{
+    let mut i: usize = 0;
+    while i < 2048 {
+        tree[i] = x;
+        i += 1;
+    }
+}
+
+// Stores x at leaf v, and makes each word above it the lesser of its two again.
+pub fn put(tree: &mut [u64], v: usize, x: u64)
+    requires { ⌜ (length (now tree) ≡ 2048) × (v < 1024) ⌝ }
+    ensures { λ _. ⌜ now (tree .exit) ≡ putLeaf (now (tree .entry)) v x ⌝ }
+{
+    let mut i = 1024 + v;
+    let mut word = x;
+    tree[i] = word;
+    let mut k: usize = 0;
+    while k < 10 {
+        let p = i / 2;
+        let beside = 4 * p + 1 - i;
+        word = lesser(word, tree[beside]);
+        tree[p] = word;
+        i = p;
+        k += 1;
+    }
+}
+
+// The top word.
+pub fn least(tree: &[u64]) -> u64
+    requires { ⌜ length (now tree) ≡ 2048 ⌝ }
+    ensures { λ r. ⌜ r ≡ top (now (tree .entry)) ⌝ }
+{
+    tree[1]
+}
