@@ -1,0 +1,130 @@
+// Reads a road book from standard input, and writes for each junction its greatest distance to any junction and the sum of its distances to all.
+use book::Junction;
+use libc::STDOUT_FILENO;
+use road_layout::RoadBook;
+ghost use mathlib.Core.Path.{_≡_};
+ghost use Prim.Native.Nat.{ℕ, _≤_, _<_, max};
+ghost use lib.ListN.{length};
+ghost use Rattle.road_layout.specs.Road.{junctions};
+ghost use Rattle.road_layout.specs.Layout.{layoutRefusal};
+ghost use Rattle.road.specs.Adjacency.{links, Adjacency};
+ghost use Rattle.eccentricity.specs.Rows.{furthestOf, totalOf};
+
+fn wide(x: u32) -> u64
+    ensures { λ r. ⌜ (r ≡ x) × (r < 4294967296) ⌝ }
+{
+    x as u64
+}
+
+fn greater(a: u64, b: u64) -> u64
+    ensures { λ r. ⌜ r ≡ max a b ⌝ }
+{
+    if a <= b { b } else { a }
+}
+
+// The greatest of the first n distances.
+fn furthest(ds: &[u32], n: usize) -> u64
+    requires { ⌜ n ≤ length (now ds) ⌝ }
+    ensures { λ r. ⌜ r ≡ furthestOf (now (ds .entry)) n ⌝ }
+{
+    let mut most: u64 = 0;
+    let mut v: usize = 0;
+    while v < n {
+        most = greater(most, wide(ds[v]));
+        v += 1;
+    }
+    most
+}
+
+// The sum of the first n distances.
+fn total(ds: &[u32], n: usize) -> u64
+    requires { ⌜ (n ≤ length (now ds)) × (n ≤ 1024) ⌝ }
+    ensures { λ r. ⌜ r ≡ totalOf (now (ds .entry)) n ⌝ }
+{
+    let mut sum: u64 = 0;
+    let mut v: usize = 0;
+    while v < n {
+        sum += wide(ds[v]);
+        v += 1;
+    }
+    sum
+}
+
+// Writes junction u's row.
+fn row(b: &[u8], head: &[u16], next: &[u16], to: &[u16], cost: &[u16], n: u16, u: u16)
+    requires { ⌜ Adjacency (now b) (links (now head) (now next) (now to) (now cost)) × (n ≡ junctions (now b)) × (u < n) ⌝ }
+{
+    let mut ds = [0u32; 1024];
+    let mut done = [false; 1024];
+    let mut queue = [0u64; 2048];
+    road::walk::distances(
+        b,
+        head,
+        next,
+        to,
+        cost,
+        &mut ds,
+        &mut done,
+        &mut queue,
+        Junction { number: u },
+    );
+    io::print_decimal(STDOUT_FILENO, u as u64);
+    io::write_all(STDOUT_FILENO, b" ");
+    io::print_decimal(STDOUT_FILENO, furthest(&ds, n as usize));
+    io::write_all(STDOUT_FILENO, b" ");
+    io::print_decimal(STDOUT_FILENO, total(&ds, n as usize));
+    io::write_all(STDOUT_FILENO, b"\n");
+}
+
+// Writes a row for each junction, in order.
+fn rows(b: &[u8], n: u16)
+    requires { ⌜ (layoutRefusal (now b) ≡ 0) × (n ≡ junctions (now b)) ⌝ }
+{
+    let mut head = [0u16; 1024];
+    let mut next = [0u16; 8193];
+    let mut to = [0u16; 8193];
+    let mut cost = [0u16; 8193];
+    road::adjacency::fill(b, &mut head, &mut next, &mut to, &mut cost);
+    io::write_all(STDOUT_FILENO, b"junction furthest total\n");
+    all_rows(b, &head, &next, &to, &cost, n);
+}
+
+fn all_rows(b: &[u8], head: &[u16], next: &[u16], to: &[u16], cost: &[u16], n: u16)
+    requires { ⌜ Adjacency (now b) (links (now head) (now next) (now to) (now cost)) × (n ≡ junctions (now b)) ⌝ }
+{
+    let mut u: u16 = 0;
+    while u < n {
+        row(b, head, next, to, cost, n, u);
+        u += 1;
+    }
+}
+
+// Writes `refused` and the number.
+fn refused(why: u8) {
+    io::write_all(STDOUT_FILENO, b"refused ");
+    io::print_decimal(STDOUT_FILENO, why as u64);
+    io::write_all(STDOUT_FILENO, b"\n");
+}
+
+// Writes what a road book's bytes lead to.
+fn report(b: &[u8]) {
+    let read = road::read(b);
+    let RoadBook::Sound {
+        junctions,
+        roads: _,
+    } = read
+    else {
+        let RoadBook::Refused(why) = read else {
+            return;
+        };
+        refused(why);
+        return;
+    };
+    rows(b, junctions);
+}
+
+fn main() {
+    let mut input = io::large_buffer();
+    let n = io::read_full(0, &mut input);
+    report(&input[..n]);
+}
