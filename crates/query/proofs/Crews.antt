@@ -1,0 +1,55 @@
+-- Whether the crews stand inside, one crew at a time, as a loop counts: `count - k` crews are left. Assumes nothing.
+use mathlib.Core.Path.{_≡_, refl, sym, _∙_}
+use mathlib.Core.Bool.{true, false}
+use mathlib.Core.List.{List}
+use Prim.Native.Nat.{ℕ, zero, suc, _+_, _-_, _*_, _≤_, _<_}
+use native.Mathlib.Decide.{ℕ-discrete}
+use native.Mathlib.Omega.{arith}
+use borrow.Author.Tests.{lt-ltb, le-ltb}
+use lib.Dec.{T, ltb, ltb→lt, lt→ltb}
+use Rattle.book.specs.Bytes.{u16At}
+use Rattle.book.proofs.Choosing.{and-left, and-right, and-both}
+use Rattle.query.specs.Query.{crewAt, crewsFrom, inside}
+
+-- what stands at a crew's place is its junction
+pub read-crew : (b : List ℕ) (i x : ℕ) → x ≡ u16At b (12 + 2 * i) → x ≡ crewAt b i
+unfolding crewAt
+read-crew b i x e = e
+
+module _ (b : List ℕ) (n count k x : ℕ) (read : x ≡ u16At b (12 + 2 * k)) where
+  pub goes-on : k < count → x < n → inside n (crewsFrom b (count - (k + 1)) (k + 1)) ≡ inside n (crewsFrom b (count - k) k)
+  unfolding crewsFrom inside
+  goes-on p h =
+      let s : count - k ≡ suc (count - (k + 1)) = omega arith in
+      simp (s, ← read-crew b k x read, lt-ltb x n h)
+
+  pub stops : k < count → n ≤ x → inside n (crewsFrom b (count - k) k) ≡ false
+  unfolding crewsFrom inside
+  stops p h =
+      let s : count - k ≡ suc (count - (k + 1)) = omega arith in
+      simp (s, ← read-crew b k x read, le-ltb x n h)
+
+pub ends : (b : List ℕ) (n count k : ℕ) → count ≤ k → inside n (crewsFrom b (count - k) k) ≡ true
+unfolding crewsFrom inside
+ends b n count k p =
+    let s : count - k ≡ 0 = omega arith in
+    simp s
+
+-- all stand inside exactly if each does
+module _ (b : List ℕ) (n : ℕ) where
+  pub each-inside : (left k : ℕ) → T (inside n (crewsFrom b left k)) → (i : ℕ) → k ≤ i → i < k + left → crewAt b i < n
+  unfolding crewsFrom inside
+  each-inside zero k t i p q = absurd (omega arith)
+  each-inside (suc left) k t i p q =
+      go (ℕ-discrete i k) (λ r. each-inside left (k + 1) (and-right (ltb (crewAt b k) n) (inside n (crewsFrom b left (k + 1))) t) i r (omega arith))
+    where
+      go : Dec (i ≡ k) → (k + 1 ≤ i → crewAt b i < n) → crewAt b i < n
+      go (yes e) rest = rw e (ltb→lt (crewAt b k) n (and-left (ltb (crewAt b k) n) (inside n (crewsFrom b left (k + 1))) t))
+      go (no e) rest = rest (omega arith)
+
+  pub inside-all : (left k : ℕ) → ((i : ℕ) → k ≤ i → i < k + left → crewAt b i < n) → T (inside n (crewsFrom b left k))
+  unfolding crewsFrom inside
+  inside-all zero k f = tt
+  inside-all (suc left) k f =
+      and-both (ltb (crewAt b k) n) (inside n (crewsFrom b left (k + 1))) (lt→ltb (crewAt b k) n (f k (omega arith) (omega arith)))
+      (inside-all left (k + 1) (λ i p q. f i (omega arith) (omega arith)))

@@ -1,0 +1,7 @@
+pub mod Rising
+pub mod Refusing
+pub mod Listing
+pub mod YardLayout
+pub mod Answering
+pub mod Examples
+pub mod Turns

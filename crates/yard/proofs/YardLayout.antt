@@ -1,0 +1,220 @@
+-- What a yard book that passes is, and what its refusals say: the theorems of the yard book. Assumes nothing.
+use mathlib.Core.Path.{_≡_, refl, sym, _∙_}
+use mathlib.Core.Logic.{_⊎_, inl, inr, _↔_}
+use mathlib.Core.Bool.{not}
+use mathlib.Core.List.{List}
+use Prim.Native.Nat.{ℕ, _+_, _*_, _-_, _≤_, _<_}
+use native.Mathlib.Nat.{eq-zero-or-pos}
+use native.Mathlib.Omega.{arith}
+use borrow.Author.Tests.{le-leb, eq-eqb}
+use lib.ListN.{length, getD}
+use lib.Dec.{T, not-T, leb→le, eqb→eq, not-T}
+use Rattle.book.specs.Bytes.{u16At}
+use Rattle.book.specs.Lists.{Distinct}
+use Rattle.book.proofs.Choosing.{lt-or-ge, passes, fails, passed, true-T, refuse-case, first-earlier, first-later, first-none, first-case}
+use Rattle.book.proofs.Opening.{opens, open-zero, open-most}
+use Rattle.yard.specs.Yards.{yardCount, yardAt, yardsOf, rises, inside, bodyRefusal, yardRefusal, yardRefusalIn, YardLayout, RisingYards}
+use Rattle.yard.proofs.Listing.{from-length, from-at, Rises, rises-facts, facts-rises, rises-distinct, inside-all, all-inside}
+
+yards-length : (b : List ℕ) → length (yardsOf b) ≡ yardCount b
+unfolding yardsOf
+yards-length b = from-length b (yardCount b) 0
+
+yards-at : (b : List ℕ) (i : ℕ) → i < yardCount b → getD (yardsOf b) i 0 ≡ yardAt b i
+unfolding yardsOf
+yards-at b i h =
+    let z : 0 + i ≡ i = omega arith in
+    rw z at (from-at b (yardCount b) 0 i h)
+
+-- what the tests after the opening say
+record Body (b : List ℕ) : Type 0 where
+  pub least : 1 ≤ yardCount b
+  pub most : yardCount b ≤ 256
+  pub sized : length b ≡ 7 + 2 * yardCount b
+  pub rise : T (rises 0 (yardsOf b))
+
+body-facts : (b : List ℕ) → bodyRefusal b ≡ 0 → Body b
+unfolding bodyRefusal
+body-facts b e =
+    let p = passed _ _ _ e (omega arith) in
+    let q = passed _ _ _ (p .1) (omega arith) in
+    let r = passed _ _ _ (q .1) (omega arith) in
+    let s = passed _ _ _ (r .1) (omega arith) in
+    record { least = leb→le _ _ (p .0); most = leb→le _ _ (q .0); sized = eqb→eq _ _ (r .0); rise = s .0 }
+
+facts-body : (b : List ℕ) → Body b → bodyRefusal b ≡ 0
+unfolding bodyRefusal
+facts-body b f =
+    passes _ _ _ (true-T (le-leb _ _ (f .least)))
+    ∙ passes _ _ _ (true-T (le-leb _ _ (f .most)))
+    ∙ passes _ _ _ (true-T (eq-eqb _ _ (f .sized)))
+    ∙ passes _ _ _ (f .rise)
+
+-- the count that the header has
+pub read-count : (b : List ℕ) → u16At b 5 ≡ yardCount b
+unfolding yardCount
+read-count b = refl
+
+-- the list of a passing book's yards
+pub rising-yards : (b : List ℕ) → yardRefusal b ≡ 0 → RisingYards b (yardsOf b)
+unfolding yardRefusal
+rising-yards b e =
+    let f = body-facts b (first-none _ _ e .1) in
+    let r = rises-facts 0 (yardsOf b) (f .rise) in
+    record {
+      counted = yards-length b;
+      each = λ i h. yards-at b i (omega (arith, yards-length b));
+      below = r .below;
+      rising = r .rising;
+      once = λ i j h k q. same r i j h k q (lt-or-ge i j) (lt-or-ge j i);
+    }
+  where
+    same : Rises 0 (yardsOf b) → (i j : ℕ) → i < length (yardsOf b) → j < length (yardsOf b) → getD (yardsOf b) i 0 ≡ getD (yardsOf b) j 0
+        → (i < j) ⊎ (j ≤ i) → (j < i) ⊎ (i ≤ j) → i ≡ j
+    same r i j h k q (inl p) s = absurd (omega (arith, r .rising i j p k))
+    same r i j h k q (inr p) (inl s) = absurd (omega (arith, r .rising j i s h))
+    same r i j h k q (inr p) (inr s) = omega arith
+
+-- each yard stands once in the list
+pub distinct-yards : (b : List ℕ) → yardRefusal b ≡ 0 → Distinct (yardsOf b)
+unfolding yardRefusal
+distinct-yards b e = rises-distinct 0 (yardsOf b) (body-facts b (first-none _ _ e .1) .rise)
+
+-- a book that no test turns back is laid out as 01 says
+pub layout : (b : List ℕ) → yardRefusal b ≡ 0 → YardLayout b
+unfolding yardRefusal
+layout b e =
+    let f = body-facts b (first-none _ _ e .1) in
+    let r = rises-facts 0 (yardsOf b) (f .rise) in
+    record {
+      opening = opens b 2 (first-none _ _ e .0);
+      least = f .least;
+      most = f .most;
+      sized = f .sized;
+      below = λ i h. omega (arith, yards-at b i h, r .below i (omega (arith, yards-length b)));
+      rising = λ i h. omega (arith, yards-at b i (omega arith), yards-at b (i + 1) h, r .rising i (i + 1) (omega arith) (omega (arith, yards-length b)));
+    }
+
+-- and a book that is so laid out is not turned back
+pub layout-zero : (b : List ℕ) → YardLayout b → yardRefusal b ≡ 0
+unfolding yardRefusal
+layout-zero b y =
+    first-later _ _ (open-zero b 2 (y .opening))
+    ∙ facts-body b (record {
+      least = y .least;
+      most = y .most;
+      sized = y .sized;
+      rise = facts-rises 0 (yardsOf b) (λ h. omega arith)
+          (λ i h. omega (arith, yards-length b, yards-at b i (omega (arith, yards-length b)), y .below i (omega (arith, yards-length b))))
+          (λ i h. omega (arith, yards-length b, yards-at b i (omega (arith, yards-length b)), yards-at b (i + 1) (omega (arith, yards-length b)), y .rising i (omega (arith, yards-length b))));
+    })
+
+-- no test fails if and only if the book is laid out as 01 says
+pub yard-layout : (b : List ℕ) → yardRefusal b ≡ 0 ↔ YardLayout b
+yard-layout b = (layout b, layout-zero b)
+
+-- where a passing book has yard number i
+pub yard-ends : (b : List ℕ) (i : ℕ) → yardRefusal b ≡ 0 → i < yardCount b → 7 + 2 * i + 2 ≤ length b
+yard-ends b i e h = omega (arith, layout b e .sized)
+
+-- it fits a u16's count
+pub count-small : (b : List ℕ) → yardRefusal b ≡ 0 → (1 ≤ yardCount b) × (yardCount b ≤ 256)
+count-small b e = (layout b e .least, layout b e .most)
+
+pub read-yard : (b : List ℕ) (i x : ℕ) → x ≡ u16At b (7 + 2 * i) → i < yardCount b → x ≡ getD (yardsOf b) i 0
+unfolding yardAt
+read-yard b i x e h = e ∙ sym (yards-at b i h)
+
+-- the yard book's own tests are 1 to 5
+pub yard-most : (b : List ℕ) → yardRefusal b ≤ 5
+unfolding yardRefusal bodyRefusal
+yard-most b =
+    first-case (λ n. n ≤ 5) _ (λ _. omega (arith, open-most b 2)) (λ _.
+    refuse-case (λ n. n ≤ 5) _ (λ _. omega arith) (λ _.
+    refuse-case (λ n. n ≤ 5) _ (λ _. omega arith) (λ _.
+    refuse-case (λ n. n ≤ 5) _ (λ _. omega arith) (λ _.
+    refuse-case (λ n. n ≤ 5) _ (λ _. omega arith) (λ _. omega arith)))))
+
+-- the last yard is a junction exactly if every yard is one
+pub last-inside : (b : List ℕ) (n : ℕ) → yardRefusal b ≡ 0 → getD (yardsOf b) (yardCount b - 1) 0 < n → T (inside n (yardsOf b))
+last-inside b n e h =
+    let r = rising-yards b e in
+    let l = layout b e in
+    all-inside n (yardsOf b) (λ i p. below r l i p (lt-or-ge i (yardCount b - 1)))
+  where
+    below : RisingYards b (yardsOf b) → YardLayout b → (i : ℕ) → i < length (yardsOf b) → (i < yardCount b - 1) ⊎ (yardCount b - 1 ≤ i)
+        → getD (yardsOf b) i 0 < n
+    below r l i p (inl s) = omega (arith, r .rising i (yardCount b - 1) s (omega (arith, yards-length b, l .least)))
+    below r l i p (inr s) =
+        let z : i ≡ yardCount b - 1 = omega (arith, yards-length b) in
+        rw z h
+
+pub last-outside : (b : List ℕ) (n : ℕ) → yardRefusal b ≡ 0 → n ≤ getD (yardsOf b) (yardCount b - 1) 0 → T (not (inside n (yardsOf b)))
+last-outside b n e h =
+    not-T (inside n (yardsOf b)) (λ t. omega (arith, inside-all n (yardsOf b) t (yardCount b - 1) (omega (arith, yards-length b, layout b e .least))))
+
+module _ (b : List ℕ) (n : ℕ) where
+  -- the answers beside a road book
+  pub own-tests : 1 ≤ yardRefusal b → yardRefusalIn b n ≡ yardRefusal b
+  unfolding yardRefusalIn
+  own-tests h = first-earlier _ _ h
+
+  pub outside : yardRefusal b ≡ 0 → T (not (inside n (yardsOf b))) → yardRefusalIn b n ≡ 8
+  unfolding yardRefusalIn
+  outside e t = first-later _ _ e ∙ fails _ _ _ t
+
+  pub within : yardRefusal b ≡ 0 → T (inside n (yardsOf b)) → yardRefusalIn b n ≡ 0
+  unfolding yardRefusalIn
+  within e t = first-later _ _ e ∙ passes _ _ _ t
+
+-- a book that passes beside a road book passes its own tests, and its yards are junctions
+pub passes-alone : (b : List ℕ) (n : ℕ) → yardRefusalIn b n ≡ 0 → yardRefusal b ≡ 0
+unfolding yardRefusalIn
+passes-alone b n e = first-none _ _ e .0
+
+pub yards-inside : (b : List ℕ) (n : ℕ) → yardRefusalIn b n ≡ 0 → (i : ℕ) → i < length (yardsOf b) → getD (yardsOf b) i 0 < n
+unfolding yardRefusalIn
+yards-inside b n e = inside-all n (yardsOf b) (passed _ _ _ (first-none _ _ e .1) (omega arith) .0)
+
+-- beside a road book no test fails if and only if the book is laid out as 01 says and every yard is a junction
+pub yard-layout-in : (b : List ℕ) (n : ℕ) → yardRefusalIn b n ≡ 0 ↔ YardLayout b × ((i : ℕ) → i < yardCount b → yardAt b i < n)
+unfolding yardRefusalIn
+yard-layout-in b n = (to, from)
+  where
+    to : yardRefusalIn b n ≡ 0 → YardLayout b × ((i : ℕ) → i < yardCount b → yardAt b i < n)
+    to e =
+        let p = first-none _ _ e in
+        let t = passed _ _ _ (p .1) (omega arith) .0 in
+        (layout b (p .0), λ i h. omega (arith, yards-at b i h, inside-all n (yardsOf b) t i (omega (arith, yards-length b))))
+
+    from : YardLayout b × ((i : ℕ) → i < yardCount b → yardAt b i < n) → yardRefusalIn b n ≡ 0
+    from y =
+        within b n (layout-zero b (y .0))
+        (all-inside n (yardsOf b) (λ i h. omega (arith, yards-at b i (omega (arith, yards-length b)), y .1 i (omega (arith, yards-length b)))))
+
+-- 8 if and only if the book passes its own tests and some yard is no junction of the road book
+pub yard-eight : (b : List ℕ) (n : ℕ) → yardRefusalIn b n ≡ 8 ↔ YardLayout b × ((i : ℕ) × (i < yardCount b) × (n ≤ yardAt b i))
+yard-eight b n = (to, from)
+  where
+    some : (e : yardRefusal b ≡ 0) → yardRefusalIn b n ≡ 8
+        → (getD (yardsOf b) (yardCount b - 1) 0 < n) ⊎ (n ≤ getD (yardsOf b) (yardCount b - 1) 0)
+        → (i : ℕ) × (i < yardCount b) × (n ≤ yardAt b i)
+    some e q (inl h) = absurd (omega (arith, within b n e (last-inside b n e h)))
+    some e q (inr h) =
+        let l : yardCount b - 1 < yardCount b = omega (arith, layout b e .least) in
+        (yardCount b - 1, l, omega (arith, yards-at b (yardCount b - 1) l))
+
+    passing : yardRefusalIn b n ≡ 8 → (yardRefusal b ≡ 0) ⊎ (1 ≤ yardRefusal b) → yardRefusal b ≡ 0
+    passing q (inl e) = e
+    passing q (inr h) = absurd (omega (arith, own-tests b n h, yard-most b))
+
+    to : yardRefusalIn b n ≡ 8 → YardLayout b × ((i : ℕ) × (i < yardCount b) × (n ≤ yardAt b i))
+    to q =
+        let e = passing q (eq-zero-or-pos (yardRefusal b)) in
+        (layout b e, some e q (lt-or-ge (getD (yardsOf b) (yardCount b - 1) 0) n))
+
+    from : YardLayout b × ((i : ℕ) × (i < yardCount b) × (n ≤ yardAt b i)) → yardRefusalIn b n ≡ 8
+    from y =
+        let i = y .1 .0 in
+        outside b n (layout-zero b (y .0))
+        (not-T (inside n (yardsOf b)) (λ t. omega (arith, y .1 .1, y .1 .2, yards-at b i (y .1 .1), inside-all n (yardsOf b) t i (omega (arith, yards-length b, y .1 .1)))))

@@ -1,0 +1,102 @@
+use mathlib.Core.Path.{_≡_, sym, _∙_}
+use borrow.Author.Tests.{not-true, not-false}
+use Rattle.book.specs.Open.{openRefusal}
+use Rattle.book.proofs.Opening.{opened-body, opened-refused, opens}
+use Rattle.yard.proofs.Refusing.{unopened, none, many, unsized, unordered, sound}
+use borrow.Author.Needs.{needs}
+use Rattle.yard.proofs.refusal.Statement.{statement}
+use Rattle.yard.proofs.refusal.Tie as tie
+
+-- the book has opened
+body : (c : tie.After-enum-told) → openRefusal (c .before .before .before .before .args .b .now) 2 ≡ 0
+body c = opened-body _ (sym (c .before .before .«open» .ensures) ∙ c .enum-told .given .1)
+
+open-requires : tie.Need-open-requires
+open-requires c κs = search needs
+
+enum-told : tie.Need-enum-told
+enum-told c = search needs
+
+enum-known-o : tie.Need-enum-known-o
+enum-known-o c = search needs
+
+enum-known-o-2 : tie.Need-enum-known-o-2
+enum-known-o-2 c = search needs
+
+enum-told-2 : tie.Need-enum-told-2
+enum-told-2 c = search needs
+
+returns : tie.Need-returns
+returns c = search needs
+
+returns-2 : tie.Need-returns-2
+returns-2 c =
+    let o = c .before .before .before .before in
+    let q = opened-refused _ _ (sym (o .before .before .«open» .ensures) ∙ o .o .given .1 ∙ c .before .o2 .given .1) in
+    sym (unopened _ _ (q .0) (q .1))
+
+u16-at-requires : tie.Need-u16-at-requires
+u16-at-requires c κs = opens _ _ (body c) .headed
+
+cast-count : tie.Need-cast-count
+cast-count c = search needs
+
+returns-3 : tie.Need-returns-3
+returns-3 c =
+    let w = c .before in
+    sym (none _ (body (w .before)) _ (w .u16-at .ensures) (c .if1 .taken))
+
+returns-4 : tie.Need-returns-4
+returns-4 c =
+    let w = c .before .before in
+    sym (many _ (body (w .before)) _ (w .u16-at .ensures) (c .before .if1 .left) (c .if2 .taken))
+
+mul-if3 : tie.Need-mul-if3
+mul-if3 c = search needs
+
+add-if3 : tie.Need-add-if3
+add-if3 c = search needs
+
+returns-5 : tie.Need-returns-5
+returns-5 c =
+    let w = c .before .before .before in
+    sym (unsized _ (body (w .before)) _ (w .u16-at .ensures) (c .before .before .if1 .left) (c .before .if2 .left) (c .if3 .taken))
+
+yards-rise-requires : tie.Need-yards-rise-requires
+yards-rise-requires c κs = search needs
+
+returns-6 : tie.Need-returns-6
+returns-6 c =
+    let v = c .before .before in
+    let w = v .before .before .before in
+    sym (unordered _ (body (w .before)) _ (w .u16-at .ensures) (v .before .before .if1 .left) (v .before .if2 .left) (v .if3 .left)
+    (sym (c .before .yards-rise .ensures) ∙ not-true _ (c .if4 .taken)))
+
+returns-7 : tie.Need-returns-7
+returns-7 c =
+    let v = c .before .before in
+    let w = v .before .before .before in
+    sym (sound _ (body (w .before)) _ (w .u16-at .ensures) (v .before .before .if1 .left) (v .before .if2 .left) (v .if3 .left)
+    (sym (c .before .yards-rise .ensures) ∙ not-false _ (c .if4 .left)))
+
+pub refusal-spec : {M : Type 1} → statement M
+refusal-spec =
+    tie.close
+    (tie.spec
+    open-requires
+    enum-told
+    enum-known-o
+    enum-known-o-2
+    enum-told-2
+    returns
+    returns-2
+    u16-at-requires
+    cast-count
+    returns-3
+    returns-4
+    mul-if3
+    add-if3
+    returns-5
+    yards-rise-requires
+    returns-6
+    returns-7)

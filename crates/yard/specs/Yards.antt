@@ -1,0 +1,99 @@
+-- The yard book: "yards u16 (1 to 256), then junctions u16, below 1,024, rising strictly." Assumes nothing: these are definitions.
+use mathlib.Core.Path.{_≡_}
+use mathlib.Core.Bool.{Bool, true, _&&_}
+use mathlib.Core.List.{List, [], _∷_}
+use Prim.Native.Nat.{ℕ, zero, suc, _+_, _*_, _≤_, _<_}
+use lib.ListN.{length, getD}
+use lib.Dec.{leb, ltb, eqb}
+use Rattle.book.specs.Choose.{refuse, firstOf}
+use Rattle.book.specs.Bytes.{u16At}
+use Rattle.book.specs.Open.{Opens, openRefusal}
+use Rattle.yard.specs.declared.YardBook.{YardBook}
+use Rattle.yard.specs.declared.YardBook.the-variants.{Yards, Refused}
+
+-- "yards u16"
+unfoldable pub yardCount : List ℕ → ℕ
+yardCount b = u16At b 5
+
+-- "then junctions u16": yard number i of the book, counted from 0
+unfoldable pub yardAt : List ℕ → ℕ → ℕ
+yardAt b i = u16At b (7 + 2 * i)
+
+-- n yards, from yard number i on
+unfoldable pub yardsFrom : List ℕ → ℕ → ℕ → List ℕ
+yardsFrom b zero i = []
+yardsFrom b (suc n) i = yardAt b i ∷ yardsFrom b n (suc i)
+
+-- the book's yards, in its order
+unfoldable pub yardsOf : List ℕ → List ℕ
+yardsOf b = yardsFrom b (yardCount b) 0
+
+-- "below 1,024, rising strictly": every yard is below 1,024 and above the one before; `low` is the least number that the first may bear
+unfoldable pub rises : ℕ → List ℕ → Bool
+rises low [] = true
+rises low (y ∷ ys) = leb low y && (ltb y 1024 && rises (suc y) ys)
+
+-- every yard is a junction of a road book with so many junctions
+unfoldable pub inside : ℕ → List ℕ → Bool
+inside junctions [] = true
+inside junctions (y ∷ ys) = ltb y junctions && inside junctions ys
+
+-- the tests after the opening
+unfoldable pub bodyRefusal : List ℕ → ℕ
+bodyRefusal b =
+    -- 3: "a .. yard .. count is outside its limits"
+    refuse (leb 1 (yardCount b)) 3
+    (refuse (leb (yardCount b) 256) 3
+    -- 4: "A record is incomplete, or bytes follow the last one."
+    (refuse (eqb (length b) (7 + 2 * yardCount b)) 4
+    -- 5: "A record's value is outside its range or order."
+    (refuse (rises 0 (yardsOf b)) 5 0)))
+
+-- the number of the first test that turns the book back, or 0
+unfoldable pub yardRefusal : List ℕ → ℕ
+yardRefusal b =
+    -- 1, 2 and 3: the opening, with a header of two bytes
+    firstOf (openRefusal b 2)
+    (bodyRefusal b)
+
+-- the same beside a road book with so many junctions: "a test between books going with the later one"
+unfoldable pub yardRefusalIn : List ℕ → ℕ → ℕ
+yardRefusalIn b junctions =
+    firstOf (yardRefusal b)
+    -- 8: "a yard isn't a junction of the road book"
+    (refuse (inside junctions (yardsOf b)) 8 0)
+
+-- the answer for a refusal's number and a yard count: 0 gives the count
+unfoldable pub yardBook : ℕ → ℕ → YardBook
+yardBook zero count = Yards count
+yardBook (suc n) count = Refused (suc n)
+
+-- the number of an answer: "The number of an accepted call is 0."
+unfoldable pub numberOf : YardBook → ℕ
+numberOf (Yards count) = 0
+numberOf (Refused why) = why
+
+-- a yard book that no test turns back, sentence by sentence
+pub record YardLayout (b : List ℕ) : Type 0 where
+  -- "a 4-byte count of the bytes after it, a version byte (1), then fields", two bytes of header among them
+  pub opening : Opens b 2
+  -- "yards u16 (1 to 256)"
+  pub least : 1 ≤ yardCount b
+  pub most : yardCount b ≤ 256
+  -- "then junctions u16": two bytes for each yard, and none after them
+  pub sized : length b ≡ 7 + 2 * yardCount b
+  -- "below 1,024"
+  pub below : (i : ℕ) → i < yardCount b → yardAt b i < 1024
+  -- "rising strictly"
+  pub rising : (i : ℕ) → i + 1 < yardCount b → yardAt b i < yardAt b (i + 1)
+
+-- what the list of yards of such a book is
+pub record RisingYards (b : List ℕ) (ys : List ℕ) : Type 0 where
+  -- as many as the header counts
+  pub counted : length ys ≡ yardCount b
+  -- each where the book has it
+  pub each : (i : ℕ) → i < length ys → getD ys i 0 ≡ yardAt b i
+  pub below : (i : ℕ) → i < length ys → getD ys i 0 < 1024
+  pub rising : (i j : ℕ) → i < j → j < length ys → getD ys i 0 < getD ys j 0
+  -- no yard stands at two places
+  pub once : (i j : ℕ) → i < length ys → j < length ys → getD ys i 0 ≡ getD ys j 0 → i ≡ j

@@ -1,0 +1,107 @@
+// The yard book: its reader and its yards.
+use book::Junction;
+use book::Opened;
+ghost use mathlib.Core.Path.{_≡_};
+ghost use Prim.Native.Nat.{ℕ, _+_, _*_, _≤_, _<_};
+ghost use lib.ListN.{length, getD};
+ghost use Rattle.yard.specs.Yards.{yardCount, yardsFrom, yardsOf, rises, yardRefusal, yardRefusalIn, yardBook, numberOf};
+
+// What reading a yard book finds: how many yards it has, or the number of the test that turns it back.
+pub enum YardBook {
+    Yards(u16),
+    Refused(u8),
+}
+
+// The number of an answer, 0 for a book that is read.
+pub fn number(o: YardBook) -> u8
+    ensures { λ r. ⌜ r ≡ numberOf o ⌝ }
+{
+    match o {
+        YardBook::Yards(_) => 0,
+        YardBook::Refused(why) => why,
+    }
+}
+
+// Whether each of the `count` yards is below 1,024 and above the one before.
+fn yards_rise(b: &[u8], count: usize) -> bool
+    requires { ⌜ 7 + 2 * count ≤ length (now b) ⌝ }
+    ensures { λ r. ⌜ r ≡ rises 0 (yardsFrom (now (b .entry)) count 0) ⌝ }
+{
+    let mut low: u16 = 0;
+    let mut i: usize = 0;
+    while i < count {
+        let y = book::u16_at(b, 7 + 2 * i);
+        if y < low {
+            return false;
+        }
+        if 1024 <= y {
+            return false;
+        }
+        low = y + 1;
+        i += 1;
+    }
+    true
+}
+
+// The number of the first test that turns the book back, or 0.
+fn refusal(b: &[u8]) -> u8
+    ensures { λ r. ⌜ r ≡ yardRefusal (now (b .entry)) ⌝ }
+{
+    let o = book::open(b, 2);
+    let Opened::Body = o else {
+        let Opened::Refused(why) = o else {
+            return 0;
+        };
+        return why;
+    };
+    let count = book::u16_at(b, 5) as usize;
+    if count < 1 {
+        return 3;
+    }
+    if 256 < count {
+        return 3;
+    }
+    if b.len() != 7 + 2 * count {
+        return 4;
+    }
+    if !yards_rise(b, count) {
+        return 5;
+    }
+    0
+}
+
+// Reads a yard book: tests 1 to 5, each over the whole book before the next.
+pub fn read(b: &[u8]) -> YardBook
+    ensures { λ r. ⌜ r ≡ yardBook (yardRefusal (now (b .entry))) (yardCount (now (b .entry))) ⌝ }
+{
+    let why = refusal(b);
+    if why != 0 {
+        return YardBook::Refused(why);
+    }
+    YardBook::Yards(book::u16_at(b, 5))
+}
+
+// Yard number i of a book that is read.
+pub fn yard_at(b: &[u8], i: usize) -> Junction
+    requires { ⌜ (yardRefusal (now b) ≡ 0) × (i < yardCount (now b)) ⌝ }
+    ensures { λ r. ⌜ r .number ≡ getD (yardsOf (now (b .entry))) i 0 ⌝ }
+{
+    Junction {
+        number: book::u16_at(b, 7 + 2 * i),
+    }
+}
+
+// Reads a yard book beside a road book with so many junctions: tests 1 to 5, then 8.
+pub fn read_in(b: &[u8], junctions: u16) -> YardBook
+    ensures { λ r. ⌜ r ≡ yardBook (yardRefusalIn (now (b .entry)) junctions) (yardCount (now (b .entry))) ⌝ }
+{
+    let o = read(b);
+    let YardBook::Yards(count) = o else {
+        return o;
+    };
+    let last = yard_at(b, count as usize - 1);
+    if junctions <= last.number {
+        return YardBook::Refused(8);
+    }
+    YardBook::Yards(count)
+}
