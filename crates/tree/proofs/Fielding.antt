@@ -1,0 +1,53 @@
+-- A region's record in a book of sound layout, and its fields. Assumes nothing.
+use mathlib.Core.Path.{_≡_, refl, sym, ap, _∙_}
+use mathlib.Core.List.{List}
+use Prim.Native.Nat.{ℕ, _+_, _≤_, _<_}
+use native.Mathlib.Omega.{arith}
+use lib.ListN.{length, getD}
+use Rattle.book.specs.Bytes.{u8At, u16At}
+use Rattle.tree_layout.specs.Values.{Region, regionAt}
+use Rattle.tree_layout.specs.Decode.{readRegion, sizeAt, placeOf, landmarkCount, regionCount, decode}
+use Rattle.tree_layout.proofs.Places.{size-least, region-at, record-inside, decode-length}
+use Rattle.tree_layout.proofs.Reading.{region-first, region-after, region-children, region-yards}
+use Rattle.tree.specs.Arrays.{Laid, fieldsOf}
+use Rattle.tree.specs.declared.Fields.{Fields}
+
+module _ (b places : List ℕ) (laid : Laid b places) where
+  -- the regions are as many as their places
+  pub laid-length : length (decode b .regions) ≡ length places
+  laid-length = decode-length b ∙ sym (laid .count)
+
+  -- there are at most 511
+  pub laid-few : length places ≤ 511
+  laid-few = omega (arith, laid .count, laid .layout .regions .1)
+
+  -- the header is whole
+  pub laid-header : 12 ≤ length b
+  laid-header = omega (arith, laid .layout .opens .headed)
+
+  module _ (i : ℕ) (h : i < length places) where
+    counted : i < regionCount b
+    counted = omega (arith, laid .count)
+
+    -- region i is what stands at its place
+    pub laid-region : regionAt (decode b .regions) i ≡ readRegion b (landmarkCount b) (placeOf b i)
+    laid-region = region-at b i counted
+
+    -- its record lies in the book
+    pub laid-inside : placeOf b i + sizeAt b (landmarkCount b) (placeOf b i) ≤ length b
+    laid-inside = record-inside b (laid .layout .filled) i counted
+
+    -- and so do its seven bytes before the landmarks
+    pub laid-room : getD places i 0 + 7 ≤ length b
+    laid-room = omega (arith, laid .held i h, laid-inside, size-least b (landmarkCount b) (placeOf b i))
+
+    pub laid-children : regionAt (decode b .regions) i .children ≡ u8At b (placeOf b i + 4)
+    laid-children = ap (λ (r : Region). r .children) laid-region ∙ region-children b (landmarkCount b) (placeOf b i)
+
+    -- what is read at its place are its fields
+    pub laid-fields : (at first after children yards : ℕ) → at ≡ getD places i 0 → first ≡ u16At b at → after ≡ u16At b (at + 2) → children ≡ u8At b (at + 4) → yards ≡ u16At b (at + 5)
+        → _≡_ {A = Fields} (record { at = at; first = first; after = after; children = children; yards = yards }) (fieldsOf b i)
+    unfolding fieldsOf
+    laid-fields at first after children yards e p q r s =
+        let z : at ≡ placeOf b i = e ∙ laid .held i h in
+        rw (laid-region, region-first b (landmarkCount b) (placeOf b i), region-after b (landmarkCount b) (placeOf b i), region-children b (landmarkCount b) (placeOf b i), region-yards b (landmarkCount b) (placeOf b i), p, q, r, s, z) refl

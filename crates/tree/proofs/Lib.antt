@@ -1,0 +1,17 @@
+pub mod Forest
+pub mod ForestLaws
+pub mod Fielding
+pub mod Descending
+pub mod Recursing
+pub mod Filling
+pub mod Shaping
+pub mod Reaching
+pub mod Theorems
+pub mod Ending
+pub mod Answering
+pub mod Vectors
+pub mod Counts
+pub mod Members
+pub mod Sums
+pub mod Descent
+pub mod Ranges

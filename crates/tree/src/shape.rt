@@ -1,0 +1,114 @@
+// The shape test: a descent of the regions in preorder, remaining levels falling.
+use crate::Fields;
+use crate::regions;
+use tree_layout::Region;
+ghost use mathlib.Core.Path.{_≡_};
+ghost use Prim.Native.Nat.{ℕ, _+_, _≤_, _<_};
+ghost use lib.ListN.{length};
+ghost use Rattle.tree_layout.specs.Decode.{decode};
+ghost use Rattle.tree.specs.Shape.{childFits, siblings, subtree, shaped};
+ghost use Rattle.tree.specs.Arrays.{Laid};
+
+// Whether a child's range lies from low up to high, and it has no more yards than are left.
+fn child_fits(c: Fields, low: u16, high: u16, left: u16) -> bool
+    ensures { λ r. ⌜ r ≡ childFits low high left (c .first) (c .after) (c .yards) ⌝ }
+{
+    if c.first < low {
+        return false;
+    }
+    if high < c.after {
+        return false;
+    }
+    c.yards <= left
+}
+
+// The region after r's subtree, or region 0 if a rule of the shape doesn't hold, with so many levels left.
+pub fn subtree_end(b: &[u8], places: &[usize], levels: usize, r: Region) -> Region
+    requires { ⌜ Laid (now b) (now places) ⌝ }
+    ensures { λ e. ⌜ e .number ≡ subtree (decode (now (b .entry)) .regions) levels (r .number) ⌝ }
+{
+    if levels == 0 {
+        return Region { number: 0 };
+    }
+    if places.len() <= r.number as usize {
+        return Region { number: 0 };
+    }
+    let f = regions::fields(b, places, r);
+    let next = Region {
+        number: r.number + 1,
+    };
+    if f.children != 0 {
+        return siblings_end(
+            b,
+            places,
+            levels - 1,
+            f.children,
+            next,
+            f.first,
+            f.after,
+            f.yards,
+        );
+    }
+    if !tree_leaf::leaf_ok(b, f.at) {
+        return Region { number: 0 };
+    }
+    next
+}
+
+// The region after the subtrees of n siblings, of which r is the first, or region 0: in the range from low to high, with the yards that are left.
+fn siblings_end(
+    b: &[u8],
+    places: &[usize],
+    levels: usize,
+    n: u8,
+    r: Region,
+    low: u16,
+    high: u16,
+    left: u16,
+) -> Region
+    requires { ⌜ Laid (now b) (now places) ⌝ }
+    ensures { λ e. ⌜ e .number ≡ siblings (decode (now (b .entry)) .regions)
+        (subtree (decode (now (b .entry)) .regions) levels) n (r .number) low high left ⌝ }
+{
+    if n == 0 {
+        if left != 0 {
+            return Region { number: 0 };
+        }
+        return r;
+    }
+    if places.len() <= r.number as usize {
+        return Region { number: 0 };
+    }
+    let f = regions::fields(b, places, r);
+    if !child_fits(f, low, high, left) {
+        return Region { number: 0 };
+    }
+    let next = subtree_end(b, places, levels, r);
+    if next.number == 0 {
+        return next;
+    }
+    siblings_end(
+        b,
+        places,
+        levels,
+        n - 1,
+        next,
+        f.after,
+        high,
+        left - f.yards,
+    )
+}
+
+// Test 7: whether the descent from the root takes all regions, over at most 8 levels, and the root holds all yards.
+pub fn keeps_shape(b: &[u8], places: &[usize]) -> bool
+    requires { ⌜ Laid (now b) (now places) ⌝ }
+    ensures { λ r. ⌜ r ≡ shaped (decode (now (b .entry))) ⌝ }
+{
+    let root = Region { number: 0 };
+    let e = subtree_end(b, places, 8, root);
+    if e.number as usize != places.len() {
+        return false;
+    }
+    let f = regions::fields(b, places, root);
+    f.yards == book::u16_at(b, 9)
+}

@@ -1,0 +1,103 @@
+-- What the layout fixes of a decoded tree: landmarks, lists and spans have their numbers and forms. Assumes nothing.
+use mathlib.Core.Path.{_≡_, refl, ap}
+use mathlib.Core.Logic.{_⊎_, inl, inr}
+use mathlib.Core.Bool.{not}
+use mathlib.Core.List.{List, List·Memᴰ as Mem, List·Memᴰ·not-nil as not-nil, List·Memᴰ·cases-cons as cases-cons}
+use Prim.Native.Nat.{ℕ, zero, suc, _+_, _*_, _<_}
+use native.Mathlib.Omega.{arith}
+use lib.ListN.{length}
+use lib.Dec.{T, eqb, eqb→eq}
+use Rattle.book.specs.Bytes.{u8At, u16At, u32At}
+use Rattle.book.proofs.Choosing.{choose-yes, choose-no, T-split}
+use Rattle.book.proofs.Lists.{eq→eqb, ne→neqb, neqb→ne, getD-mem}
+use Rattle.tree_layout.specs.Values.{Mark, Region, Tree, leafMark, innerMark, noRegion, regionAt}
+use Rattle.tree_layout.specs.Decode.{readList, listPart, readLists, readSpans, readMarks, readRegion, readRegions, sizeAt, decode, landmarkCount, regionCount}
+
+-- a region's landmarks are m; a leaf's have lists of its yards' number, an inner region's have none
+pub record Formed (m : ℕ) (r : Region) : Type 0 where
+  pub count : length (r .marks) ≡ m
+  pub lists : r .children ≡ 0 → (k : Mark) → Mem k (r .marks) → (k ≡ leafMark (k .place) (k .list)) × (length (k .list) ≡ r .yards)
+  pub spans : 0 < r .children → (k : Mark) → Mem k (r .marks) → k ≡ innerMark (k .place) (k .least) (k .greatest)
+
+-- every region of the tree is so formed
+abbrev pub FormedTree : Tree → Type 0
+FormedTree t = (r : Region) → Mem r (t .regions) → Formed (t .landmarks) r
+
+pub readList-length : (p : List ℕ) (n at : ℕ) → length (readList p n at) ≡ n
+unfolding readList
+readList-length p zero at = refl
+readList-length p (suc n) at = ap suc (readList-length p n (at + 6))
+
+readLists-length : (b : List ℕ) (yards n at : ℕ) → length (readLists b yards n at) ≡ n
+unfolding readLists
+readLists-length b yards zero at = refl
+readLists-length b yards (suc n) at = ap suc (readLists-length b yards n (at + (2 + 6 * yards)))
+
+readSpans-length : (b : List ℕ) (n at : ℕ) → length (readSpans b n at) ≡ n
+unfolding readSpans
+readSpans-length b zero at = refl
+readSpans-length b (suc n) at = ap suc (readSpans-length b n (at + 10))
+
+readLists-form : (b : List ℕ) (yards n at : ℕ) (k : Mark) → Mem k (readLists b yards n at) → (k ≡ leafMark (k .place) (k .list)) × (length (k .list) ≡ yards)
+unfolding readLists leafMark
+readLists-form b yards zero at k j = absurd (not-nil j)
+readLists-form b yards (suc n) at k j = go (cases-cons j) (λ i. readLists-form b yards n (at + (2 + 6 * yards)) k i)
+  where
+    go : (k ≡ leafMark (u16At b at) (readList (listPart b yards (at + 2)) yards 0)) ⊎ Mem k (readLists b yards n (at + (2 + 6 * yards))) → (Mem k (readLists b yards n (at + (2 + 6 * yards))) → (k ≡ leafMark (k .place) (k .list)) × (length (k .list) ≡ yards))
+        → (k ≡ leafMark (k .place) (k .list)) × (length (k .list) ≡ yards)
+    go (inl e) rec = rw e (refl, readList-length (listPart b yards (at + 2)) yards 0)
+    go (inr i) rec = rec i
+
+readSpans-form : (b : List ℕ) (n at : ℕ) (k : Mark) → Mem k (readSpans b n at) → k ≡ innerMark (k .place) (k .least) (k .greatest)
+unfolding readSpans innerMark
+readSpans-form b zero at k j = absurd (not-nil j)
+readSpans-form b (suc n) at k j = go (cases-cons j) (λ i. readSpans-form b n (at + 10) k i)
+  where
+    go : (k ≡ innerMark (u16At b at) (u32At b (at + 2)) (u32At b (at + 6))) ⊎ Mem k (readSpans b n (at + 10)) → (Mem k (readSpans b n (at + 10)) → k ≡ innerMark (k .place) (k .least) (k .greatest)) → k ≡ innerMark (k .place) (k .least) (k .greatest)
+    go (inl e) rec = rw e refl
+    go (inr i) rec = rec i
+
+-- a region's landmarks, by its kind
+pub marks-lists : (b : List ℕ) (m children yards at : ℕ) → children ≡ 0 → readMarks b m children yards at ≡ readLists b yards m at
+unfolding readMarks
+marks-lists b m children yards at e = choose-yes (eqb children 0) _ _ (eq→eqb children 0 e)
+
+pub marks-spans : (b : List ℕ) (m children yards at : ℕ) → 0 < children → readMarks b m children yards at ≡ readSpans b m at
+unfolding readMarks
+marks-spans b m children yards at h = choose-no (eqb children 0) _ _ (ne→neqb children 0 (omega arith))
+
+region-formed : (b : List ℕ) (m at : ℕ) → Formed m (readRegion b m at)
+unfolding readRegion
+region-formed b m at = record {
+  count = go (T-split (eqb c 0));
+  lists = λ e k j. readLists-form b y m (at + 7) k (rw (marks-lists b m c y (at + 7) e) at j);
+  spans = λ e k j. readSpans-form b m (at + 7) k (rw (marks-spans b m c y (at + 7) e) at j);
+}
+  where
+    c : ℕ
+    c = u8At b (at + 4)
+
+    y : ℕ
+    y = u16At b (at + 5)
+
+    go : T (eqb c 0) ⊎ T (not (eqb c 0)) → length (readMarks b m c y (at + 7)) ≡ m
+    go (inl t) = rw (marks-lists b m c y (at + 7) (eqb→eq c 0 t)) (readLists-length b y m (at + 7))
+    go (inr t) = rw (marks-spans b m c y (at + 7) (omega (arith, neqb→ne c 0 t))) (readSpans-length b m (at + 7))
+
+regions-formed : (b : List ℕ) (m n at : ℕ) (r : Region) → Mem r (readRegions b m n at) → Formed m r
+unfolding readRegions
+regions-formed b m zero at r j = absurd (not-nil j)
+regions-formed b m (suc n) at r j = go (cases-cons j) (λ i. regions-formed b m n (at + sizeAt b m at) r i)
+  where
+    go : (r ≡ readRegion b m at) ⊎ Mem r (readRegions b m n (at + sizeAt b m at)) → (Mem r (readRegions b m n (at + sizeAt b m at)) → Formed m r) → Formed m r
+    go (inl e) rec = rw e (region-formed b m at)
+    go (inr i) rec = rec i
+
+pub decode-formed : (b : List ℕ) → FormedTree (decode b)
+unfolding decode
+decode-formed b = regions-formed b (landmarkCount b) (regionCount b) 12
+
+-- region j stands in the list of regions
+pub at-mem : (rs : List Region) (j : ℕ) → j < length rs → Mem (regionAt rs j) rs
+unfolding regionAt
+at-mem rs j h = getD-mem rs j noRegion h

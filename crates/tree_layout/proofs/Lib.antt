@@ -1,0 +1,16 @@
+pub mod Tests
+pub mod Places
+pub mod Formed
+pub mod Reading
+pub mod Accepting
+pub mod Turns
+pub mod Sizes
+pub mod Marks
+pub mod Refusing
+pub mod Vectors
+pub mod Lasts
+pub mod Leasts
+pub mod Decoding
+pub mod Rising
+pub mod MarkFields
+pub mod Numbered

@@ -1,0 +1,135 @@
+-- What is read at a place, one pair, landmark or field at a time, for code that reads a tree book in place. Assumes nothing.
+use mathlib.Core.Path.{_≡_, refl}
+use mathlib.Core.Bool.{Bool, true, _&&_}
+use mathlib.Core.List.{List, [], _∷_}
+use Prim.Native.Nat.{ℕ, suc, _+_, _-_, _*_, _≤_, _<_}
+use native.Mathlib.Omega.{arith}
+use lib.ListN.{take, drop}
+use Rattle.book.specs.Bytes.{u8At, u16At}
+use Rattle.tree_layout.specs.Values.{Element, leafMark, innerMark}
+use Rattle.tree_layout.specs.Decode.{elementAt, readList, listPart, readLists, readRegion, junctionCount, regionCount, yardCount, landmarkCount}
+use Rattle.tree_layout.specs.Refusal.{all}
+use Rattle.tree_layout.specs.Reading.{numberOf, headerOf}
+use Rattle.tree_layout.specs.declared.TreeBook.the-variants.{Refused}
+use Rattle.tree_layout.proofs.Formed.{marks-lists}
+
+-- ---- a test over a list, one member at a time
+
+pub all-none : {A : Type 0} (f : A → Bool) → all f [] ≡ true
+unfolding all
+all-none f = refl
+
+pub all-next : {A : Type 0} (f : A → Bool) (x : A) (xs : List A) → all f (x ∷ xs) ≡ (f x && all f xs)
+unfolding all
+all-next f x xs = refl
+
+-- ---- pairs
+
+pub element-yard : (p : List ℕ) (at : ℕ) → elementAt p at .yard ≡ u16At p (at + 4)
+unfolding elementAt
+element-yard p at = refl
+
+-- n - k pairs from a place on are the pair there and the others after it
+pub list-turn : (p : List ℕ) (n k at : ℕ) → k < n → readList p (n - k) at ≡ elementAt p at ∷ readList p (n - (k + 1)) (at + 6)
+unfolding readList
+list-turn p n k at h = let s : n - k ≡ suc (n - (k + 1)) = omega arith in rw s refl
+
+pub list-none : (p : List ℕ) (n k at : ℕ) → n ≤ k → readList p (n - k) at ≡ []
+unfolding readList
+list-none p n k at h = let s : n - k ≡ 0 = omega arith in rw s refl
+
+-- the part of the book from a up to e that has n pairs
+pub list-part : (b : List ℕ) (n a e : ℕ) → e ≡ a + 6 * n → take (e - a) (drop a b) ≡ listPart b n a
+unfolding listPart
+list-part b n a e h = let s : e - a ≡ 6 * n = omega arith in rw s refl
+
+-- ---- a leaf's landmarks
+
+pub leaf-list : (place : ℕ) (list : List Element) → leafMark place list .list ≡ list
+unfolding leafMark
+leaf-list place list = refl
+
+pub leaf-place : (place : ℕ) (list : List Element) → leafMark place list .place ≡ place
+unfolding leafMark
+leaf-place place list = refl
+
+pub inner-place : (place least greatest : ℕ) → innerMark place least greatest .place ≡ place
+unfolding innerMark
+inner-place place least greatest = refl
+
+pub inner-least : (place least greatest : ℕ) → innerMark place least greatest .least ≡ least
+unfolding innerMark
+inner-least place least greatest = refl
+
+pub inner-greatest : (place least greatest : ℕ) → innerMark place least greatest .greatest ≡ greatest
+unfolding innerMark
+inner-greatest place least greatest = refl
+
+pub lists-turn : (b : List ℕ) (yards m k at : ℕ) → k < m
+    → readLists b yards (m - k) at ≡ leafMark (u16At b at) (readList (listPart b yards (at + 2)) yards 0) ∷ readLists b yards (m - (k + 1)) (at + (2 + 6 * yards))
+unfolding readLists
+lists-turn b yards m k at h = let s : m - k ≡ suc (m - (k + 1)) = omega arith in rw s refl
+
+pub lists-none : (b : List ℕ) (yards m k at : ℕ) → m ≤ k → readLists b yards (m - k) at ≡ []
+unfolding readLists
+lists-none b yards m k at h = let s : m - k ≡ 0 = omega arith in rw s refl
+
+-- ---- a record's fields
+
+module _ (b : List ℕ) (m at : ℕ) where
+  pub region-first : readRegion b m at .first ≡ u16At b at
+  unfolding readRegion
+  region-first = refl
+
+  pub region-after : readRegion b m at .after ≡ u16At b (at + 2)
+  unfolding readRegion
+  region-after = refl
+
+  pub region-children : readRegion b m at .children ≡ u8At b (at + 4)
+  unfolding readRegion
+  region-children = refl
+
+  pub region-yards : readRegion b m at .yards ≡ u16At b (at + 5)
+  unfolding readRegion
+  region-yards = refl
+
+  pub region-lists : u8At b (at + 4) ≡ 0 → readRegion b m at .marks ≡ readLists b (u16At b (at + 5)) m (at + 7)
+  unfolding readRegion
+  region-lists h = marks-lists b m (u8At b (at + 4)) (u16At b (at + 5)) (at + 7) h
+
+-- ---- the header's fields
+
+module _ (b : List ℕ) where
+  pub junction-count : junctionCount b ≡ u16At b 5
+  unfolding junctionCount
+  junction-count = refl
+
+  pub region-count : regionCount b ≡ u16At b 7
+  unfolding regionCount
+  region-count = refl
+
+  pub yard-count : yardCount b ≡ u16At b 9
+  unfolding yardCount
+  yard-count = refl
+
+  pub landmark-count : landmarkCount b ≡ u8At b 11
+  unfolding landmarkCount
+  landmark-count = refl
+
+-- ---- the reader's answer
+
+pub refused-answer : (why : ℕ) → numberOf (Refused why) ≡ why
+unfolding numberOf
+refused-answer why = refl
+
+pub header-junctions : (b : List ℕ) → headerOf b .junctions ≡ junctionCount b
+unfolding headerOf
+header-junctions b = refl
+
+pub header-yards : (b : List ℕ) → headerOf b .yards ≡ yardCount b
+unfolding headerOf
+header-yards b = refl
+
+pub header-regions : (b : List ℕ) → headerOf b .regions ≡ regionCount b
+unfolding headerOf
+header-regions b = refl

@@ -1,0 +1,5 @@
+pub mod Values
+pub mod Decode
+pub mod Refusal
+pub mod Facts
+pub mod Reading

@@ -1,0 +1,30 @@
+-- Values of the numbers that the reader's functions are handed. Assumes nothing: these are definitions.
+use mathlib.Core.List.{List, []}
+use Prim.Native.Nat.{ℕ, zero, suc}
+use Rattle.tree_layout.specs.Values.{Element, Region}
+use Rattle.tree_layout.specs.Decode.{junctionCount, regionCount, yardCount, landmarkCount}
+use Rattle.tree_layout.specs.declared.Header.{Header}
+use Rattle.tree_layout.specs.declared.TreeBook.{TreeBook}
+use Rattle.tree_layout.specs.declared.TreeBook.the-variants.{Laid, Refused}
+
+-- the pair of a distance and a yard
+abbrev pub element : ℕ → ℕ → Element
+element distance yard = record { distance = distance; yard = yard }
+
+-- what the test of a landmark looks at in its region: the range, and whether it has children
+abbrev pub bounded : ℕ → ℕ → ℕ → Region
+bounded first after children = record { first = first; after = after; children = children; yards = 0; marks = [] }
+
+-- the header of a book
+unfoldable pub headerOf : List ℕ → Header
+headerOf b = record { junctions = junctionCount b; regions = regionCount b; yards = yardCount b; landmarks = landmarkCount b }
+
+-- the answer for a refusal's number and a header: 0 gives the header
+unfoldable pub treeBook : ℕ → Header → TreeBook
+treeBook zero h = Laid h
+treeBook (suc n) h = Refused (suc n)
+
+-- the number of an answer: "The number of an accepted call is 0."
+unfoldable pub numberOf : TreeBook → ℕ
+numberOf (Laid h) = 0
+numberOf (Refused why) = why

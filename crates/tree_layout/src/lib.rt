@@ -1,0 +1,303 @@
+// The tree book's layout: tests 1 to 5 and the header.
+use book::Opened;
+ghost use mathlib.Core.Path.{_≡_};
+ghost use mathlib.Core.Bool.{true};
+ghost use Prim.Native.Nat.{ℕ, _+_, _*_, _≤_, _<_};
+ghost use lib.ListN.{length};
+ghost use Rattle.book.specs.Bytes.{u16At, u32At};
+ghost use Rattle.tree_layout.specs.Values.{leafMark, innerMark};
+ghost use Rattle.tree_layout.specs.Decode.{readList, listPart, readLists, readSpans, readRegion, readRegions, sizeAt};
+ghost use Rattle.tree_layout.specs.Refusal.{between, all, recordsOk, comes, listOk, markOk, childrenOk, regionOk, layoutRefusal};
+ghost use Rattle.tree_layout.specs.Reading.{element, bounded, headerOf, treeBook, numberOf};
+
+// A tree region's number: a node of the tree, counted from 0 in preorder. Never a junction's number.
+pub struct Region {
+    pub number: u16,
+}
+
+// What a tree book's header counts.
+pub struct Header {
+    pub junctions: u16,
+    pub regions: u16,
+    pub yards: u16,
+    pub landmarks: u8,
+}
+
+// What reading a tree book's layout finds: its header, or the number of the test that turns it back.
+pub enum TreeBook {
+    Laid(Header),
+    Refused(u8),
+}
+
+// The number of an answer, 0 for a book that is laid out.
+pub fn number(o: TreeBook) -> u8
+    ensures { λ r. ⌜ r ≡ numberOf o ⌝ }
+{
+    match o {
+        TreeBook::Laid(_) => 0,
+        TreeBook::Refused(why) => why,
+    }
+}
+
+// Whether low ≤ x ≤ high.
+fn within(low: u16, high: u16, x: u16) -> bool
+    ensures { λ r. ⌜ r ≡ between low high x ⌝ }
+{
+    if x < low {
+        return false;
+    }
+    x <= high
+}
+
+// The bytes of the record at a place, by its own fields.
+pub fn size_at(b: &[u8], m: usize, at: usize) -> usize
+    requires { ⌜ (m ≤ 4) × (at + 7 ≤ length (now b)) ⌝ }
+    ensures { λ r. ⌜ r ≡ sizeAt (now (b .entry)) m at ⌝ }
+{
+    let children = book::u8_at(b, at + 4);
+    let yards = book::u16_at(b, at + 5) as usize;
+    if children != 0 {
+        return 7 + m * 10;
+    }
+    7 + m * (2 + 6 * yards)
+}
+
+// Test 4: whether n records of m landmarks each, from byte 12 on, take up the book to its end.
+fn records_ok(b: &[u8], m: usize, n: usize) -> bool
+    requires { ⌜ (m ≤ 4) × (12 ≤ length (now b)) ⌝ }
+    ensures { λ r. ⌜ r ≡ recordsOk (now (b .entry)) m n 12 ⌝ }
+{
+    let len = b.len();
+    let mut at: usize = 12;
+    let mut k: usize = 0;
+    while k < n {
+        if len - at < 7 {
+            return false;
+        }
+        let size = size_at(b, m, at);
+        if len - at < size {
+            return false;
+        }
+        at += size;
+        k += 1;
+    }
+    at == len
+}
+
+// Whether the pair (distance, yard) comes after the pair (d, y).
+fn after(d: u32, y: u16, distance: u32, yard: u16) -> bool
+    ensures { λ r. ⌜ r ≡ comes (element d y) (element distance yard) ⌝ }
+{
+    if d < distance {
+        return true;
+    }
+    if d != distance {
+        return false;
+    }
+    y < yard
+}
+
+// Whether n pairs' distances are within their limit, and the pairs rise.
+fn list_ok(p: &[u8], n: usize) -> bool
+    requires { ⌜ (1 ≤ n) × (6 * n ≤ length (now p)) ⌝ }
+    ensures { λ r. ⌜ r ≡ listOk (readList (now (p .entry)) n 0) ⌝ }
+{
+    let mut d = book::u32_at(p, 0);
+    let mut y = book::u16_at(p, 4);
+    if 67042305 < d {
+        return false;
+    }
+    let mut k: usize = 1;
+    while k < n {
+        let distance = book::u32_at(p, 6 * k);
+        let yard = book::u16_at(p, 6 * k + 4);
+        if 67042305 < distance {
+            return false;
+        }
+        if !after(d, y, distance, yard) {
+            return false;
+        }
+        d = distance;
+        y = yard;
+        k += 1;
+    }
+    true
+}
+
+// Whether the landmark at a place is good for a leaf with this range and so many yards.
+fn leaf_mark_ok(b: &[u8], at: usize, first: u16, end: u16, yards: usize) -> bool
+    requires { ⌜ (1 ≤ yards) × (at + (2 + 6 * yards) ≤ length (now b)) ⌝ }
+    ensures { λ r. ⌜ r ≡ markOk (bounded first end 0)
+        (leafMark (u16At (now (b .entry)) at) (readList (listPart (now (b .entry)) yards (at + 2)) yards 0)) ⌝ }
+{
+    let place = book::u16_at(b, at);
+    if place < first {
+        return false;
+    }
+    if end <= place {
+        return false;
+    }
+    let a = at + 2;
+    let e = a + 6 * yards;
+    list_ok(&b[a..e], yards)
+}
+
+// Whether the landmark at a place is good for an inner region with this range.
+fn inner_mark_ok(b: &[u8], at: usize, first: u16, end: u16) -> bool
+    requires { ⌜ at + 10 ≤ length (now b) ⌝ }
+    ensures { λ r. ⌜ r ≡ markOk (bounded first end 1)
+        (innerMark (u16At (now (b .entry)) at) (u32At (now (b .entry)) (at + 2)) (u32At (now (b .entry)) (at + 6))) ⌝ }
+{
+    let place = book::u16_at(b, at);
+    if place < first {
+        return false;
+    }
+    if end <= place {
+        return false;
+    }
+    book::u32_at(b, at + 2) <= book::u32_at(b, at + 6)
+}
+
+// Whether m landmarks from a place on are good for a leaf with this range and so many yards.
+fn lists_ok(b: &[u8], start: usize, m: usize, first: u16, end: u16, yards: usize) -> bool
+    requires { ⌜ (1 ≤ yards) × (start + m * (2 + 6 * yards) ≤ length (now b)) ⌝ }
+    ensures { λ r. ⌜ r ≡ all (markOk (bounded first end 0)) (readLists (now (b .entry)) yards m start) ⌝ }
+{
+    let mut at = start;
+    let mut k: usize = 0;
+    while k < m {
+        if !leaf_mark_ok(b, at, first, end, yards) {
+            return false;
+        }
+        at += 2 + 6 * yards;
+        k += 1;
+    }
+    true
+}
+
+// Whether m landmarks from a place on are good for an inner region with this range.
+fn spans_ok(b: &[u8], start: usize, m: usize, first: u16, end: u16) -> bool
+    requires { ⌜ start + m * 10 ≤ length (now b) ⌝ }
+    ensures { λ r. ⌜ r ≡ all (markOk (bounded first end 1)) (readSpans (now (b .entry)) m start) ⌝ }
+{
+    let mut at = start;
+    let mut k: usize = 0;
+    while k < m {
+        if !inner_mark_ok(b, at, first, end) {
+            return false;
+        }
+        at += 10;
+        k += 1;
+    }
+    true
+}
+
+// Whether a children count is 0 for a leaf, else 2 to 4.
+fn children_ok(children: u8) -> bool
+    ensures { λ r. ⌜ r ≡ childrenOk children ⌝ }
+{
+    if children == 0 {
+        return true;
+    }
+    if children < 2 {
+        return false;
+    }
+    children <= 4
+}
+
+// Whether the values of the record at a place are in their ranges and order.
+fn region_ok(b: &[u8], m: usize, at: usize, junctions: u16) -> bool
+    requires { ⌜ at + sizeAt (now b) m at ≤ length (now b) ⌝ }
+    ensures { λ r. ⌜ r ≡ regionOk junctions (readRegion (now (b .entry)) m at) ⌝ }
+{
+    let first = book::u16_at(b, at);
+    let end = book::u16_at(b, at + 2);
+    let children = book::u8_at(b, at + 4);
+    let yards = book::u16_at(b, at + 5) as usize;
+    if end <= first {
+        return false;
+    }
+    if junctions < end {
+        return false;
+    }
+    if !children_ok(children) {
+        return false;
+    }
+    if yards < 1 {
+        return false;
+    }
+    if children == 0 {
+        return lists_ok(b, at + 7, m, first, end, yards);
+    }
+    spans_ok(b, at + 7, m, first, end)
+}
+
+// Test 5: whether the values of n records from byte 12 on are in their ranges and order.
+fn values_ok(b: &[u8], m: usize, n: usize, junctions: u16) -> bool
+    requires { ⌜ (m ≤ 4) × (recordsOk (now b) m n 12 ≡ true) ⌝ }
+    ensures { λ r. ⌜ r ≡ all (regionOk junctions) (readRegions (now (b .entry)) m n 12) ⌝ }
+{
+    let mut at: usize = 12;
+    let mut k: usize = 0;
+    while k < n {
+        if !region_ok(b, m, at, junctions) {
+            return false;
+        }
+        at += size_at(b, m, at);
+        k += 1;
+    }
+    true
+}
+
+// The number of the first of tests 1 to 5 that turns the book back, or 0; test 4 goes over the whole book before test 5 looks at a value.
+pub fn layout(b: &[u8]) -> u8
+    ensures { λ r. ⌜ r ≡ layoutRefusal (now (b .entry)) ⌝ }
+{
+    let o = book::open(b, 7);
+    let Opened::Body = o else {
+        let Opened::Refused(why) = o else {
+            return 0;
+        };
+        return why;
+    };
+    let junctions = book::u16_at(b, 5);
+    let regions = book::u16_at(b, 7);
+    let landmarks = book::u8_at(b, 11) as u16;
+    if !within(1, 1024, junctions) {
+        return 3;
+    }
+    if !within(1, 511, regions) {
+        return 3;
+    }
+    if !within(1, 256, book::u16_at(b, 9)) {
+        return 3;
+    }
+    if !within(1, 4, landmarks) {
+        return 3;
+    }
+    let m = landmarks as usize;
+    let n = regions as usize;
+    if !records_ok(b, m, n) {
+        return 4;
+    }
+    if !values_ok(b, m, n, junctions) {
+        return 5;
+    }
+    0
+}
+
+// Reads a tree book's layout: its header, if none of tests 1 to 5 turns it back.
+pub fn read(b: &[u8]) -> TreeBook
+    ensures { λ r. ⌜ r ≡ treeBook (layoutRefusal (now (b .entry))) (headerOf (now (b .entry))) ⌝ }
+{
+    let why = layout(b);
+    if why != 0 {
+        return TreeBook::Refused(why);
+    }
+    TreeBook::Laid(Header {
+        junctions: book::u16_at(b, 5),
+        regions: book::u16_at(b, 7),
+        yards: book::u16_at(b, 9),
+        landmarks: book::u8_at(b, 11),
+    })
+}

@@ -1,0 +1,157 @@
+-- The tests of a leaf's lists, one pair at a time, as loops count them. Assumes nothing.
+use mathlib.Core.Path.{_≡_, refl, sym, _∙_}
+use mathlib.Core.Bool.{Bool, true, false, not, _&&_, _||_}
+use mathlib.Core.List.{List}
+use Prim.Native.Nat.{ℕ, _+_, _-_, _*_, _≤_, _<_}
+use native.Mathlib.Omega.{arith}
+use borrow.Author.Tests.{le-leb, lt-leb, lt-ltb, le-ltb, eq-eqb, ne-eqb}
+use lib.ListN.{length, take, drop}
+use lib.Dec.{ltb, leb, eqb}
+use Rattle.book.specs.Bytes.{u8At, u16At}
+use Rattle.tree_layout.specs.Values.{Element, Mark, leafMark}
+use Rattle.tree_layout.specs.Decode.{elementAt, readList, listPart, readLists, readRegion, sizeAt, landmarkCount}
+use Rattle.tree_layout.specs.Refusal.{all}
+use Rattle.tree_layout.proofs.Places.{mark-size-leaf, size-at}
+use Rattle.tree_layout.proofs.Reading.{all-none, all-next, element-yard, list-turn, list-none, list-part, leaf-list, lists-turn, lists-none, region-first, region-after, region-lists, landmark-count}
+use Rattle.tree_leaf.specs.Leaf.{names, once, inRange, namedBy, firstList, sameYards, agreeing, leafOk}
+
+-- the pair at a place, and the n - (k + 1) pairs after it
+module _ (p : List ℕ) (n k at : ℕ) where
+  names-here : (y v : ℕ) → k < n → v ≡ u16At p (at + 4) → names (readList p (n - k) at) y ≡ (eqb v y || names (readList p (n - (k + 1)) (at + 6)) y)
+  unfolding names
+  names-here y v h e = rw (list-turn p n k at h, element-yard p at, e) refl
+
+  pub names-found : (y v : ℕ) → k < n → v ≡ u16At p (at + 4) → v ≡ y → names (readList p (n - k) at) y ≡ true
+  names-found y v h e f = names-here y v h e ∙ simp (eq-eqb _ _ f)
+
+  pub names-next : (y v : ℕ) → k < n → v ≡ u16At p (at + 4) → (v ≡ y → ⊥) → names (readList p (n - (k + 1)) (at + 6)) y ≡ names (readList p (n - k) at) y
+  names-next y v h e f = sym (names-here y v h e ∙ simp (ne-eqb _ _ f))
+
+  pub names-end : (y : ℕ) → n ≤ k → names (readList p (n - k) at) y ≡ false
+  unfolding names
+  names-end y h = rw (list-none p n k at h) refl
+
+  once-here : (v : ℕ) → k < n → v ≡ u16At p (at + 4) → once (readList p (n - k) at) ≡ (not (names (readList p (n - (k + 1)) (at + 6)) v) && once (readList p (n - (k + 1)) (at + 6)))
+  unfolding once
+  once-here v h e = rw (list-turn p n k at h, element-yard p at, e) refl
+
+  pub once-stop : (v rest : ℕ) → k < n → v ≡ u16At p (at + 4) → rest ≡ n - (k + 1) → names (readList p rest (at + 6)) v ≡ true → once (readList p (n - k) at) ≡ false
+  once-stop v rest h e q t = once-here v h e ∙ rw (rw q at t) refl
+
+  pub once-next : (v rest : ℕ) → k < n → v ≡ u16At p (at + 4) → rest ≡ n - (k + 1) → names (readList p rest (at + 6)) v ≡ false → once (readList p (n - (k + 1)) (at + 6)) ≡ once (readList p (n - k) at)
+  once-next v rest h e q t = sym (once-here v h e ∙ rw (rw q at t) refl)
+
+  pub once-end : n ≤ k → once (readList p (n - k) at) ≡ true
+  unfolding once
+  once-end h = rw (list-none p n k at h) refl
+
+  -- a test of every pair
+  all-here : (f : Element → Bool) → k < n → all f (readList p (n - k) at) ≡ (f (elementAt p at) && all f (readList p (n - (k + 1)) (at + 6)))
+  all-here f h = rw (list-turn p n k at h) (all-next f (elementAt p at) (readList p (n - (k + 1)) (at + 6)))
+
+  pub all-end : (f : Element → Bool) → n ≤ k → all f (readList p (n - k) at) ≡ true
+  all-end f h = rw (list-none p n k at h) (all-none f)
+
+  range-here : (low high v : ℕ) → v ≡ u16At p (at + 4) → inRange low high (elementAt p at) ≡ (leb low v && ltb v high)
+  unfolding inRange
+  range-here low high v e = rw (element-yard p at, e) refl
+
+  pub range-low : (low high v : ℕ) → k < n → v ≡ u16At p (at + 4) → v < low → all (inRange low high) (readList p (n - k) at) ≡ false
+  range-low low high v h e q = all-here (inRange low high) h ∙ rw (range-here low high v e) (simp (lt-leb _ _ q))
+
+  pub range-high : (low high v : ℕ) → k < n → v ≡ u16At p (at + 4) → low ≤ v → high ≤ v → all (inRange low high) (readList p (n - k) at) ≡ false
+  range-high low high v h e q s = all-here (inRange low high) h ∙ rw (range-here low high v e) (simp (le-leb _ _ q, le-ltb _ _ s))
+
+  pub range-next : (low high v : ℕ) → k < n → v ≡ u16At p (at + 4) → low ≤ v → v < high → all (inRange low high) (readList p (n - (k + 1)) (at + 6)) ≡ all (inRange low high) (readList p (n - k) at)
+  range-next low high v h e q s = sym (all-here (inRange low high) h ∙ rw (range-here low high v e) (simp (le-leb _ _ q, lt-ltb _ _ s)))
+
+  named-here : (other : List Element) (v : ℕ) → k < n → v ≡ u16At p (at + 4) → namedBy other (readList p (n - k) at) ≡ (names other v && namedBy other (readList p (n - (k + 1)) (at + 6)))
+  unfolding namedBy
+  named-here other v h e = all-here (λ x. names other (x .yard)) h ∙ rw (element-yard p at, e) refl
+
+  pub named-stop : (other : List Element) (v : ℕ) → k < n → v ≡ u16At p (at + 4) → names other v ≡ false → namedBy other (readList p (n - k) at) ≡ false
+  named-stop other v h e t = named-here other v h e ∙ rw t refl
+
+  pub named-next : (other : List Element) (v : ℕ) → k < n → v ≡ u16At p (at + 4) → names other v ≡ true → namedBy other (readList p (n - (k + 1)) (at + 6)) ≡ namedBy other (readList p (n - k) at)
+  named-next other v h e t = sym (named-here other v h e ∙ rw t refl)
+
+  pub named-end : (other : List Element) → n ≤ k → namedBy other (readList p (n - k) at) ≡ true
+  unfolding namedBy
+  named-end other h = all-end (λ x. names other (x .yard)) h
+
+-- ---- the four tests of a list
+
+module _ (low high : ℕ) (ref es : List Element) where
+  pub same-once : once es ≡ false → sameYards low high ref es ≡ false
+  unfolding sameYards
+  same-once a = rw a refl
+
+  pub same-range : once es ≡ true → all (inRange low high) es ≡ false → sameYards low high ref es ≡ false
+  unfolding sameYards
+  same-range a b = rw (a, b) refl
+
+  pub same-to : once es ≡ true → all (inRange low high) es ≡ true → namedBy ref es ≡ false → sameYards low high ref es ≡ false
+  unfolding sameYards
+  same-to a b d = rw (a, b, d) refl
+
+  pub same-from : once es ≡ true → all (inRange low high) es ≡ true → namedBy ref es ≡ true → sameYards low high ref es ≡ namedBy es ref
+  unfolding sameYards
+  same-from a b d = rw (a, b, d) refl
+
+-- ---- a leaf's landmarks
+
+-- the first list of a leaf's landmarks
+pub first-list : (b : List ℕ) (yards m at : ℕ) → 0 < m → firstList (readLists b yards m at) ≡ readList (listPart b yards (at + 2)) yards 0
+unfolding firstList
+first-list b yards m at h =
+    let s : m - 0 ≡ m = omega arith in
+    rw (← s, lists-turn b yards m 0 at h) (leaf-list (u16At b at) (readList (listPart b yards (at + 2)) yards 0))
+
+-- the landmark at a place, and the m - (k + 1) landmarks after it
+module _ (b : List ℕ) (yards m k at low high : ℕ) (ref : List Element) where
+  agree-here : k < m → agreeing low high ref (readLists b yards (m - k) at)
+      ≡ (sameYards low high ref (readList (listPart b yards (at + 2)) yards 0) && agreeing low high ref (readLists b yards (m - (k + 1)) (at + (2 + 6 * yards))))
+  unfolding agreeing
+  agree-here h =
+      rw (lists-turn b yards m k at h)
+      (all-next (λ (x : Mark). sameYards low high ref (x .list)) (leafMark (u16At b at) (readList (listPart b yards (at + 2)) yards 0)) (readLists b yards (m - (k + 1)) (at + (2 + 6 * yards)))
+      ∙ rw (leaf-list (u16At b at) (readList (listPart b yards (at + 2)) yards 0)) refl)
+
+  pub agree-stop : (x : List Element) → ref ≡ x → k < m → sameYards low high x (readList (listPart b yards (at + 2)) yards 0) ≡ false → agreeing low high ref (readLists b yards (m - k) at) ≡ false
+  agree-stop x z h e = agree-here h ∙ rw (z, e) refl
+
+  pub agree-next : (x : List Element) → ref ≡ x → k < m → sameYards low high x (readList (listPart b yards (at + 2)) yards 0) ≡ true
+      → agreeing low high ref (readLists b yards (m - (k + 1)) (at + (2 + 6 * yards))) ≡ agreeing low high ref (readLists b yards (m - k) at)
+  agree-next x z h e = sym (agree-here h ∙ rw (rw (← z) at e) refl)
+
+  pub agree-end : m ≤ k → agreeing low high ref (readLists b yards (m - k) at) ≡ true
+  unfolding agreeing
+  agree-end h = rw (lists-none b yards m k at h) (all-none (λ (x : Mark). sameYards low high ref (x .list)))
+
+-- a leaf's test, of its record's fields
+pub leaf-test : (b : List ℕ) (m at low high yards : ℕ) → u8At b (at + 4) ≡ 0 → low ≡ u16At b at → high ≡ u16At b (at + 2) → yards ≡ u16At b (at + 5)
+    → leafOk (readRegion b m at) ≡ agreeing low high (firstList (readLists b yards m (at + 7))) (readLists b yards m (at + 7))
+unfolding leafOk
+leaf-test b m at low high yards z p q r = rw (region-first b m at, region-after b m at, region-lists b m at z, ← p, ← q, ← r) refl
+
+-- a leaf's record has room for its landmarks
+pub leaf-size : (b : List ℕ) (m at yards : ℕ) → u8At b (at + 4) ≡ 0 → yards ≡ u16At b (at + 5) → sizeAt b m at ≡ 7 + m * (2 + 6 * yards)
+leaf-size b m at yards z r = rw (size-at b m at, mark-size-leaf (u8At b (at + 4)) (u16At b (at + 5)) z, ← r) refl
+
+-- two lists as parts of the book, from a first byte up to an end
+pub parts-agree : (b : List ℕ) (low high n first at : ℕ)
+    → sameYards low high (readList (take ((first + 6 * n) - first) (drop first b)) n 0) (readList (take ((at + 6 * n) - at) (drop at b)) n 0)
+    ≡ sameYards low high (readList (listPart b n first) n 0) (readList (listPart b n at) n 0)
+parts-agree b low high n first at = rw (list-part b n first (first + 6 * n) refl, list-part b n at (at + 6 * n) refl) refl
+
+-- a leaf's record in a book with m landmarks per region
+module _ (b : List ℕ) (m at low high yards : ℕ) (count : m ≡ u8At b 11) (zero-children : u8At b (at + 4) ≡ 0) (counted : yards ≡ u16At b (at + 5)) where
+  marks-are : m ≡ landmarkCount b
+  marks-are = count ∙ sym (landmark-count b)
+
+  pub leaf-room : at + sizeAt b (landmarkCount b) at ≤ length b → (at + 7) + m * (2 + 6 * yards) ≤ length b
+  leaf-room h = rw marks-are (omega (arith, leaf-size b (landmarkCount b) at yards zero-children counted))
+
+  pub leaf-tested : low ≡ u16At b at → high ≡ u16At b (at + 2)
+      → agreeing low high (firstList (readLists b yards m (at + 7))) (readLists b yards m (at + 7)) ≡ leafOk (readRegion b (landmarkCount b) at)
+  leaf-tested p q = rw marks-are (sym (leaf-test b (landmarkCount b) at low high yards zero-children p q counted))
