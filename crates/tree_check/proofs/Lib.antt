@@ -1,0 +1,6 @@
+pub mod Sets
+pub mod Knowing
+pub mod Matching
+pub mod Answering
+pub mod Theorems
+pub mod Vectors

@@ -1,0 +1,4 @@
+pub mod Listing
+pub mod Spanning
+pub mod Placing
+pub mod Finding

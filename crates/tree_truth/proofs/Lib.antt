@@ -1,0 +1,4 @@
+pub mod Extremes
+pub mod Within
+pub mod Theorems
+pub mod Testing

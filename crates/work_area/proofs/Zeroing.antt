@@ -1,0 +1,38 @@
+-- The work area's test, and the area after a call. Assumes nothing.
+use mathlib.Core.Path.{_≡_, refl, sym, ap, _∙_}
+use mathlib.Core.List.{List}
+use Prim.Native.Nat.{ℕ, _≤_, _<_}
+use native.Mathlib.Omega.{arith}
+use lib.ListN.{length}
+use lib.Dec.{T, leb, eqb, leb→le, le→leb, not-T}
+use Rattle.book.proofs.Choosing.{passes, fails, passed, choose-yes, choose-no}
+use Rattle.book.proofs.Lists.{eq→eqb, ne→neqb}
+use Rattle.book.proofs.Filling.{filled, filled-parts}
+use Rattle.work_area.specs.Work.{workWords, workRefusal, zeroed, workAfter}
+
+-- a loop that has filled n words with 0 has zeroed them
+pub filled-zeroed : (n i : ℕ) (work after : List ℕ) → after ≡ filled i 0 work → i ≡ n → after ≡ zeroed n work
+unfolding zeroed
+filled-zeroed n i work after e h = rw (← h) (e ∙ filled-parts i 0 work)
+
+module _ (words : ℕ) where
+  pub work-short : words < workWords → workRefusal words ≡ 12
+  unfolding workRefusal
+  work-short h = fails (leb workWords words) 12 0 (not-T (leb workWords words) (λ t. omega (arith, leb→le workWords words t)))
+
+  pub work-enough : workWords ≤ words → workRefusal words ≡ 0
+  unfolding workRefusal
+  work-enough h = passes (leb workWords words) 12 0 (le→leb workWords words h)
+
+  pub enough-work : workRefusal words ≡ 0 → workWords ≤ words
+  unfolding workRefusal
+  enough-work e = leb→le workWords words (passed (leb workWords words) 12 0 e (omega arith) .0)
+
+module _ (refusal : ℕ) (work : List ℕ) where
+  pub accepted-zeroed : refusal ≡ 0 → workAfter refusal work ≡ zeroed workWords work
+  unfolding workAfter
+  accepted-zeroed e = choose-yes (eqb refusal 0) (zeroed workWords work) work (eq→eqb refusal 0 e)
+
+  pub refused-kept : (refusal ≡ 0 → ⊥) → workAfter refusal work ≡ work
+  unfolding workAfter
+  refused-kept h = choose-no (eqb refusal 0) (zeroed workWords work) work (ne→neqb refusal 0 h)

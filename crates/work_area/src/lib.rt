@@ -1,0 +1,17 @@
+// The lent work area of a call.
+ghost use mathlib.Core.Path.{_≡_};
+ghost use Prim.Native.Nat.{_≤_};
+ghost use lib.ListN.{length};
+ghost use Rattle.work_area.specs.Work.{zeroed};
+
+// Zeroes the first 16,384 words, and leaves any after them.
+pub fn zero_words(work: &mut [u32])
+    requires { ⌜ 16384 ≤ length (now work) ⌝ }
+    ensures { λ _. ⌜ now (work .exit) ≡ zeroed 16384 (now (work .entry)) ⌝ }
+{
+    let mut i: usize = 0;
+    while i < 16384 {
+        work[i] = 0;
+        i += 1;
+    }
+}
