@@ -1,0 +1,9 @@
+pub mod Ranked
+pub mod Landmarks
+pub mod Parts
+pub mod Cutting
+pub mod Steps
+pub mod Regions
+pub mod Shape
+pub mod Theorems
+pub mod Vectors

@@ -1,0 +1,4 @@
+pub mod Sizes
+pub mod Back
+pub mod Small
+pub mod Theorems
