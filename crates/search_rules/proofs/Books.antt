@@ -1,0 +1,64 @@
+-- A search of a road book and a tree book that the tests accept is well formed, and sound if the tree's numbers are true. Assumes nothing.
+use mathlib.Core.Path.{_≡_, sym, _∙_}
+use mathlib.Core.List.{List, List·Memᴰ as Mem}
+use Prim.Native.Nat.{ℕ, _≤_, _<_}
+use native.Mathlib.Omega.{arith}
+use lib.ListN.{length}
+use Rattle.book.specs.Bytes.{Bytes}
+use Rattle.road_layout.specs.Road.{junctions}
+use Rattle.road.specs.Dijkstra.{dist}
+use Rattle.road.specs.Facts.{Passing}
+use Rattle.road.proofs.Theorems.{metric, symmetric}
+use Rattle.tree_layout.specs.Values.{Element, Mark, regionAt}
+use Rattle.tree_layout.specs.Decode.{decode, junctionCount}
+use Rattle.tree_layout.proofs.Places.{decode-junctions}
+use Rattle.tree.specs.Shape.{treeRefusal}
+use Rattle.tree.specs.Yards.{yardsBelow}
+use Rattle.search_rules.specs.Instance.{Instance}
+use Rattle.search_rules.specs.Books.{searchOf}
+use Rattle.search_rules.specs.Facts.{WellFormed, Metric, Symmetric, Sound}
+use Rattle.search_rules.proofs.Trees.{Accepted, accepted-tree, well-formed, truth-of}
+
+-- what the tests give of the two books and the crews
+pub record Passed (road tree crews : List ℕ) : Type 0 where
+  pub roads : Passing road
+  pub bytes : Bytes tree
+  pub shaped : treeRefusal tree ≡ 0
+  -- "Junction counts .. disagree between books"
+  pub counts : junctions road ≡ junctionCount tree
+  -- "Crews are none, more than 16, or at no junction of the road book."
+  pub few : length crews ≤ 16
+  pub there : (q : ℕ) → Mem q crews → q < junctions road
+
+module _ (road tree : List ℕ) (code wanted : ℕ) (crews : List ℕ) (p : Passed road tree crews) where
+  abbrev i : Instance
+  i = searchOf road tree code wanted crews
+
+  pub count : decode tree .junctions ≡ junctions road
+  count = decode-junctions tree ∙ sym (p .counts)
+
+  pub accepted-of : Accepted (i .tree)
+  unfolding searchOf
+  accepted-of = accepted-tree tree (p .bytes) (p .shaped)
+
+  pub well-of : WellFormed i
+  unfolding searchOf
+  well-of = well-formed i accepted-of (λ q k. omega (arith, count, p .there q k)) (p .few)
+      (λ u v h k. omega (arith, metric road (p .roads) .bounded u v (omega (arith, count)) (omega (arith, count))))
+
+  pub metric-of : Metric i
+  unfolding searchOf
+  metric-of = record { triangle = λ u v w a b c. metric road (p .roads) .triangle u v w (omega (arith, count)) (omega (arith, count)) (omega (arith, count)) }
+
+  pub symmetric-of : Symmetric i
+  unfolding searchOf
+  symmetric-of = record { turn = λ u v a b. symmetric road (p .roads .layout) u v (omega (arith, count)) (omega (arith, count)) }
+
+  -- "a stored distance, least or greatest isn't the true one" of none: then the search is sound
+  pub sound-of : ((r : ℕ) → r < length (decode tree .regions) → regionAt (decode tree .regions) r .children ≡ 0 → (m : Mark) → Mem m (regionAt (decode tree .regions) r .marks) → (e : Element) → Mem e (m .list)
+      → e .distance ≡ dist road (m .place) (e .yard))
+      → ((r : ℕ) → r < length (decode tree .regions) → (m : Mark) → Mem m (regionAt (decode tree .regions) r .marks) → (y : ℕ) → Mem y (yardsBelow (decode tree .regions) r)
+      → (m .least ≤ dist road (m .place) y) × (dist road (m .place) y ≤ m .greatest))
+      → Sound i
+  unfolding searchOf
+  sound-of lists encloses = record { well = well-of; metric = metric-of; symmetric = symmetric-of; truth = truth-of i accepted-of lists encloses }

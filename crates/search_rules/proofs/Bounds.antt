@@ -1,0 +1,149 @@
+-- The bounds are sound: none is above the aggregate of a yard that it stands for. Assumes nothing.
+use mathlib.Core.Path.{_≡_, refl}
+use mathlib.Core.Logic.{_≢_}
+use mathlib.Core.Bool.{Bool, true, false, not}
+use mathlib.Core.List.{List, [], _∷_, List·Memᴰ as Mem, List·Memᴰ·head as head, List·Memᴰ·tail as tail}
+use Prim.Native.Nat.{ℕ, _+_, _≤_, _<_, max}
+use native.Mathlib.Omega.{arith}
+use lib.Dec.{T, ltb, leb, eqb}
+use Rattle.book.specs.Choose.{choose}
+use Rattle.book.proofs.Choosing.{choose-case, choose-yes, choose-no}
+use Rattle.tree_layout.specs.Values.{Element, Mark}
+use Rattle.search_rules.specs.Instance.{Instance, children, marks, leaf}
+use Rattle.search_rules.specs.Bounds.{apart, combine, aggregate, greatestOf, leastFrom, leastOf, crewBound, sheetAt, lower, upper, over, total, markBound, bound, weight, best, bestOf, chosen, listApart, f, yardBound}
+use Rattle.search_rules.specs.Facts.{Below, inside, under, Shape, Metric, Symmetric, Truth}
+use Rattle.search_rules.proofs.Choices.{choose-two}
+
+-- ---- the greatest, the least, the aggregate
+
+pub greatestOf-le : (h : Mark → ℕ) (x : ℕ) (ms : List Mark) → ((m : Mark) → Mem m ms → h m ≤ x) → greatestOf h ms ≤ x
+unfolding greatestOf
+greatestOf-le h x [] k = omega arith
+greatestOf-le h x (m ∷ ms) k = omega (arith, k m (head refl), greatestOf-le h x ms (λ n e. k n (tail e)))
+
+leastFrom-le : (h : Mark → ℕ) (x : ℕ) (m : Mark) (ms : List Mark) → ((n : Mark) → Mem n (m ∷ ms) → x ≤ h n) → x ≤ leastFrom h m ms
+unfolding leastFrom
+leastFrom-le h x m [] k = k m (head refl)
+leastFrom-le h x m (n ∷ ns) k = omega (arith, k m (head refl), leastFrom-le h x n ns (λ o e. k o (tail e)))
+
+leastOf-le : (h : Mark → ℕ) (x : ℕ) (ms : List Mark) → ms ≢ [] → ((n : Mark) → Mem n ms → x ≤ h n) → x ≤ leastOf h ms
+unfolding leastOf
+leastOf-le h x [] s k = absurd (s refl)
+leastOf-le h x (m ∷ ms) s k = leastFrom-le h x m ms k
+
+-- the aggregate of two numbers: it grows with them, 0 leaves the other, and it may be taken in any grouping
+pub combine-mono : (code : ℕ) {a b c e : ℕ} → a ≤ b → c ≤ e → combine code a c ≤ combine code b e
+unfolding combine
+combine-mono code {a} {b} {c} {e} s t = choose-two _≤_ (eqb code 0) (λ u. omega arith) (λ u. omega arith)
+
+pub combine-zero : (code a : ℕ) → combine code a 0 ≡ a
+unfolding combine
+combine-zero code a = choose-case (λ x. x ≡ a) (eqb code 0) (λ t. omega arith) (λ t. omega arith)
+
+pub combine-assoc : (code a b c : ℕ) → combine code (combine code a b) c ≡ combine code a (combine code b c)
+unfolding combine
+combine-assoc code a b c = choose-two (λ (x y : ℕ). x ≡ y) (eqb code 0)
+    (λ t. rw (choose-yes (eqb code 0) (a + b) (max a b) t, choose-yes (eqb code 0) (b + c) (max b c) t) (omega arith))
+    (λ t. rw (choose-no (eqb code 0) (a + b) (max a b) t, choose-no (eqb code 0) (b + c) (max b c) t) (omega arith))
+
+pub aggregate-mono : (code : ℕ) (g h : ℕ → ℕ) (qs : List ℕ) → ((q : ℕ) → Mem q qs → g q ≤ h q) → aggregate code g qs ≤ aggregate code h qs
+unfolding aggregate
+aggregate-mono code g h [] k = omega arith
+aggregate-mono code g h (q ∷ qs) k = combine-mono code (k q (head refl)) (aggregate-mono code g h qs (λ p e. k p (tail e)))
+
+crewBound-le : (lb ub a b dq dp x : ℕ) → lb ≤ dq → dq ≤ ub → a ≤ dp → dp ≤ b → dq ≤ dp + x → dp ≤ dq + x → crewBound lb ub a b ≤ x
+unfolding crewBound
+crewBound-le lb ub a b dq dp x h1 h2 h3 h4 h5 h6 =
+    choose-case (λ z. z ≤ x) (leb b lb) (λ t. omega arith) (λ t. choose-case (λ z. z ≤ x) (leb ub a) (λ s. omega arith) (λ s. omega arith))
+
+module _ (i : Instance) where
+  -- ---- a leaf's chosen landmark is one of its landmarks
+
+  best-mem : (m : Mark) (ms : List Mark) → Mem (best i m ms) (m ∷ ms)
+  unfolding best
+  best-mem m [] = head refl
+  best-mem m (x ∷ xs) =
+      choose-case (λ c. Mem c (m ∷ x ∷ xs)) (ltb (weight i m) (weight i x)) (λ t. tail (best-mem x xs)) (λ t. skip (best-mem m xs))
+    where
+      skip : {c : Mark} → Mem c (m ∷ xs) → Mem c (m ∷ x ∷ xs)
+      skip (head e) = head e
+      skip (tail k) = tail (tail k)
+
+  bestOf-mem : (ms : List Mark) → ms ≢ [] → Mem (bestOf i ms) ms
+  unfolding bestOf
+  bestOf-mem [] s = absurd (s refl)
+  bestOf-mem (m ∷ ms) s = best-mem m ms
+
+  pub chosen-mem : (r : ℕ) → marks i r ≢ [] → Mem (chosen i r) (marks i r)
+  unfolding chosen
+  chosen-mem r s = bestOf-mem (marks i r) s
+
+  -- ---- bounds
+
+  pub over-mono : (g h : ℕ → ℕ) → ((q : ℕ) → Mem q (i .crews) → g q ≤ h q) → over i g ≤ over i h
+  unfolding over
+  over-mono g h k = aggregate-mono (i .code) g h (i .crews) k
+
+  -- f is at most the yard's bound, whatever the tree says
+  pub f-le : (m : Mark) (e : Element) → f i m e ≤ yardBound i m e
+  unfolding f yardBound
+  f-le m e = over-mono (listApart i m e) (λ q. max (lower i (e .yard) q) (listApart i m e q)) (λ q k. omega arith)
+
+  module _ (shape : Shape i) where
+    -- a yard is a junction
+    pub below-range : {r y : ℕ} → Below i r y → y < i .tree .junctions
+    below-range (inside {r = r} m l e k) = rw (← k .names) (shape .yards r m (k .element) l e (k .mem))
+    below-range (under c l e b) = below-range b
+
+    module _ (metric : Metric i) (symmetric : Symmetric i) where
+      -- two distances from one junction differ by no more than the distance between
+      apart-le : (u v w : ℕ) → u < i .tree .junctions → v < i .tree .junctions → w < i .tree .junctions → apart (i .d u v) (i .d u w) ≤ i .d v w
+      unfolding apart
+      apart-le u v w a b c = omega (arith, metric .triangle u w v a c b, metric .triangle u v w a b c, symmetric .turn v w b c)
+
+      pub lower-le : (l q : ℕ) → l < i .tree .junctions → q < i .tree .junctions → lower i l q ≤ i .d l q
+      unfolding lower sheetAt
+      lower-le l q a b = greatestOf-le (λ r. apart (i .d (r .place) l) (i .d (r .place) q)) (i .d l q) (marks i 0)
+          (λ m e. apart-le (m .place) l q (shape .places 0 m e) a b)
+
+      pub upper-le : (l q : ℕ) → l < i .tree .junctions → q < i .tree .junctions → i .d l q ≤ upper i l q
+      unfolding upper sheetAt
+      upper-le l q a b = leastOf-le (λ r. i .d (r .place) l + i .d (r .place) q) (i .d l q) (marks i 0) (shape .marked 0 (shape .root))
+          (λ m e. omega (arith, metric .triangle l (m .place) q a (shape .places 0 m e) b, symmetric .turn l (m .place) a (shape .places 0 m e)))
+
+      module _ (truth : Truth i) where
+        markBound-le : (r : ℕ) (m : Mark) (y q : ℕ) → Mem m (marks i r) → Below i r y → q < i .tree .junctions → markBound i q m ≤ i .d q y
+        unfolding markBound
+        markBound-le r m y q e b c =
+            crewBound-le (lower i l q) (upper i l q) (m .least) (m .greatest) (i .d l q) (i .d l y) (i .d q y)
+            (lower-le l q a c) (upper-le l q a c) (truth .least r m y e b) (truth .greatest r m y e b)
+            (omega (arith, metric .triangle l y q a (below-range b) c, symmetric .turn q y c (below-range b)))
+            (metric .triangle l q y a c (below-range b))
+          where
+            l : ℕ
+            l = m .place
+
+            a : l < i .tree .junctions
+            a = shape .places r m e
+
+        -- a region's bound is at most the aggregate of every yard below it
+        pub bound-le : {r y : ℕ} → Below i r y → bound i r ≤ total i y
+        unfolding bound total
+        bound-le {r} {y} b = over-mono (λ q. greatestOf (markBound i q) (marks i r)) (λ q. i .d q y)
+            (λ q k. greatestOf-le (markBound i q) (i .d q y) (marks i r) (λ m e. markBound-le r m y q e b (shape .crews q k)))
+
+        -- a yard's bound is at most its aggregate
+        pub yardBound-le : (r : ℕ) (m : Mark) (e : Element) → T (leaf i r) → Mem m (marks i r) → Mem e (m .list) → yardBound i m e ≤ total i (e .yard)
+        unfolding yardBound total listApart
+        yardBound-le r m e l k j = over-mono (λ q. max (lower i (e .yard) q) (apart (i .d (m .place) q) (e .distance))) (λ q. i .d q (e .yard))
+            (λ q c. one q (shape .crews q c))
+          where
+            y : e .yard < i .tree .junctions
+            y = shape .yards r m e l k j
+
+            one : (q : ℕ) → q < i .tree .junctions → max (lower i (e .yard) q) (apart (i .d (m .place) q) (e .distance)) ≤ i .d q (e .yard)
+            one q c = rw (truth .lists r m e l k j)
+                (omega (arith, lower-le (e .yard) q y c, symmetric .turn q (e .yard) c y, apart-le (m .place) q (e .yard) (shape .places r m k) c y))
+
+        pub f-le-total : (r : ℕ) (m : Mark) (e : Element) → T (leaf i r) → Mem m (marks i r) → Mem e (m .list) → f i m e ≤ total i (e .yard)
+        f-le-total r m e l k j = omega (arith, f-le m e, yardBound-le r m e l k j)

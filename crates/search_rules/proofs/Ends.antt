@@ -1,0 +1,302 @@
+-- A step for each inner region and two for each yard are enough to settle a search, whatever the tree's numbers say. Assumes nothing.
+use mathlib.Core.Path.{_≡_, refl, ap, _∙_}
+use mathlib.Core.Logic.{_⊎_, inl, inr, _≢_}
+use mathlib.Core.Bool.{Bool, true, false, not, _&&_, _||_}
+use mathlib.Core.List.{List, [], _∷_, List·Memᴰ as Mem, List·Memᴰ·head as head, List·Memᴰ·tail as tail}
+use mathlib.Core.Option.{Option, none, some}
+use Prim.Native.Nat.{ℕ, zero, suc, _+_, _*_, _≤_, _<_, max}
+use native.Mathlib.Nat.{add-zero, add-suc}
+use native.Mathlib.Omega.{arith}
+use lib.ListN.{length, set}
+use lib.Dec.{T, eqb, T-not, not-T}
+use Rattle.book.specs.Choose.{choose}
+use Rattle.book.proofs.Choosing.{choose-case, choose-yes, choose-no}
+use Rattle.book.proofs.Lists.{or-left, or-right}
+use Rattle.tree_layout.specs.Values.{Element, Mark, Region, regionAt}
+use Rattle.tree.specs.Yards.{numbers, sumFrom, oneInner, inners}
+use Rattle.tree.proofs.Counts.{numbers-none, numbers-more, numbers-mem, sum-none, sum-more, one-inner, inners-sum}
+use Rattle.search_rules.specs.Instance.{Instance, size, children, marks, leaf}
+use Rattle.search_rules.specs.Bounds.{chosen, yardBound}
+use Rattle.search_rules.specs.Queue.{unqueued}
+use Rattle.search_rules.specs.Step.{State, left, againKey, nextF, openInner, queueNext, takeYard, step, settled, start}
+use Rattle.search_rules.specs.Run.{Outcome, advance, run}
+use Rattle.search_rules.specs.Facts.{Below, inside, WellFormed}
+use Rattle.search_rules.proofs.Queue.{seen, key, has, has-key, Entered, queued-child, kept}
+use Rattle.search_rules.proofs.Stepping.{step-case}
+use Rattle.search_rules.proofs.Kept.{Kept, left-not, left-new, region-range, InnerKey, child, taken, same, inner-key, inner-first, fresh-child, mark-mem, yard-fits, leaf-yard-key, leaf-region-key, taken-yard-key, region-case, run-kept}
+
+-- How many numbers of a list pass a test.
+unfoldable pub tally : (ℕ → Bool) → List ℕ → ℕ
+tally p [] = 0
+tally p (x ∷ xs) = choose (p x) 1 0 + tally p xs
+
+not-twice : (b : Bool) → T b → T (not (not b))
+not-twice true t = tt
+not-twice false t = absurd t
+
+tally-length : (p : ℕ → Bool) (l : List ℕ) → tally p l ≤ length l
+unfolding tally
+tally-length p [] = omega arith
+tally-length p (x ∷ l) = choose-case (λ c. c + tally p l ≤ suc (length l)) (p x) (λ t. omega (arith, tally-length p l)) (λ t. omega (arith, tally-length p l))
+
+module _ (p q : ℕ → Bool) (sub : (x : ℕ) → T (q x) → T (p x)) where
+  one-le : (x : ℕ) → choose (q x) 1 0 ≤ choose (p x) 1 0
+  one-le x = choose-case (λ z. z ≤ choose (p x) 1 0) (q x) (λ t. rw (choose-yes {A = ℕ} (p x) 1 0 (sub x t)) (omega arith)) (λ t. omega arith)
+
+  tally-le : (l : List ℕ) → tally q l ≤ tally p l
+  unfolding tally
+  tally-le [] = omega arith
+  tally-le (x ∷ l) = omega (arith, one-le x, tally-le l)
+
+  tally-less : (u : ℕ) (l : List ℕ) → Mem u l → T (p u) → T (not (q u)) → tally q l < tally p l
+  unfolding tally
+  tally-less u (x ∷ l) (head e) s t = omega (arith, choose-no {A = ℕ} (q x) 1 0 (rw e at t), choose-yes {A = ℕ} (p x) 1 0 (rw e at s), tally-le l)
+  tally-less u (x ∷ l) (tail k) s t = omega (arith, one-le x, tally-less u l k s t)
+
+-- ---- what is left to do
+
+module _ (i : Instance) where
+  -- how many inner regions there are, counted by their numbers
+  innerCount : ℕ
+  innerCount = tally (λ r. not (leaf i r)) (numbers (size i) 0)
+
+  inner-sum : (n j : ℕ) → tally (λ r. not (leaf i r)) (numbers n j) ≡ sumFrom (i .tree .regions) oneInner n j
+  unfolding tally leaf
+  inner-sum zero j = rw (numbers-none, sum-none) refl
+  inner-sum (suc n) j = rw (numbers-more, sum-more, inner-sum n (suc j), one-inner) (ap (λ x. x + sumFrom (i .tree .regions) oneInner n (suc j)) one)
+    where
+      flip : (b : Bool) → _≡_ {A = ℕ} (choose (not b) 1 0) (choose b 0 1)
+      flip b = choose-case (λ (z : ℕ). choose (not b) 1 0 ≡ z) b (λ t. choose-no (not b) 1 0 (not-twice b t)) (λ t. choose-yes (not b) 1 0 t)
+
+      one : _≡_ {A = ℕ} (choose (not (leaf i j)) 1 0) (choose (eqb (regionAt (i .tree .regions) j .children) 0) 0 1)
+      one = flip (eqb (regionAt (i .tree .regions) j .children) 0)
+
+  inner-count : innerCount ≡ inners (i .tree)
+  unfolding innerCount size
+  inner-count = inner-sum (length (i .tree .regions)) 0 ∙ rw inners-sum refl
+
+  -- An inner region that has not been taken.
+  unopened : State → ℕ → Bool
+  unopened st r = not (leaf i r) && (has (key (st .regionKeys) r) || not (has (key (st .firsts) r)))
+
+  -- A yard that has not left its leaf.
+  unleft : State → ℕ → Bool
+  unleft st y = not (left (st .gone) y)
+
+  -- A yard that has not been measured.
+  unmeasured : State → ℕ → Bool
+  unmeasured st y = not (left (st .gone) y) || has (key (st .yardKeys) y)
+
+  work : List ℕ → State → ℕ
+  work ys st = tally (unopened st) (numbers (size i) 0) + tally (unleft st) ys + tally (unmeasured st) ys
+
+  work-most : (ys : List ℕ) (st : State) → work ys st ≤ innerCount + 2 * length ys
+  unfolding work innerCount unopened
+  work-most ys st = omega (arith, inner, tally-length (unleft st) ys, tally-length (unmeasured st) ys)
+    where
+      first : (a b : Bool) → T (a && b) → T a
+      first true b t = tt
+      first false b t = absurd t
+
+      inner : tally (unopened st) (numbers (size i) 0) ≤ tally (λ r. not (leaf i r)) (numbers (size i) 0)
+      inner = tally-le (λ r. not (leaf i r)) (unopened st) (λ r t. first (not (leaf i r)) (has (key (st .regionKeys) r) || not (has (key (st .firsts) r))) t) (numbers (size i) 0)
+
+  module _ (well : WellFormed i) (ys : List ℕ) (all : (y : ℕ) → Below i 0 y → Mem y ys) (st : State) (was : Kept i st) where
+    -- the tests, of their parts
+    not-leaf : (l k f : Bool) → T (not l && (k || not f)) → T (not l)
+    not-leaf true k f t = absurd t
+    not-leaf false k f t = tt
+
+    fresh-open : (l k f : Bool) → T (not l) → T (not f) → T (not l && (k || not f))
+    fresh-open true k f s t = absurd s
+    fresh-open false true f s t = tt
+    fresh-open false false f s t = t
+
+    queued-open : (l k f : Bool) → T (not l) → T k → T (not l && (k || not f))
+    queued-open true k f s t = absurd s
+    queued-open false true f s t = tt
+    queued-open false false f s t = absurd t
+
+    taken-closed : (l f : Bool) → T f → T (not (not l && (false || not f)))
+    taken-closed true f t = tt
+    taken-closed false true t = tt
+    taken-closed false false t = absurd t
+
+    or-more : (a c b : Bool) → (T c → T a) → T (c || b) → T (a || b)
+    or-more true c b f t = tt
+    or-more false true b f t = absurd (f tt)
+    or-more false false b f t = t
+
+    module _ (r a : ℕ) (at : key (st .regionKeys) r ≡ some a) where
+      inner-less : T (not (leaf i r)) → work ys (openInner i st r a) < work ys st
+      unfolding work unopened unleft unmeasured openInner
+      inner-less inner = omega (
+        arith,
+        tally-less (unopened st) (unopened new) sub r (numbers (size i) 0) (numbers-mem (size i) 0 r (omega arith) (omega (arith, region-range i well st was r at)))
+            (queued-open (leaf i r) (has (key (st .regionKeys) r)) (has (key (st .firsts) r)) inner (has-key at)) closed,
+      )
+        where
+          new : State
+          new = openInner i st r a
+
+          -- r has a first key, and is no longer queued
+          first-r : {o : Option ℕ} → Entered i a (children i r) (st .firsts) r o → T (has o)
+          first-r (queued-child k) = tt
+          first-r (kept n e) = rw e (was .has-first r a at)
+
+          closed-at : {o : Option ℕ} → InnerKey i well st was r a at r o → T (not (not (leaf i r) && (has o || not (has (key (new .firsts) r)))))
+          closed-at (child k) = absurd (omega (arith, well .shape .rise r r k))
+          closed-at (taken p) = taken-closed (leaf i r) (has (key (new .firsts) r)) (first-r (inner-first i well st was r a at r))
+          closed-at (same p n q) = absurd (p refl)
+
+          closed : T (not (unopened new r))
+          closed = closed-at (inner-key i well st was r a at r)
+
+          first-at : (v : ℕ) → v ≡ r → {p : Option ℕ} → Entered i a (children i r) (st .firsts) v p → T (has p)
+          first-at v s (queued-child k) = tt
+          first-at v s (kept n e) = rw (e, s) (was .has-first r a at)
+
+          by-key : (v : ℕ) {o p : Option ℕ} → InnerKey i well st was r a at v o → Entered i a (children i r) (st .firsts) v p → T (not (leaf i v) && (has o || not (has p))) → T (unopened st v)
+          by-key v {p = p} (child k) x t = fresh-open (leaf i v) (has (key (st .regionKeys) v)) (has (key (st .firsts) v)) (not-leaf (leaf i v) true (has p) t)
+              (not-T (has (key (st .firsts) v)) (fresh-child i well st was r a at v k))
+          by-key v {p = p} (taken s) x t = absurd (T-not (not (leaf i v) && (false || not (has p))) (taken-closed (leaf i v) (has p) (first-at v s x)) t)
+          by-key v {o} {p} (same s n q) x t = go x t
+            where
+              go : {p : Option ℕ} → Entered i a (children i r) (st .firsts) v p → T (not (leaf i v) && (has o || not (has p))) → T (unopened st v)
+              go (queued-child k) t = absurd (n k)
+              go (kept m e) t = rw (q, e) at t
+
+          sub : (v : ℕ) → T (unopened new v) → T (unopened st v)
+          sub v t = by-key v (inner-key i well st was r a at v) (inner-first i well st was r a at v) t
+
+      leaf-less : (is-leaf : T (leaf i r)) (first : ℕ) → key (st .firsts) r ≡ some first → (e : Element) → (mem : Mem e (chosen i r .list)) → T (not (left (st .gone) (e .yard)))
+          → work ys (queueNext i st r first (chosen i r) e) < work ys st
+      unfolding work unopened unleft unmeasured queueNext
+      leaf-less is-leaf first first-is e mem stays = omega (
+        arith,
+        tally-le (unopened st) (unopened new) opened (numbers (size i) 0),
+        tally-less (unleft st) (unleft new) (left-not (st .gone) y fits) y ys mine stays marked,
+        tally-le (unmeasured st) (unmeasured new) measured ys,
+      )
+        where
+          m : Mark
+          m = chosen i r
+
+          y : ℕ
+          y = e .yard
+
+          new : State
+          new = queueNext i st r first m e
+
+          gone′ : List Bool
+          gone′ = set (st .gone) y true
+
+          below-n : y < i .tree .junctions
+          below-n = yard-fits i well st was r a at is-leaf first first-is e mem stays
+
+          fits : y < length (st .gone)
+          fits = rw (was .sizes .gone) below-n
+
+          mine : Mem y ys
+          mine = all y (was .regions-in r a y at (inside m is-leaf (mark-mem i well st was r a at is-leaf) (record { element = e; mem = mem; names = refl })))
+
+          marked : T (not (not (left gone′ y)))
+          marked = twice (left gone′ y) (left-new (st .gone) y fits)
+            where
+              twice : (b : Bool) → T b → T (not (not b))
+              twice true t = tt
+              twice false t = absurd t
+
+          opened : (v : ℕ) → T (unopened new v) → T (unopened st v)
+          opened v t = leaf-region-key i well st was r a at is-leaf first first-is e mem stays (λ o. T (not (leaf i v) && (has o || not (has (key (st .firsts) v)))) → T (unopened st v)) v
+              (λ p s. absurd (T-not (leaf i v) (not-leaf (leaf i v) (has (seen (againKey first (nextF i gone′ m)))) (has (key (st .firsts) v)) s) (rw p is-leaf)))
+              (λ p s. s) t
+
+          measured : (v : ℕ) → T (unmeasured new v) → T (unmeasured st v)
+          measured v t = leaf-yard-key i well st was r a at is-leaf first first-is e mem stays (λ o. T (not (left gone′ v) || has o) → T (unmeasured st v)) v
+              (λ p s. or-left (not (left (st .gone) v)) (has (key (st .yardKeys) v)) (rw p stays))
+              (λ p s. or-more (not (left (st .gone) v)) (not (left gone′ v)) (has (key (st .yardKeys) v)) (left-not (st .gone) y fits v) s) t
+
+    yard-less : (y b : ℕ) → key (st .yardKeys) y ≡ some b → work ys (takeYard i st y) < work ys st
+    unfolding work unopened unleft unmeasured takeYard
+    yard-less y b at = omega (
+      arith,
+      tally-less (unmeasured st) (unmeasured new) measured y ys (all y (was .yards-in y b at))
+          (or-right (not (left (st .gone) y)) (has (key (st .yardKeys) y)) (has-key at)) done,
+    )
+      where
+        new : State
+        new = takeYard i st y
+
+        yard-key : (P : Option ℕ → Type 0) (v : ℕ) → (v ≡ y → P none) → (v ≢ y → P (key (st .yardKeys) v)) → P (key (set (st .yardKeys) y unqueued) v)
+        yard-key = taken-yard-key i well st was y b at
+
+        measured : (v : ℕ) → T (unmeasured new v) → T (unmeasured st v)
+        measured v = yard-key (λ o. T (not (left (st .gone) v) || has o) → T (unmeasured st v)) v (λ p s. or-left (not (left (st .gone) v)) (has (key (st .yardKeys) v)) (plain (not (left (st .gone) v)) s)) (λ p s. s)
+          where
+            plain : (b : Bool) → T (b || false) → T b
+            plain true t = tt
+            plain false t = t
+
+        done : T (not (unmeasured new y))
+        done = yard-key (λ o. T (not (not (left (st .gone) y) || has o))) y (λ p. gone (left (st .gone) y) (was .queued-left y b at)) (λ p. absurd (p refl))
+          where
+            gone : (b : Bool) → T b → T (not (not b || false))
+            gone true t = tt
+            gone false t = absurd t
+
+    -- Each step leaves less to do.
+    step-less : T (not (settled i st)) → work ys (step i st) < work ys st
+    step-less u = step-case i st (was .sizes) (λ new. work ys new < work ys st) u
+        (λ r a at due. region-case i well st was (λ new. work ys new < work ys st) r a at (λ l. inner-less r a at l) (λ l first q e k n h. leaf-less r a at l first q e k n))
+        (λ y b at due. yard-less y b at)
+
+  module _ (well : WellFormed i) (ys : List ℕ) (all : (y : ℕ) → Below i 0 y → Mem y ys) where
+    so-far : (limit : ℕ) → T (settled i (run i limit .state)) ⊎ (work ys (run i limit .state) + limit ≤ innerCount + 2 * length ys)
+    unfolding run advance
+    so-far zero = inr (omega (arith, work-most ys (start i)))
+    so-far (suc limit) = choose-case (λ (o : Outcome). T (settled i (o .state)) ⊎ (work ys (o .state) + suc limit ≤ innerCount + 2 * length ys)) (settled i (run i limit .state))
+        (λ t. inl t) (λ t. on t (so-far limit))
+      where
+        st : State
+        st = run i limit .state
+
+        on : T (not (settled i st)) → T (settled i st) ⊎ (work ys st + limit ≤ innerCount + 2 * length ys) → T (settled i (step i st)) ⊎ (work ys (step i st) + suc limit ≤ innerCount + 2 * length ys)
+        on t (inl s) = absurd (T-not (settled i st) t s)
+        on t (inr h) = inr (omega (arith, step-less well ys all st (run-kept i well limit) t))
+
+    -- a limit of one step for each inner region and two for each yard settles
+    pub enough : (limit : ℕ) → inners (i .tree) + 2 * length ys ≤ limit → T (settled i (run i limit .state))
+    enough limit h = go (so-far limit)
+      where
+        st : State
+        st = run i limit .state
+
+        decide : (b : Bool) → (T (not b) → ⊥) → T b
+        decide true f = tt
+        decide false f = f tt
+
+        go : T (settled i st) ⊎ (work ys st + limit ≤ innerCount + 2 * length ys) → T (settled i st)
+        go (inl t) = t
+        go (inr w) = decide (settled i st) (λ t. omega (arith, inner-count, step-less well ys all st (run-kept i well limit) t))
+
+  -- a search that isn't settled has taken as many steps as the limit
+  pub unsettled-taken : (limit : ℕ) → T (not (settled i (run i limit .state))) → run i limit .taken ≡ limit
+  unfolding run advance
+  unsettled-taken zero = λ t. refl
+  unsettled-taken (suc limit) = choose-case (λ (o : Outcome). T (not (settled i (o .state))) → o .taken ≡ suc limit) (settled i (run i limit .state))
+      (λ s t. absurd (T-not (settled i (run i limit .state)) t s)) (λ s t. ap suc (unsettled-taken limit s))
+
+  pub taken-within : (limit : ℕ) → run i limit .taken ≤ limit
+  unfolding run advance
+  taken-within zero = omega arith
+  taken-within (suc limit) = choose-case (λ (o : Outcome). o .taken ≤ suc limit) (settled i (run i limit .state)) (λ t. omega (arith, taken-within limit)) (λ t. omega (arith, taken-within limit))
+
+  -- a settled search stays as it is
+  pub settled-stays : (limit : ℕ) → T (settled i (run i limit .state)) → (more : ℕ) → run i (limit + more) ≡ run i limit
+  unfolding run advance
+  settled-stays limit t zero = rw add-zero refl
+  settled-stays limit t (suc more) = rw add-suc (one (run i (limit + more)) (settled-stays limit t more))
+    where
+      one : (o : Outcome) → o ≡ run i limit → advance i o ≡ run i limit
+      one o e = rw e (choose-yes (settled i (run i limit .state)) (run i limit) (record { state = step i (run i limit .state); taken = suc (run i limit .taken) }) t)

@@ -1,0 +1,131 @@
+-- The hypotheses can be met: they hold of a tree of five regions on net N, so that the theorems say something of it. Assumes nothing.
+use mathlib.Core.Path.{_≡_, refl, ap, _∙_}
+use mathlib.Core.Bool.{Bool, true, false, not, _&&_}
+use mathlib.Core.List.{List, [], _∷_, map, List·Memᴰ as Mem, List·Memᴰ·head as head, List·Memᴰ·tail as tail, List·Memᴰ·not-nil as not-nil}
+use Prim.Native.Nat.{ℕ, zero, suc, _+_, _*_, _≤_, _<_}
+use native.Mathlib.Omega.{arith}
+use lib.ListN.{length, getD, take}
+use lib.Dec.{T, ltb, leb, eqb, ltb→lt, leb→le, eqb→eq}
+use Rattle.book.specs.Choose.{choose}
+use Rattle.book.specs.Bytes.{u8At, u16At, u32At, Bytes}
+use Rattle.book.proofs.Choosing.{and-left, and-right, choose-case}
+use Rattle.tree_layout.specs.Values.{Element, Mark, Region, leafMark, innerMark, firstDistance, lastFrom, noRegion, regionAt}
+use Rattle.tree_layout.specs.Decode.{elementAt, readList, listPart, readLists, readSpans, readMarks, markSize, recordSize, sizeAt, readRegion, readRegions, junctionCount, regionCount, yardCount, landmarkCount, decode}
+use Rattle.tree_layout.specs.Refusal.{all}
+use Rattle.tree_layout.proofs.Tests.{all-mem}
+use Rattle.tree_layout.proofs.Vectors.{fiveRegions}
+use Rattle.tree_leaf.specs.Leaf.{yardsIn, names, once, inRange, namedBy, firstList, agreeing, sameYards, leafOk}
+use Rattle.tree.specs.Shape.{childFits, siblings, subtree, treeRefusal}
+use Rattle.tree.specs.Yards.{endOf, starts, childrenOf, numbers, ownYards, yardsFrom, yardsBelow, treeYards, sumFrom, oneInner, inners}
+use Rattle.tree.proofs.Counts.{numbers-mem}
+use Rattle.tree.proofs.Vectors.{row0}
+use Rattle.search_rules.specs.Instance.{Instance}
+use Rattle.search_rules.specs.Bounds.{apart}
+use Rattle.search_rules.specs.Held.{ranked}
+use Rattle.search_rules.specs.Run.{answer}
+use Rattle.search_rules.specs.Facts.{Metric, Symmetric, Sound}
+use Rattle.search_rules.proofs.Trees.{Accepted, accepted-tree, well-formed, truth-of}
+use Rattle.search_rules.proofs.Theorems.{accepted-ends, accepted-exact}
+
+-- ---- true numbers, by a test
+
+module _ (i : Instance) where
+  -- a list's distances are those from its landmark
+  unfoldable listTrue : Mark → Bool
+  listTrue m = all (λ e. eqb (e .distance) (i .d (m .place) (e .yard))) (m .list)
+
+  -- a landmark's least and greatest enclose the distances to some yards
+  unfoldable spanTrue : List ℕ → Mark → Bool
+  spanTrue ys m = all (λ y. leb (m .least) (i .d (m .place) y) && leb (i .d (m .place) y) (m .greatest)) ys
+
+  unfoldable regionTrue : ℕ → Bool
+  regionTrue r = all (λ m. listTrue m && spanTrue (yardsBelow (i .tree .regions) r) m) (regionAt (i .tree .regions) r .marks)
+
+  unfoldable allTrue : Bool
+  allTrue = all regionTrue (numbers (length (i .tree .regions)) 0)
+
+  module _ (a : Accepted (i .tree)) (t : T allTrue) (r : ℕ) (h : r < length (i .tree .regions)) (m : Mark) (k : Mem m (regionAt (i .tree .regions) r .marks)) where
+    mark-true : T (listTrue m && spanTrue (yardsBelow (i .tree .regions) r) m)
+    unfolding allTrue regionTrue
+    mark-true = all-mem (λ m. listTrue m && spanTrue (yardsBelow (i .tree .regions) r) m) (regionAt (i .tree .regions) r .marks)
+        (all-mem regionTrue (numbers (length (i .tree .regions)) 0) t r (numbers-mem (length (i .tree .regions)) 0 r (omega arith) (omega arith))) m k
+
+    list-true : (e : Element) → Mem e (m .list) → e .distance ≡ i .d (m .place) (e .yard)
+    unfolding listTrue
+    list-true e j = eqb→eq (e .distance) (i .d (m .place) (e .yard)) (all-mem (λ e. eqb (e .distance) (i .d (m .place) (e .yard))) (m .list) (and-left (listTrue m) _ mark-true) e j)
+
+    span-true : (y : ℕ) → Mem y (yardsBelow (i .tree .regions) r) → (m .least ≤ i .d (m .place) y) × (i .d (m .place) y ≤ m .greatest)
+    unfolding spanTrue
+    span-true y j =
+        let x = all-mem (λ y. leb (m .least) (i .d (m .place) y) && leb (i .d (m .place) y) (m .greatest)) (yardsBelow (i .tree .regions) r) (and-right (listTrue m) _ mark-true) y j in
+        (leb→le (m .least) (i .d (m .place) y) (and-left (leb (m .least) (i .d (m .place) y)) _ x), leb→le (i .d (m .place) y) (m .greatest) (and-right (leb (m .least) (i .d (m .place) y)) _ x))
+
+-- ---- net N with leaf limit 1
+
+-- every number of a list is below another, and so is 0
+below-all : (n : ℕ) (l : List ℕ) → 0 < n → T (all (λ x. ltb x n) l) → (v : ℕ) → getD l v 0 < n
+unfolding all
+below-all n [] h t v = h
+below-all n (x ∷ l) h t zero = ltb→lt x n (and-left (ltb x n) _ t)
+below-all n (x ∷ l) h t (suc v) = below-all n l h (and-right (ltb x n) _ t) v
+
+unfoldable pub along : List ℕ
+along = 0 ∷ 2 ∷ 5 ∷ 9 ∷ 10 ∷ []
+
+unfoldable pub five : Instance
+five = record { code = 0; wanted = 2; crews = 0 ∷ 2 ∷ []; tree = decode fiveRegions; d = λ u v. apart (getD along u 0) (getD along v 0) }
+
+bytes : Bytes fiveRegions
+unfolding Bytes fiveRegions all
+bytes v = below-all 256 fiveRegions (omega arith) tt v
+
+accepted : treeRefusal fiveRegions ≡ 0
+accepted = ap (λ (l : List ℕ). getD l 1 9) row0
+
+tree-accepted : Accepted (five .tree)
+unfolding five
+tree-accepted = accepted-tree fiveRegions bytes accepted
+
+metric : Metric five
+unfolding five apart
+metric = record { triangle = λ u v w a b c. omega arith }
+
+symmetric : Symmetric five
+unfolding five apart
+symmetric = record { turn = λ u v a b. omega arith }
+
+near : (u v : ℕ) → apart (getD along u 0) (getD along v 0) ≤ 67042305
+unfolding along apart all
+near u v = omega (arith, below-all 11 along (omega arith) tt u, below-all 11 along (omega arith) tt v)
+
+true-numbers : T (allTrue five)
+unfolding allTrue regionTrue listTrue spanTrue five along apart all numbers yardsBelow yardsFrom ownYards yardsIn endOf subtree siblings childFits leafOk agreeing sameYards namedBy inRange once names firstList fiveRegions choose u8At u16At u32At leafMark innerMark firstDistance lastFrom noRegion regionAt elementAt readList listPart readLists readSpans readMarks markSize recordSize sizeAt readRegion readRegions junctionCount regionCount yardCount landmarkCount decode
+true-numbers = tt
+
+crews-there : (q : ℕ) → Mem q (0 ∷ 2 ∷ []) → q < 5
+crews-there q (head e) = rw e (omega arith)
+crews-there q (tail (head e)) = rw e (omega arith)
+
+pub five-sound : Sound five
+unfolding five junctionCount decode fiveRegions u16At
+five-sound = record {
+  well = well-formed five tree-accepted crews-there (omega arith) (λ u v h k. near u v);
+  metric = metric;
+  symmetric = symmetric;
+  truth = truth-of five tree-accepted (λ r h c m k. list-true five tree-accepted true-numbers r h m k) (λ r h m k. span-true five tree-accepted true-numbers r h m k);
+}
+
+-- two inner regions and twice three yards settle, and the first two of the three yards are listed
+yards-are : treeYards (five .tree) ≡ 1 ∷ 3 ∷ 4 ∷ []
+unfolding five all numbers treeYards yardsFrom ownYards yardsIn firstList fiveRegions choose u8At u16At u32At leafMark innerMark firstDistance lastFrom noRegion regionAt elementAt readList listPart readLists readSpans readMarks markSize recordSize sizeAt readRegion readRegions junctionCount regionCount yardCount landmarkCount decode
+yards-are = refl
+
+five-count : inners (five .tree) + 2 * five .tree .yards ≤ 8
+unfolding inners sumFrom oneInner five fiveRegions choose u8At u16At u32At leafMark innerMark firstDistance lastFrom noRegion regionAt elementAt readList listPart readLists readSpans readMarks markSize recordSize sizeAt readRegion readRegions junctionCount regionCount yardCount landmarkCount decode
+five-count = omega arith
+
+pub five-settles : T (answer five 8 .settled)
+five-settles = accepted-ends five tree-accepted 8 (five-sound .well) five-count
+
+pub five-lists : answer five 8 .listed ≡ take (five .wanted) (ranked five (1 ∷ 3 ∷ 4 ∷ []))
+five-lists = rw (← yards-are) (accepted-exact five tree-accepted 8 five-sound five-settles)

@@ -1,0 +1,427 @@
+-- What every step keeps, whatever the tree's numbers say. Assumes nothing.
+use mathlib.Core.Path.{_≡_, refl, sym, _∙_}
+use mathlib.Core.Logic.{_⊎_, inl, inr, _≢_}
+use mathlib.Core.Bool.{Bool, true, false, not}
+use mathlib.Core.List.{List, [], _∷_, List·Memᴰ as Mem, List·Memᴰ·head as head, List·Memᴰ·not-nil as not-nil, List·Memᴰ·cases-cons as cases-cons}
+use mathlib.Core.Option.{Option, none, some}
+use Prim.Native.Nat.{ℕ, zero, suc, _≤_, _<_, max}
+use native.Mathlib.Omega.{arith}
+use lib.ListN.{length, getD, set, take, replicate, length-set, length-replicate}
+use lib.Seq.{getD-set-same}
+use lib.Dec.{T, T-not, not-T}
+use Rattle.book.specs.Choose.{choose}
+use Rattle.book.specs.Lists.{Distinct}
+use Rattle.book.proofs.Choosing.{choose-case, choose-yes}
+use Rattle.tree_layout.specs.Values.{Element, Mark}
+use Rattle.search_rules.specs.Instance.{Instance, size, children, marks, leaf}
+use Rattle.search_rules.specs.Bounds.{bound, chosen, f, yardBound}
+use Rattle.search_rules.specs.Queue.{unqueued, queued, wordAt}
+use Rattle.search_rules.specs.Held.{insert, hold, entry, ranked}
+use Rattle.search_rules.specs.Step.{State, left, noElement, againKey, nextPlace, nextF, queueChildren, openInner, queueNext, closeLeaf, openLeaf, takeRegion, takeYard, step, settled, start}
+use Rattle.search_rules.specs.Run.{Outcome, advance, run}
+use Rattle.search_rules.specs.Facts.{Below, inside, under, Shape, WellFormed}
+use Rattle.search_rules.proofs.Bounds.{chosen-mem}
+use Rattle.search_rules.proofs.Limits.{bound-most, f-most, yardBound-most}
+use Rattle.search_rules.proofs.Held.{take-insert}
+use Rattle.search_rules.proofs.Queue.{seen, seen-key, seen-mark, key, key-word, key-small, key-range, has, has-key, no-key, key-eq, small-queued, set-case, key-set, key-put, key-drop, Next, no-more, one-more, next-is, Again, empty, more, again-is, Entered, queued-child, kept, queueChildren-is, queueChildren-length}
+use Rattle.search_rules.proofs.Stepping.{Sizes, step-case}
+
+-- Some element of a landmark's list has not left.
+pub record OneLeft (gone : List Bool) (m : Mark) : Type 0 where
+  pub element : Element
+  pub mem : Mem element (m .list)
+  pub stays : T (not (left gone (element .yard)))
+
+pub record Kept (i : Instance) (st : State) : Type 0 where
+  pub sizes : Sizes i st
+  -- a queued yard has left its leaf and isn't measured, a measured one has left its leaf, and none is measured twice
+  pub queued-left : (y a : ℕ) → key (st .yardKeys) y ≡ some a → T (left (st .gone) y)
+  pub queued-new : (y a : ℕ) → key (st .yardKeys) y ≡ some a → Mem y (st .measured) → ⊥
+  pub measured-left : (y : ℕ) → Mem y (st .measured) → T (left (st .gone) y)
+  pub once : Distinct (st .measured)
+  -- the held yards are the first k measured
+  pub first-ranked : st .held ≡ take (i .wanted) (ranked i (st .measured))
+  -- what is queued or measured belongs to the tree
+  pub regions-in : (r a y : ℕ) → key (st .regionKeys) r ≡ some a → Below i r y → Below i 0 y
+  pub yards-in : (y a : ℕ) → key (st .yardKeys) y ≡ some a → Below i 0 y
+  pub measured-in : (y : ℕ) → Mem y (st .measured) → Below i 0 y
+  -- a queued region has a first key; when one has, its parent has been taken
+  pub has-first : (r a : ℕ) → key (st .regionKeys) r ≡ some a → T (has (key (st .firsts) r))
+  pub parent-first : (r c : ℕ) → Mem c (children i r) → T (has (key (st .firsts) c)) → T (has (key (st .firsts) r))
+  pub parent-taken : (r c : ℕ) → Mem c (children i r) → T (has (key (st .firsts) c)) → key (st .regionKeys) r ≡ none
+  -- of a queued leaf some yard has not left, and of one that was never queued none has
+  pub leaf-open : (r a : ℕ) → T (leaf i r) → key (st .regionKeys) r ≡ some a → OneLeft (st .gone) (chosen i r)
+  pub leaf-fresh : (r : ℕ) (e : Element) → T (leaf i r) → r < size i → Mem e (chosen i r .list) → T (not (has (key (st .firsts) r))) → T (not (left (st .gone) (e .yard)))
+
+some-element : (es : List Element) → es ≢ [] → (e : Element) × Mem e es
+some-element [] n = absurd (n refl)
+some-element (e ∷ es) n = (e, head refl)
+
+-- ---- marking a yard
+
+module _ (gone : List Bool) (y : ℕ) (h : y < length gone) where
+  pub left-new : T (left (set gone y true) y)
+  unfolding left
+  left-new = rw (getD-set-same gone y true false h) tt
+
+  pub left-more : (v : ℕ) → T (left gone v) → T (left (set gone y true) v)
+  unfolding left
+  left-more v t = set-case T gone y true false h v (λ e. tt) (λ e. t)
+
+  pub left-other : (v : ℕ) → v ≢ y → T (not (left gone v)) → T (not (left (set gone y true) v))
+  unfolding left
+  left-other v n t = set-case (λ b. T (not b)) gone y true false h v (λ e. absurd (n e)) (λ e. t)
+
+  -- What has not left after it is another, and had not left before.
+  pub left-not : (v : ℕ) → T (not (left (set gone y true) v)) → T (not (left gone v))
+  unfolding left
+  left-not v = set-case (λ b. T (not b) → T (not (left gone v))) gone y true false h v (λ e t. absurd t) (λ e t. t)
+
+first-of : (o : Option ℕ) → T (has o) → (a : ℕ) × (o ≡ some a)
+first-of none t = absurd t
+first-of (some a) t = (a, refl)
+
+module _ (i : Instance) (well : WellFormed i) (st : State) (was : Kept i st) where
+  pub region-range : (r : ℕ) {a : ℕ} → key (st .regionKeys) r ≡ some a → r < size i
+  region-range r e = rw (← was .sizes .regions) (key-range (st .regionKeys) r e)
+
+  pub yard-range : (y : ℕ) {a : ℕ} → key (st .yardKeys) y ≡ some a → y < i .tree .junctions
+  yard-range y e = rw (← was .sizes .yards) (key-range (st .yardKeys) y e)
+
+  -- ---- an inner region
+
+  module _ (r a : ℕ) (at : key (st .regionKeys) r ≡ some a) where
+    -- What a region's key becomes when r's children are queued.
+    pub data InnerKey (v : ℕ) : Option ℕ → Type 0 where
+      child : Mem v (children i r) → InnerKey v (some (max (bound i v) a))
+      taken : v ≡ r → InnerKey v none
+      same : {o : Option ℕ} → v ≢ r → (Mem v (children i r) → ⊥) → o ≡ key (st .regionKeys) v → InnerKey v o
+
+    pub inner-key : (v : ℕ) → InnerKey v (key (openInner i st r a .regionKeys) v)
+    unfolding openInner
+    inner-key v = go (queueChildren-is i a (key-small (st .regionKeys) r at) (λ c. omega (arith, bound-most i well c)) (children i r) ks (λ c k. rw (length-set (st .regionKeys) r unqueued ∙ was .sizes .regions) (well .shape .range r c k)) v)
+      where
+        ks : List ℕ
+        ks = set (st .regionKeys) r unqueued
+
+        go : {o : Option ℕ} → Entered i a (children i r) ks v o → InnerKey v o
+        go (queued-child k) = child k
+        go (kept {o = o} n e) = rw e (key-drop (λ p. InnerKey v p) (st .regionKeys) r (rw (was .sizes .regions) (region-range r at)) v (λ p. taken p) (λ p. same p n refl))
+
+    pub inner-first : (v : ℕ) → Entered i a (children i r) (st .firsts) v (key (openInner i st r a .firsts) v)
+    unfolding openInner
+    inner-first v = queueChildren-is i a (key-small (st .regionKeys) r at) (λ c. omega (arith, bound-most i well c)) (children i r) (st .firsts) (λ c k. rw (was .sizes .firsts) (well .shape .range r c k)) v
+
+    -- A child was never queued before.
+    pub fresh-child : (c : ℕ) → Mem c (children i r) → T (has (key (st .firsts) c)) → ⊥
+    fresh-child c k t = no-key (sym (was .parent-taken r c k t) ∙ at)
+
+    first-more : (v : ℕ) → T (has (key (st .firsts) v)) → T (has (key (openInner i st r a .firsts) v))
+    first-more v t = go (inner-first v)
+      where
+        go : {o : Option ℕ} → Entered i a (children i r) (st .firsts) v o → T (has o)
+        go (queued-child k) = tt
+        go (kept n e) = rw e t
+
+    module _ (inner : T (not (leaf i r))) where
+      inner-sizes : Sizes i (openInner i st r a)
+      unfolding openInner
+      inner-sizes = record {
+        regions = queueChildren-length i a (children i r) (set (st .regionKeys) r unqueued) ∙ length-set (st .regionKeys) r unqueued ∙ was .sizes .regions;
+        yards = was .sizes .yards;
+        firsts = queueChildren-length i a (children i r) (st .firsts) ∙ was .sizes .firsts;
+        gone = was .sizes .gone;
+      }
+
+      inner-kept : Kept i (openInner i st r a)
+      unfolding openInner
+      inner-kept = record {
+        sizes = inner-sizes;
+        queued-left = was .queued-left;
+        queued-new = was .queued-new;
+        measured-left = was .measured-left;
+        once = was .once;
+        first-ranked = was .first-ranked;
+        regions-in = λ v b y e below. in-tree v b y below (inner-key v) e;
+        yards-in = was .yards-in;
+        measured-in = was .measured-in;
+        has-first = λ v b e. first v b (inner-key v) e;
+        parent-first = λ s c k t. parent s c k (inner-first c) t;
+        parent-taken = λ s c k t. gone-by s c k (inner-first c) t;
+        leaf-open = λ v b l e. opens v b l (inner-key v) e;
+        leaf-fresh = λ v e l h k t. fresh v e l h k (inner-first v) t;
+      }
+        where
+          in-tree : (v b y : ℕ) → Below i v y → {o : Option ℕ} → InnerKey v o → o ≡ some b → Below i 0 y
+          in-tree v b y below (child k) e = was .regions-in r a y at (under v inner k below)
+          in-tree v b y below (taken p) e = absurd (no-key e)
+          in-tree v b y below (same p n q) e = was .regions-in v b y (sym q ∙ e) below
+
+          first : (v b : ℕ) {o : Option ℕ} → InnerKey v o → o ≡ some b → T (has (key (openInner i st r a .firsts) v))
+          first v b (child k) e = go (inner-first v)
+            where
+              go : {p : Option ℕ} → Entered i a (children i r) (st .firsts) v p → T (has p)
+              go (queued-child j) = tt
+              go (kept n q) = absurd (n k)
+          first v b (taken p) e = absurd (no-key e)
+          first v b (same p n q) e = first-more v (was .has-first v b (sym q ∙ e))
+
+          parent : (s c : ℕ) → Mem c (children i s) → {o : Option ℕ} → Entered i a (children i r) (st .firsts) c o → T (has o) → T (has (key (openInner i st r a .firsts) s))
+          parent s c k (queued-child j) t = rw (well .shape .parent s r c k j) (first-more r (was .has-first r a at))
+          parent s c k (kept n e) t = first-more s (was .parent-first s c k (rw e at t))
+
+          is-taken : {o : Option ℕ} → InnerKey r o → o ≡ none
+          is-taken (child k) = absurd (omega (arith, well .shape .rise r r k))
+          is-taken (taken p) = refl
+          is-taken (same p n q) = absurd (p refl)
+
+          gone-by : (s c : ℕ) → Mem c (children i s) → {o : Option ℕ} → Entered i a (children i r) (st .firsts) c o → T (has o) → key (openInner i st r a .regionKeys) s ≡ none
+          gone-by s c k (queued-child j) t = rw (well .shape .parent s r c k j) (is-taken (inner-key r))
+          gone-by s c k (kept n e) t = go (inner-key s)
+            where
+              go : {p : Option ℕ} → InnerKey s p → p ≡ none
+              go (child j) = absurd (fresh-child s j (was .parent-first s c k (rw e at t)))
+              go (taken p) = refl
+              go (same p m q) = q ∙ was .parent-taken s c k (rw e at t)
+
+          opens : (v b : ℕ) → T (leaf i v) → {o : Option ℕ} → InnerKey v o → o ≡ some b → OneLeft (st .gone) (chosen i v)
+          opens v b l (child k) e =
+              let mark = chosen-mem i v (well .shape .marked v (well .shape .range r v k)) in
+              let x = some-element (chosen i v .list) (well .shape .some-yard v (chosen i v) l mark) in
+              record { element = x .0; mem = x .1; stays = was .leaf-fresh v (x .0) l (well .shape .range r v k) (x .1) (not-T (has (key (st .firsts) v)) (fresh-child v k)) }
+          opens v b l (taken p) e = absurd (no-key e)
+          opens v b l (same p n q) e = was .leaf-open v b l (sym q ∙ e)
+
+          fresh : (v : ℕ) (g : Element) → T (leaf i v) → v < size i → Mem g (chosen i v .list) → {o : Option ℕ} → Entered i a (children i r) (st .firsts) v o → T (not (has o)) → T (not (left (st .gone) (g .yard)))
+          fresh v g l h k (queued-child j) t = absurd t
+          fresh v g l h k (kept n e) t = was .leaf-fresh v g l h k (rw e at t)
+
+    -- ---- a leaf
+
+    module _ (is-leaf : T (leaf i r)) where
+      pub mark-mem : Mem (chosen i r) (marks i r)
+      mark-mem = chosen-mem i r (well .shape .marked r (region-range r at))
+
+      -- Two elements of the chosen lists of two leaves name two yards.
+      pub other-leaf : (v : ℕ) (g e : Element) → v ≢ r → T (leaf i v) → v < size i → Mem g (chosen i v .list) → Mem e (chosen i r .list) → g .yard ≢ e .yard
+      other-leaf v g e n l h k j p = n (well .shape .one-leaf v r (chosen i v) (chosen i r) (e .yard) l is-leaf (chosen-mem i v (well .shape .marked v h)) mark-mem
+          (record { element = g; mem = k; names = p }) (record { element = e; mem = j; names = refl }))
+
+      module _ (first : ℕ) (first-is : key (st .firsts) r ≡ some first) (e : Element) (mem : Mem e (chosen i r .list)) (stays : T (not (left (st .gone) (e .yard)))) where
+        pub yard-fits : e .yard < i .tree .junctions
+        yard-fits = well .shape .yards r (chosen i r) e is-leaf mark-mem mem
+
+        -- the queued yards and regions after a leaf's next yard has left
+        pub leaf-yard-key : (P : Option ℕ → Type 0) (v : ℕ) → (v ≡ e .yard → P (some (max (yardBound i (chosen i r) e) first))) → (v ≢ e .yard → P (key (st .yardKeys) v))
+            → P (key (set (st .yardKeys) (e .yard) (max (yardBound i (chosen i r) e) first)) v)
+        leaf-yard-key P v = key-put P (st .yardKeys) (e .yard) (max (yardBound i (chosen i r) e) first)
+            (omega (arith, yardBound-most i well r (chosen i r) e is-leaf mark-mem mem, key-small (st .firsts) r first-is)) (rw (was .sizes .yards) yard-fits) v
+
+        pub leaf-region-key : (P : Option ℕ → Type 0) (v : ℕ) → (v ≡ r → P (seen (againKey first (nextF i (set (st .gone) (e .yard) true) (chosen i r))))) → (v ≢ r → P (key (st .regionKeys) v))
+            → P (key (set (st .regionKeys) r (againKey first (nextF i (set (st .gone) (e .yard) true) (chosen i r)))) v)
+        leaf-region-key P v = key-set P (st .regionKeys) r (againKey first (nextF i (set (st .gone) (e .yard) true) (chosen i r))) (rw (was .sizes .regions) (region-range r at)) v
+
+        pub leaf-again : Again i (set (st .gone) (e .yard) true) first (chosen i r) (seen (againKey first (nextF i (set (st .gone) (e .yard) true) (chosen i r))))
+        leaf-again = again-is i (set (st .gone) (e .yard) true) first (chosen i r) (key-small (st .firsts) r first-is) (λ g k. omega (arith, f-most i well r (chosen i r) g is-leaf mark-mem k))
+
+        leaf-kept : Kept i (queueNext i st r first (chosen i r) e)
+        unfolding queueNext
+        leaf-kept = record {
+          sizes = record {
+            regions = length-set (st .regionKeys) r (againKey first (nextF i gone′ m)) ∙ was .sizes .regions;
+            yards = length-set (st .yardKeys) y (max (yardBound i m e) first) ∙ was .sizes .yards;
+            firsts = was .sizes .firsts;
+            gone = length-set (st .gone) y true ∙ was .sizes .gone;
+          };
+          queued-left = λ v b. leaf-yard-key (λ o. o ≡ some b → T (left gone′ v)) v (λ p q. rw p (left-new (st .gone) y fits)) (λ p q. marked v (was .queued-left v b q));
+          queued-new = λ v b. leaf-yard-key (λ o. o ≡ some b → Mem v (st .measured) → ⊥) v
+              (λ p q k. T-not (left (st .gone) y) stays (was .measured-left y (rw p at k))) (λ p q. was .queued-new v b q);
+          measured-left = λ v k. marked v (was .measured-left v k);
+          once = was .once;
+          first-ranked = was .first-ranked;
+          regions-in = λ v b z. leaf-region-key (λ o. o ≡ some b → Below i v z → Below i 0 z) v
+              (λ p q below. was .regions-in r a z at (rw p at below)) (λ p q. was .regions-in v b z q);
+          yards-in = λ v b. leaf-yard-key (λ o. o ≡ some b → Below i 0 v) v
+              (λ p q. rw p (was .regions-in r a y at (inside m is-leaf mark-mem (record { element = e; mem = mem; names = refl })))) (λ p q. was .yards-in v b q);
+          measured-in = was .measured-in;
+          has-first = λ v b. leaf-region-key (λ o. o ≡ some b → T (has (key (st .firsts) v))) v (λ p q. rw p (was .has-first r a at)) (λ p q. was .has-first v b q);
+          parent-first = was .parent-first;
+          parent-taken = λ s c k t. leaf-region-key (λ o. o ≡ none) s
+              (λ p. absurd (no-key (sym (was .parent-taken r c (rw p at k) t) ∙ at))) (λ p. was .parent-taken s c k t);
+          leaf-open = λ v b l. leaf-region-key (λ o. o ≡ some b → OneLeft gone′ (chosen i v)) v
+              (λ p q. rw p (opens (leaf-again) q)) (λ p q. others v p l (region-range v q) (was .leaf-open v b l q));
+          leaf-fresh = λ v g l h k t. fresh v g l h k t;
+        }
+          where
+            m : Mark
+            m = chosen i r
+
+            y : ℕ
+            y = e .yard
+
+            fits : y < length (st .gone)
+            fits = rw (was .sizes .gone) yard-fits
+
+            gone′ : List Bool
+            gone′ = set (st .gone) y true
+
+            marked : (v : ℕ) → T (left (st .gone) v) → T (left gone′ v)
+            marked v t = left-more (st .gone) y fits v t
+
+            opens : {b : ℕ} {o : Option ℕ} → Again i gone′ first m o → o ≡ some b → OneLeft gone′ m
+            opens (empty h) q = absurd (no-key q)
+            opens (more g k n l) q = record { element = g; mem = k; stays = n }
+
+            others : (v : ℕ) → v ≢ r → T (leaf i v) → v < size i → OneLeft (st .gone) (chosen i v) → OneLeft gone′ (chosen i v)
+            others v n l h x = record {
+              element = x .element;
+              mem = x .mem;
+              stays = left-other (st .gone) y fits (x .element .yard) (other-leaf v (x .element) e n l h (x .mem) mem) (x .stays);
+            }
+
+            fresh : (v : ℕ) (g : Element) → T (leaf i v) → v < size i → Mem g (chosen i v .list) → T (not (has (key (st .firsts) v))) → T (not (left gone′ (g .yard)))
+            fresh v g l h k t = left-other (st .gone) y fits (g .yard) (other-leaf v g e (λ p. T-not (has (key (st .firsts) v)) t (rw p (was .has-first r a at))) l h k mem) (was .leaf-fresh v g l h k t)
+
+  -- ---- a yard
+
+  module _ (y b : ℕ) (at : key (st .yardKeys) y ≡ some b) where
+    pub taken-yard-key : (P : Option ℕ → Type 0) (v : ℕ) → (v ≡ y → P none) → (v ≢ y → P (key (st .yardKeys) v)) → P (key (set (st .yardKeys) y unqueued) v)
+    taken-yard-key P v = key-drop P (st .yardKeys) y (rw (was .sizes .yards) (yard-range y at)) v
+
+    pub yard-kept : Kept i (takeYard i st y)
+    unfolding takeYard ranked hold
+    yard-kept = record {
+      sizes = record {
+        regions = was .sizes .regions;
+        yards = length-set (st .yardKeys) y unqueued ∙ was .sizes .yards;
+        firsts = was .sizes .firsts;
+        gone = was .sizes .gone;
+      };
+      queued-left = λ v c. taken-yard-key (λ o. o ≡ some c → T (left (st .gone) v)) v (λ p q. absurd (no-key q)) (λ p q. was .queued-left v c q);
+      queued-new = λ v c. taken-yard-key (λ o. o ≡ some c → Mem v (y ∷ st .measured) → ⊥) v (λ p q. absurd (no-key q)) (λ p q k. new v c p q (cases-cons k));
+      measured-left = λ v k. marked v (cases-cons k);
+      once = (was .queued-new y b at, was .once);
+      first-ranked = ranked-more;
+      regions-in = was .regions-in;
+      yards-in = λ v c. taken-yard-key (λ o. o ≡ some c → Below i 0 v) v (λ p q. absurd (no-key q)) (λ p q. was .yards-in v c q);
+      measured-in = λ v k. in-tree v (cases-cons k);
+      has-first = was .has-first;
+      parent-first = was .parent-first;
+      parent-taken = was .parent-taken;
+      leaf-open = was .leaf-open;
+      leaf-fresh = was .leaf-fresh;
+    }
+      where
+        new : (v c : ℕ) → v ≢ y → key (st .yardKeys) v ≡ some c → (v ≡ y) ⊎ Mem v (st .measured) → ⊥
+        new v c n q (inl p) = n p
+        new v c n q (inr k) = was .queued-new v c q k
+
+        marked : (v : ℕ) → (v ≡ y) ⊎ Mem v (st .measured) → T (left (st .gone) v)
+        marked v (inl p) = rw p (was .queued-left y b at)
+        marked v (inr k) = was .measured-left v k
+
+        in-tree : (v : ℕ) → (v ≡ y) ⊎ Mem v (st .measured) → Below i 0 v
+        in-tree v (inl p) = rw p (was .yards-in y b at)
+        in-tree v (inr k) = was .measured-in v k
+
+        ranked-more : take (i .wanted) (insert (entry i y) (st .held)) ≡ take (i .wanted) (ranked i (y ∷ st .measured))
+        ranked-more = rw (was .first-ranked, take-insert) refl
+
+  -- Taking a region, by cases.
+  pub region-case : (P : State → Type 0) (r a : ℕ) → key (st .regionKeys) r ≡ some a
+      → (T (not (leaf i r)) → P (openInner i st r a))
+      → (T (leaf i r) → (first : ℕ) → key (st .firsts) r ≡ some first → (e : Element) → Mem e (chosen i r .list) → T (not (left (st .gone) (e .yard)))
+      → ((g : Element) → Mem g (chosen i r .list) → T (not (left (st .gone) (g .yard))) → f i (chosen i r) e ≤ f i (chosen i r) g)
+      → P (queueNext i st r first (chosen i r) e))
+      → P (takeRegion i st r a)
+  unfolding takeRegion openLeaf
+  region-case P r a at onInner onLeaf = choose-case P (leaf i r) (λ l. go l (first-of (key (st .firsts) r) (was .has-first r a at)) (next-is i (st .gone) m (small l))) onInner
+    where
+      m : Mark
+      m = chosen i r
+
+      small : T (leaf i r) → (e : Element) → Mem e (m .list) → f i m e < unqueued
+      small l e k = omega (arith, f-most i well r m e l (chosen-mem i r (well .shape .marked r (region-range r at))) k)
+
+      go : T (leaf i r) → (x : ℕ) × (key (st .firsts) r ≡ some x) → Next i (st .gone) m
+          → P (choose (queued (nextF i (st .gone) m)) (queueNext i st r (wordAt (st .firsts) r) m (getD (m .list) (nextPlace i (st .gone) m) noElement)) (closeLeaf i st r))
+      go l x (no-more h all) = let z = was .leaf-open r a l at in absurd (T-not (left (st .gone) (z .element .yard)) (z .stays) (all (z .element) (z .mem)))
+      go l (first, q) (one-more e p w s k n h) =
+          let t : T (queued (nextF i (st .gone) m)) = small-queued (nextF i (st .gone) m) (omega arith) in
+          rw (choose-yes (queued (nextF i (st .gone) m)) (queueNext i st r (wordAt (st .firsts) r) m (getD (m .list) (nextPlace i (st .gone) m) noElement)) (closeLeaf i st r) t, key-word (st .firsts) r q, p)
+          (onLeaf l first q e k n h)
+
+  pub step-kept : T (not (settled i st)) → Kept i (step i st)
+  step-kept u = step-case i st (was .sizes) (Kept i) u
+      (λ r a at due. region-case (Kept i) r a at (λ l. inner-kept r a at l) (λ l first q e k n h. leaf-kept r a at l first q e k n))
+      (λ y b at due. yard-kept y b at)
+
+-- ---- the start
+
+word-nothing : (n v : ℕ) → wordAt (replicate n unqueued) v ≡ unqueued
+unfolding wordAt
+word-nothing zero v = refl
+word-nothing (suc n) zero = refl
+word-nothing (suc n) (suc v) = word-nothing n v
+
+key-nothing : (n v : ℕ) → key (replicate n unqueued) v ≡ none
+unfolding key
+key-nothing n v = rw (word-nothing n v) seen-mark
+
+left-nothing : (n v : ℕ) → left (replicate n false) v ≡ false
+unfolding left
+left-nothing zero v = refl
+left-nothing (suc n) zero = refl
+left-nothing (suc n) (suc v) = left-nothing n v
+
+module _ (i : Instance) (well : WellFormed i) where
+  -- Only the root is queued.
+  pub start-key : (P : Option ℕ → Type 0) (v : ℕ) → (v ≡ 0 → P (some (bound i 0))) → (v ≢ 0 → P none) → P (key (set (replicate (size i) unqueued) 0 (bound i 0)) v)
+  start-key P v root rest = key-put P (replicate (size i) unqueued) 0 (bound i 0) (omega (arith, bound-most i well 0)) (rw length-replicate (well .shape .root)) v root (λ n. rw key-nothing (rest n))
+
+  pub start-yard : (v : ℕ) {a : ℕ} → key (start i .yardKeys) v ≡ some a → ⊥
+  unfolding start
+  start-yard v e = no-key (sym (key-nothing (i .tree .junctions) v) ∙ e)
+
+  pub start-left : (v : ℕ) → T (not (left (start i .gone) v))
+  unfolding start
+  start-left v = rw left-nothing tt
+
+  start-kept : Kept i (start i)
+  unfolding start ranked
+  start-kept = record {
+    sizes = record {
+      regions = length-set (replicate (size i) unqueued) 0 (bound i 0) ∙ length-replicate (size i) unqueued;
+      yards = length-replicate (i .tree .junctions) unqueued;
+      firsts = length-set (replicate (size i) unqueued) 0 (bound i 0) ∙ length-replicate (size i) unqueued;
+      gone = length-replicate (i .tree .junctions) false;
+    };
+    queued-left = λ v b e. absurd (start-yard v e);
+    queued-new = λ v b e. absurd (start-yard v e);
+    measured-left = λ v k. absurd (not-nil k);
+    once = tt;
+    first-ranked = sym (take-none (i .wanted));
+    regions-in = λ v b y. start-key (λ o. o ≡ some b → Below i v y → Below i 0 y) v (λ p e below. rw p at below) (λ p e. absurd (no-key e));
+    yards-in = λ v b e. absurd (start-yard v e);
+    measured-in = λ v k. absurd (not-nil k);
+    has-first = λ v b. start-key (λ o. o ≡ some b → T (has (key (start i .firsts) v))) v (λ p e. start-key (λ o. T (has o)) v (λ q. tt) (λ q. absurd (q p))) (λ p e. absurd (no-key e));
+    parent-first = λ r c k. start-key (λ o. T (has o) → T (has (key (start i .firsts) r))) c (λ p. absurd (omega (arith, well .shape .rise r c k))) (λ p t. absurd t);
+    parent-taken = λ r c k. start-key (λ o. T (has o) → key (start i .regionKeys) r ≡ none) c (λ p. absurd (omega (arith, well .shape .rise r c k))) (λ p t. absurd t);
+    leaf-open = λ v b. λ l. start-key (λ o. o ≡ some b → OneLeft (start i .gone) (chosen i v)) v (λ p e. rw p (opens (rw p at l))) (λ p e. absurd (no-key e));
+    leaf-fresh = λ v e l h k t. start-left (e .yard);
+  }
+    where
+      take-none : (n : ℕ) → _≡_ {A = List Element} (take n []) []
+      take-none zero = refl
+      take-none (suc n) = refl
+
+      opens : T (leaf i 0) → OneLeft (start i .gone) (chosen i 0)
+      opens l =
+          let mark = chosen-mem i 0 (well .shape .marked 0 (well .shape .root)) in
+          let x = some-element (chosen i 0 .list) (well .shape .some-yard 0 (chosen i 0) l mark) in
+          record { element = x .0; mem = x .1; stays = start-left (x .0 .yard) }
+
+  pub run-kept : (limit : ℕ) → Kept i (run i limit .state)
+  unfolding run advance
+  run-kept zero = start-kept
+  run-kept (suc limit) = choose-case (λ (o : Outcome). Kept i (o .state)) (settled i (run i limit .state)) (λ t. run-kept limit) (λ t. step-kept i well (run i limit .state) (run-kept limit) t)

@@ -1,0 +1,89 @@
+-- The limits of bounds and aggregates, whatever the tree's numbers say. Assumes nothing.
+use mathlib.Core.Path.{_≡_, refl}
+use mathlib.Core.List.{List, [], _∷_, List·Memᴰ as Mem, List·Memᴰ·head as head}
+use Prim.Native.Nat.{ℕ, zero, suc, _+_, _*_, _≤_, _<_, max}
+use native.Mathlib.Nat.{suc-mul, mul-le-mul-right}
+use native.Mathlib.Omega.{arith}
+use lib.ListN.{length}
+use lib.Dec.{T, leb, eqb}
+use Rattle.book.specs.Choose.{choose}
+use Rattle.book.proofs.Choosing.{choose-case}
+use Rattle.tree_layout.specs.Values.{Element, Mark}
+use Rattle.search_rules.specs.Instance.{Instance, children, marks, leaf}
+use Rattle.search_rules.specs.Bounds.{apart, combine, aggregate, greatestOf, leastFrom, leastOf, crewBound, sheetAt, lower, upper, over, total, markBound, bound, weight, chosen, listApart, f, yardBound}
+use Rattle.search_rules.specs.Facts.{Shape, Small, WellFormed}
+use Rattle.search_rules.proofs.Bounds.{greatestOf-le, aggregate-mono, over-mono}
+
+crewBound-most : (lb ub a b most : ℕ) → lb ≤ most → a ≤ most → crewBound lb ub a b ≤ most
+unfolding crewBound
+crewBound-most lb ub a b most h k = choose-case (λ z. z ≤ most) (leb b lb) (λ t. omega arith) (λ t. choose-case (λ z. z ≤ most) (leb ub a) (λ s. omega arith) (λ s. omega arith))
+
+apart-most : (a b most : ℕ) → a ≤ most → b ≤ most → apart a b ≤ most
+unfolding apart
+apart-most a b most h k = omega arith
+
+-- the aggregate of one number for each crew is at most that number for each crew
+aggregate-each : (code most : ℕ) (qs : List ℕ) → aggregate code (λ q. most) qs ≤ length qs * most
+unfolding aggregate combine
+aggregate-each code most [] = omega arith
+aggregate-each code most (q ∷ qs) = choose-case (λ z. z ≤ suc (length qs) * most) (eqb code 0)
+    (λ t. rw suc-mul (omega (arith, aggregate-each code most qs))) (λ t. rw suc-mul (omega (arith, aggregate-each code most qs)))
+
+-- with no more than sixteen crews
+aggregate-most : (code most : ℕ) (qs : List ℕ) (g : ℕ → ℕ) → length qs ≤ 16 → ((q : ℕ) → Mem q qs → g q ≤ most) → aggregate code g qs ≤ 16 * most
+aggregate-most code most qs g few h = omega (arith, aggregate-mono code g (λ q. most) qs h, aggregate-each code most qs, mul-le-mul-right most few)
+
+leastFrom-most : (h : Mark → ℕ) (x : ℕ) (m : Mark) (ms : List Mark) → h m ≤ x → leastFrom h m ms ≤ x
+unfolding leastFrom
+leastFrom-most h x m [] k = k
+leastFrom-most h x m (n ∷ ns) k = omega arith
+
+leastOf-most : (h : Mark → ℕ) (x : ℕ) (ms : List Mark) → ((m : Mark) → Mem m ms → h m ≤ x) → leastOf h ms ≤ x
+unfolding leastOf
+leastOf-most h x [] k = omega arith
+leastOf-most h x (m ∷ ms) k = leastFrom-most h x m ms (k m (head refl))
+
+module _ (i : Instance) (well : WellFormed i) where
+  over-most : (g : ℕ → ℕ) (most : ℕ) → ((q : ℕ) → Mem q (i .crews) → g q ≤ most) → over i g ≤ 16 * most
+  unfolding over
+  over-most g most h = aggregate-most (i .code) most (i .crews) g (well .small .few-crews) h
+
+  pub lower-most : (l q : ℕ) → l < i .tree .junctions → q < i .tree .junctions → lower i l q ≤ 67042305
+  unfolding lower sheetAt
+  lower-most l q a b = greatestOf-le (λ r. apart (i .d (r .place) l) (i .d (r .place) q)) 67042305 (marks i 0)
+      (λ m k. apart-most (i .d (m .place) l) (i .d (m .place) q) 67042305 (well .small .distances (m .place) l (well .shape .places 0 m k) a) (well .small .distances (m .place) q (well .shape .places 0 m k) b))
+
+  pub upper-most : (l q : ℕ) → l < i .tree .junctions → q < i .tree .junctions → upper i l q ≤ 134084610
+  unfolding upper sheetAt
+  upper-most l q a b = leastOf-most (λ r. i .d (r .place) l + i .d (r .place) q) 134084610 (marks i 0)
+      (λ m k. omega (arith, well .small .distances (m .place) l (well .shape .places 0 m k) a, well .small .distances (m .place) q (well .shape .places 0 m k) b))
+
+  -- a region's bound: sixteen times a u32
+  pub bound-most : (r : ℕ) → bound i r ≤ 68719476720
+  unfolding bound markBound
+  bound-most r = over-most (λ q. greatestOf (markBound i q) (marks i r)) 4294967295
+      (λ q c. greatestOf-le (markBound i q) 4294967295 (marks i r) (λ m k. crewBound-most (lower i (m .place) q) (upper i (m .place) q) (m .least) (m .greatest) 4294967295
+      (omega (arith, lower-most (m .place) q (well .shape .places r m k) (well .shape .crews q c))) (well .small .least r m k)))
+
+  module _ (r : ℕ) (m : Mark) (e : Element) (l : T (leaf i r)) (k : Mem m (marks i r)) (j : Mem e (m .list)) where
+    listApart-most : (q : ℕ) → q < i .tree .junctions → listApart i m e q ≤ 67042305
+    unfolding listApart
+    listApart-most q c = apart-most (i .d (m .place) q) (e .distance) 67042305 (well .small .distances (m .place) q (well .shape .places r m k) c) (well .small .lists r m e l k j)
+
+    pub f-most : f i m e ≤ 1072676880
+    unfolding f
+    f-most = over-most (listApart i m e) 67042305 (λ q c. listApart-most q (well .shape .crews q c))
+
+    pub yardBound-most : yardBound i m e ≤ 1072676880
+    unfolding yardBound
+    yardBound-most = over-most (λ q. max (lower i (e .yard) q) (listApart i m e q)) 67042305
+        (λ q c. omega (arith, listApart-most q (well .shape .crews q c), lower-most (e .yard) q (well .shape .yards r m e l k j) (well .shape .crews q c)))
+
+  -- a yard's aggregate, which is written in a word of 32 bits, and the sum by which a leaf picks its landmark
+  pub total-most : (y : ℕ) → y < i .tree .junctions → total i y ≤ 1072676880
+  unfolding total
+  total-most y h = over-most (λ q. i .d q y) 67042305 (λ q c. well .small .distances q y (well .shape .crews q c) h)
+
+  pub weight-most : (r : ℕ) (m : Mark) → Mem m (marks i r) → weight i m ≤ 1072676880
+  unfolding weight
+  weight-most r m k = aggregate-most 0 67042305 (i .crews) (λ q. lower i (m .place) q) (well .small .few-crews) (λ q c. lower-most (m .place) q (well .shape .places r m k) (well .shape .crews q c))

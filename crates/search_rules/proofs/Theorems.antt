@@ -1,0 +1,141 @@
+-- What is proved of the search, in one place: `bounded`, `decided`, `right`, and the laws of an answer. Assumes nothing.
+use mathlib.Core.Path.{_≡_, refl, ap, _∙_}
+use mathlib.Core.Bool.{Bool, true, false, not}
+use mathlib.Core.List.{List, [], _∷_, List·Memᴰ as Mem}
+use Prim.Native.Nat.{ℕ, zero, suc, _+_, _*_, _≤_, _<_}
+use native.Mathlib.Omega.{arith}
+use lib.ListN.{length, take}
+use lib.Dec.{T}
+use Rattle.book.specs.Choose.{choose}
+use Rattle.book.proofs.Choosing.{choose-yes, choose-no, T-true, T-false}
+use Rattle.tree_layout.specs.Values.{Element}
+use Rattle.tree.specs.Yards.{treeYards, inners}
+use Rattle.search_rules.specs.Instance.{Instance, size, leaf}
+use Rattle.search_rules.specs.Held.{greatestHeld, ranked}
+use Rattle.search_rules.specs.Bounds.{chosen, yardBound}
+use Rattle.search_rules.specs.Step.{settled}
+use Rattle.search_rules.specs.Run.{Outcome, Answer, words, run, report, answer}
+use Rattle.search_rules.specs.Facts.{Below, WellFormed, Sound}
+use Rattle.search_rules.specs.Theorems.{TreeYards, Listing, Complete, Limited, Bounded, Decided, Right}
+use Rattle.search_rules.proofs.Bounds.{bound-le, f-le, yardBound-le}
+use Rattle.search_rules.proofs.Kept.{Kept, run-kept}
+use Rattle.search_rules.proofs.Found.{fewer, run-listing, run-complete}
+use Rattle.search_rules.proofs.Ends.{enough, unsettled-taken, taken-within, settled-stays}
+use Rattle.search_rules.proofs.Level.{run-measured, run-within, run-bound-within}
+use Rattle.search_rules.proofs.Fitting.{run-fits}
+use Rattle.search_rules.proofs.Limits.{lower-most, upper-most, bound-most, weight-most, f-most, yardBound-most, total-most}
+use Rattle.search_rules.proofs.Bounds.{below-range}
+use Rattle.search_rules.proofs.Trees.{Accepted, tree-yards}
+
+-- the bounds of a true tree
+pub bounded : (i : Instance) → Sound i → Bounded i
+bounded i sound = record {
+  of-region = λ r y b. bound-le i (sound .well .shape) (sound .metric) (sound .symmetric) (sound .truth) b;
+  of-element = f-le i;
+  of-yard = yardBound-le i (sound .well .shape) (sound .metric) (sound .symmetric) (sound .truth);
+}
+
+-- no number that a search computes is above its limit
+pub limited : (i : Instance) → WellFormed i → Limited i
+limited i well = record {
+  lowers = lower-most i well;
+  uppers = upper-most i well;
+  bounds = bound-most i well;
+  weights = weight-most i well;
+  fs = f-most i well;
+  yardBounds = yardBound-most i well;
+  totals = total-most i well;
+}
+
+-- any search, whatever the tree's numbers say
+pub decided : (i : Instance) → WellFormed i → (limit : ℕ) → Decided i limit
+decided i well limit = let was = run-kept i well limit in record {
+  listing = run-listing i well limit;
+  held = was .first-ranked;
+  measured-once = was .once;
+  measured-in = was .measured-in;
+  measured-few = λ ys t. fewer (run i limit .state .measured) ys (was .once) (λ y k. t .every y (was .measured-in y k));
+  spent = unsettled-taken i limit;
+  within = taken-within i limit;
+  stays = settled-stays i limit;
+  ends = λ ys t h. enough i well ys (t .every) limit h;
+  fits = run-fits i well limit;
+}
+
+-- a settled search on a true tree
+pub right : (i : Instance) → Sound i → (limit : ℕ) → T (settled i (run i limit .state)) → Right i limit
+right i sound limit t = record {
+  complete = run-complete i sound limit t;
+  keyed = λ y k. (run-measured i sound limit y k .queue-key, run-measured i sound limit y k .is);
+  key-within = λ full y a k j. run-within i sound limit y a k j full;
+  bound-within = λ full r e l h k j. run-bound-within i sound limit r e l h k j full;
+}
+
+-- ---- the answer
+
+module _ (i : Instance) (limit : ℕ) where
+  pub answer-settled : answer i limit .settled ≡ settled i (run i limit .state)
+  unfolding answer report
+  answer-settled = refl
+
+  pub answer-taken : answer i limit .taken ≡ run i limit .taken
+  unfolding answer report
+  answer-taken = refl
+
+  pub answer-measured : answer i limit .measured ≡ length (run i limit .state .measured)
+  unfolding answer report
+  answer-measured = refl
+
+  -- settled lists the held yards
+  pub answer-listed : T (answer i limit .settled) → answer i limit .listed ≡ run i limit .state .held
+  unfolding answer report
+  answer-listed t = choose-yes (settled i (run i limit .state)) (run i limit .state .held) [] t
+
+  -- spent lists none, and has taken as many steps as the limit
+  pub answer-spent : T (not (answer i limit .settled)) → (answer i limit .listed ≡ []) × (answer i limit .taken ≡ limit)
+  unfolding answer report
+  answer-spent t = (choose-no (settled i (run i limit .state)) (run i limit .state .held) [] t, unsettled-taken i limit t)
+
+-- two words for each yard listed
+pub words-length : (es : List Element) → length (words es) ≡ 2 * length es
+unfolding words
+words-length [] = refl
+words-length (e ∷ es) = omega (arith, words-length es)
+
+-- a settled search on a true tree lists the first k of the tree's yards, or all if fewer
+pub answer-exact : (i : Instance) → Sound i → (limit : ℕ) → T (answer i limit .settled) → (ys : List ℕ) → TreeYards i ys → answer i limit .listed ≡ take (i .wanted) (ranked i ys)
+unfolding answer report
+answer-exact i sound limit t ys tree = answer-listed i limit t ∙ run-complete i sound limit t .exact ys tree
+
+-- whatever the limit and whatever the tree's numbers say, what is listed has true distances, distinct yards and yard order
+pub answer-listing : (i : Instance) → WellFormed i → (limit : ℕ) → T (answer i limit .settled) → Listing i (answer i limit .listed)
+answer-listing i well limit t = rw (answer-listed i limit t) (run-listing i well limit)
+
+-- and if that is k yards, none was measured whose bound is above the last listed distance
+pub answer-within : (i : Instance) → Sound i → (limit : ℕ) → T (answer i limit .settled) → length (answer i limit .listed) ≡ i .wanted
+    → (r : ℕ) (e : Element) → T (leaf i r) → r < size i → Mem e (chosen i r .list) → Mem (e .yard) (run i limit .state .measured) → yardBound i (chosen i r) e ≤ greatestHeld (answer i limit .listed)
+answer-within i sound limit t full r e l h k j =
+    rw (answer-listed i limit t) (run-bound-within i sound limit r e l h k j (rw (answer-listed i limit t) at full))
+
+-- a limit of inner regions plus twice the yards settles
+pub answer-ends : (i : Instance) → WellFormed i → (limit : ℕ) → (ys : List ℕ) → TreeYards i ys → inners (i .tree) + 2 * length ys ≤ limit → T (answer i limit .settled)
+answer-ends i well limit ys tree h = rw (answer-settled i limit) (enough i well ys (tree .every) limit h)
+
+-- what is listed fits in words of 32 bits
+pub listed-small : (i : Instance) → WellFormed i → (limit : ℕ) → T (answer i limit .settled) → (e : Element) → Mem e (answer i limit .listed) → (e .distance ≤ 1072676880) × (e .yard < i .tree .junctions)
+listed-small i well limit t e k =
+    let l = answer-listing i well limit t in
+    let y = below-range i (well .shape) (l .in-tree e k) in
+    (rw (l .distances e k) (total-most i well (e .yard) y), y)
+
+-- ---- of a tree whose book is accepted
+
+module _ (i : Instance) (a : Accepted (i .tree)) (limit : ℕ) where
+  pub accepted-ends : WellFormed i → inners (i .tree) + 2 * i .tree .yards ≤ limit → T (answer i limit .settled)
+  accepted-ends well h = answer-ends i well limit (treeYards (i .tree)) (tree-yards i a) (rw (a .whole .yard-count) h)
+
+  pub accepted-exact : Sound i → T (answer i limit .settled) → answer i limit .listed ≡ take (i .wanted) (ranked i (treeYards (i .tree)))
+  accepted-exact sound t = answer-exact i sound limit t (treeYards (i .tree)) (tree-yards i a)
+
+  pub accepted-measured : WellFormed i → answer i limit .measured ≤ i .tree .yards
+  accepted-measured well = omega (arith, answer-measured i limit, a .whole .yard-count, decided i well limit .measured-few (treeYards (i .tree)) (tree-yards i a))

@@ -1,0 +1,100 @@
+-- "Bounds and steps", its bounds: no distance from the crews is below them. Assumes nothing: these are definitions.
+use mathlib.Core.List.{List, [], _∷_}
+use Prim.Native.Nat.{ℕ, _+_, _-_, min, max}
+use lib.Dec.{ltb, leb, eqb}
+use Rattle.book.specs.Choose.{choose}
+use Rattle.tree_layout.specs.Values.{Element, Mark}
+use Rattle.search_rules.specs.Instance.{Instance, marks}
+
+-- the difference of two numbers
+unfoldable pub apart : ℕ → ℕ → ℕ
+apart a b = (a - b) + (b - a)
+
+-- "The aggregate is the sum (code 0) or the maximum (code 1)": of two numbers
+unfoldable pub combine : ℕ → ℕ → ℕ → ℕ
+combine code a b = choose (eqb code 0) (a + b) (max a b)
+
+-- ".. over the crews": of a number for each crew
+unfoldable pub aggregate : ℕ → (ℕ → ℕ) → List ℕ → ℕ
+aggregate code g [] = 0
+aggregate code g (q ∷ qs) = combine code (g q) (aggregate code g qs)
+
+-- the greatest of a number for each landmark
+unfoldable pub greatestOf : (Mark → ℕ) → List Mark → ℕ
+greatestOf g [] = 0
+greatestOf g (m ∷ ms) = max (g m) (greatestOf g ms)
+
+-- the least of a number for each landmark, of m and those after it
+unfoldable pub leastFrom : (Mark → ℕ) → Mark → List Mark → ℕ
+leastFrom g m [] = g m
+leastFrom g m (n ∷ ns) = min (g m) (leastFrom g n ns)
+
+unfoldable pub leastOf : (Mark → ℕ) → List Mark → ℕ
+leastOf g [] = 0
+leastOf g (m ∷ ms) = leastFrom g m ms
+
+-- "the crew's bound is LB − B if LB ≥ B, A − UB if UB ≤ A, else 0."
+unfoldable pub crewBound : (lb ub a b : ℕ) → ℕ
+crewBound lb ub a b = choose (leb b lb) (lb - b) (choose (leb ub a) (a - ub) 0)
+
+-- what stands for the landmark of a region that has none
+unfoldable pub noMark : Mark
+noMark = record { place = 0; least = 0; greatest = 0; list = [] }
+
+module _ (i : Instance) where
+  -- "The sheet holds d from the root's landmarks r to every junction." Its rows are the root's landmarks; this is row r at junction v.
+  unfoldable pub sheetAt : Mark → ℕ → ℕ
+  sheetAt r v = i .d (r .place) v
+
+  -- "LB(l, q) is the greatest difference .. of sheet values at l and q."
+  unfoldable pub lower : ℕ → ℕ → ℕ
+  lower l q = greatestOf (λ r. apart (sheetAt r l) (sheetAt r q)) (marks i 0)
+
+  -- "UB(l, q) the least sum, of sheet values at l and q"
+  unfoldable pub upper : ℕ → ℕ → ℕ
+  upper l q = leastOf (λ r. sheetAt r l + sheetAt r q) (marks i 0)
+
+  -- the aggregate over the crews of a number for each
+  unfoldable pub over : (ℕ → ℕ) → ℕ
+  over g = aggregate (i .code) g (i .crews)
+
+  -- a yard's aggregate: of the true distance d(q, p) from each crew q to yard p
+  unfoldable pub total : ℕ → ℕ
+  total p = over (λ q. i .d q p)
+
+  -- "With a region's least distance A and greatest B from landmark l .., the crew's bound": of crew q for landmark m
+  unfoldable pub markBound : ℕ → Mark → ℕ
+  markBound q m = crewBound (lower (m .place) q) (upper (m .place) q) (m .least) (m .greatest)
+
+  -- "The greatest over the region's landmarks is taken, then the aggregate over crews."
+  unfoldable pub bound : ℕ → ℕ
+  bound r = over (λ q. greatestOf (markBound q) (marks i r))
+
+  -- the "sum of LB over crews" of a landmark
+  unfoldable pub weight : Mark → ℕ
+  weight m = aggregate 0 (λ q. lower (m .place) q) (i .crews)
+
+  -- "its landmark with greatest sum of LB over crews, ties to the first": of m and those after it
+  unfoldable pub best : Mark → List Mark → Mark
+  best m [] = m
+  best m (n ∷ ns) = choose (ltb (weight m) (weight n)) (best n ns) (best m ns)
+
+  unfoldable pub bestOf : List Mark → Mark
+  bestOf [] = noMark
+  bestOf (m ∷ ms) = best m ms
+
+  -- "A leaf when first taken picks its landmark": leaf r's, which is the same whenever it is taken
+  unfoldable pub chosen : ℕ → Mark
+  chosen r = bestOf (marks i r)
+
+  -- "|d(l, q) − d(l, p)| with the list's d(l, p)", of landmark m and element e
+  unfoldable pub listApart : Mark → Element → ℕ → ℕ
+  listApart m e q = apart (i .d (m .place) q) (e .distance)
+
+  -- "f, the aggregate of |d(l, q) − d(l, p)| with the list's d(l, p)"
+  unfoldable pub f : Mark → Element → ℕ
+  f m e = over (listApart m e)
+
+  -- "A yard's bound takes per crew the greatest of these differences over the sheet's landmarks and l (for l with the list's distance), then aggregates."
+  unfoldable pub yardBound : Mark → Element → ℕ
+  yardBound m e = over (λ q. max (lower (e .yard) q) (listApart m e q))

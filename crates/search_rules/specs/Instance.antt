@@ -1,0 +1,34 @@
+-- What is searched: a tree, the crews, the aggregate, how many yards are wanted, and the distance. Assumes nothing: these are definitions.
+use mathlib.Core.Bool.{Bool}
+use mathlib.Core.List.{List}
+use Prim.Native.Nat.{ℕ}
+use lib.ListN.{length}
+use lib.Dec.{eqb}
+use Rattle.tree_layout.specs.Values.{Mark, Tree, regionAt}
+use Rattle.tree.specs.Yards.{childrenOf}
+
+-- The aggregate's code (0 is the sum, 1 the maximum), how many yards are wanted (01's k), the crews' junctions (query vertices; "two crews may
+-- stand at one junction and both count"), the tree, and d u v, "the least total of seconds over all walks from u to v".
+pub record Instance : Type 0 where
+  pub code : ℕ
+  pub wanted : ℕ
+  pub crews : List ℕ
+  pub tree : Tree
+  pub d : ℕ → ℕ → ℕ
+
+module _ (i : Instance) where
+  -- how many regions (tree nodes) there are
+  unfoldable pub size : ℕ
+  size = length (i .tree .regions)
+
+  -- the numbers of region r's children
+  unfoldable pub children : ℕ → List ℕ
+  children r = childrenOf (i .tree .regions) r
+
+  -- region r's landmarks
+  unfoldable pub marks : ℕ → List Mark
+  marks r = regionAt (i .tree .regions) r .marks
+
+  -- "children u8 (0 for a leaf, else 2 to 4)"
+  unfoldable pub leaf : ℕ → Bool
+  leaf r = eqb (regionAt (i .tree .regions) r .children) 0

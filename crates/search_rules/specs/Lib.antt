@@ -1,0 +1,10 @@
+pub mod Instance
+pub mod Books
+pub mod Bounds
+pub mod Queue
+pub mod Held
+pub mod Step
+pub mod Run
+pub mod Facts
+pub mod Theorems
+pub mod Walks

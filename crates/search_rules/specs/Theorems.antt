@@ -1,0 +1,119 @@
+-- What is proved of the search. Assumes nothing: these are statements.
+use mathlib.Core.Path.{_≡_}
+use mathlib.Core.Logic.{_⊎_}
+use mathlib.Core.Bool.{Bool, true, false, not}
+use mathlib.Core.List.{List, [], _∷_, List·Memᴰ as Mem}
+use Prim.Native.Nat.{ℕ, _+_, _*_, _≤_, _<_, min, max}
+use lib.ListN.{length, take}
+use lib.Dec.{T}
+use Rattle.book.specs.Lists.{Distinct}
+use Rattle.tree_layout.specs.Values.{Element, Mark}
+use Rattle.tree_layout.specs.Facts.{Before}
+use Rattle.tree.specs.Yards.{inners}
+use Rattle.search_rules.specs.Instance.{Instance, size, marks, leaf}
+use Rattle.search_rules.specs.Bounds.{lower, upper, bound, total, weight, chosen, f, yardBound}
+use Rattle.search_rules.specs.Queue.{unqueued, wordAt}
+use Rattle.search_rules.specs.Held.{greatestHeld, entry, ranked}
+use Rattle.search_rules.specs.Step.{State, settled}
+use Rattle.search_rules.specs.Run.{run, answer}
+use Rattle.search_rules.specs.Facts.{Below}
+
+-- ---- lists of yards
+
+-- "Yard order": each element comes before all that follow it
+abbrev pub Sorted : List Element → Type 0
+Sorted [] = Unit {0}
+Sorted (h ∷ hs) = ((g : Element) → Mem g hs → Before h g) × Sorted hs
+
+-- a yard is left out of the first k: they are k, and it comes after every one of them
+pub record Out (k : ℕ) (first : List Element) (h : Element) : Type 0 where
+  pub full : length first ≡ k
+  pub after : (g : Element) → Mem g first → Before g h
+
+-- ys are the tree's yards, each once
+pub record TreeYards (i : Instance) (ys : List ℕ) : Type 0 where
+  pub distinct : Distinct ys
+  pub below : (y : ℕ) → Mem y ys → Below i 0 y
+  pub every : (y : ℕ) → Below i 0 y → Mem y ys
+
+-- what holds of a list of yards whatever the tree's numbers say: "with true distances, distinct yards and yard order, but a yard may be left out"
+pub record Listing (i : Instance) (list : List Element) : Type 0 where
+  pub sorted : Sorted list
+  pub distances : (h : Element) → Mem h list → h .distance ≡ total i (h .yard)
+  pub distinct : (h g : Element) → Mem h list → Mem g list → h .yard ≡ g .yard → h ≡ g
+  pub in-tree : (h : Element) → Mem h list → Below i 0 (h .yard)
+  pub few : length list ≤ i .wanted
+  -- the greatest distance is the last one's
+  pub greatest : (h : Element) → Mem h list → h .distance ≤ greatestHeld list
+
+-- the list has the first k of the tree's yards in yard order, or all if there are fewer
+pub record Complete (i : Instance) (list : List Element) : Type 0 where
+  -- a yard of the tree is listed, or k are and it comes after every one of them
+  pub rest : (y : ℕ) → Below i 0 y → Mem (entry i y) list ⊎ Out (i .wanted) list (entry i y)
+  -- their number is the lesser of k and the number of the tree's yards
+  pub number : (ys : List ℕ) → TreeYards i ys → length list ≡ min (i .wanted) (length ys)
+  -- as an equation
+  pub exact : (ys : List ℕ) → TreeYards i ys → list ≡ take (i .wanted) (ranked i ys)
+
+-- ---- keys
+
+-- the key with which yard y is queued, by the regions' first keys: "the greater of its bound and the leaf's first key"
+pub record KeyOf (i : Instance) (firsts : List ℕ) (y a : ℕ) : Type 0 where
+  pub home : ℕ
+  pub is-leaf : T (leaf i home)
+  pub element : Element
+  pub mem : Mem element (chosen i home .list)
+  pub names : element .yard ≡ y
+  pub known : wordAt firsts home < unqueued
+  pub value : a ≡ max (yardBound i (chosen i home) element) (wordAt firsts home)
+
+-- what is queued has a key of at most a number
+pub record Fits (most : ℕ) (st : State) : Type 0 where
+  pub regions : (v : ℕ) → wordAt (st .regionKeys) v < unqueued → wordAt (st .regionKeys) v ≤ most
+  pub yards : (v : ℕ) → wordAt (st .yardKeys) v < unqueued → wordAt (st .yardKeys) v ≤ most
+  pub firsts : (v : ℕ) → wordAt (st .firsts) v < unqueued → wordAt (st .firsts) v ≤ most
+
+-- the numbers that a search computes, whatever the tree's numbers say
+pub record Limited (i : Instance) : Type 0 where
+  pub lowers : (l q : ℕ) → l < i .tree .junctions → q < i .tree .junctions → lower i l q ≤ 67042305
+  pub uppers : (l q : ℕ) → l < i .tree .junctions → q < i .tree .junctions → upper i l q ≤ 134084610
+  pub bounds : (r : ℕ) → bound i r ≤ 68719476720
+  pub weights : (r : ℕ) (m : Mark) → Mem m (marks i r) → weight i m ≤ 1072676880
+  pub fs : (r : ℕ) (m : Mark) (e : Element) → T (leaf i r) → Mem m (marks i r) → Mem e (m .list) → f i m e ≤ 1072676880
+  pub yardBounds : (r : ℕ) (m : Mark) (e : Element) → T (leaf i r) → Mem m (marks i r) → Mem e (m .list) → yardBound i m e ≤ 1072676880
+  pub totals : (y : ℕ) → y < i .tree .junctions → total i y ≤ 1072676880
+
+-- ---- the theorems
+
+-- the bounds of a true tree
+pub record Bounded (i : Instance) : Type 0 where
+  pub of-region : (r y : ℕ) → Below i r y → bound i r ≤ total i y
+  pub of-element : (m : Mark) (e : Element) → f i m e ≤ yardBound i m e
+  pub of-yard : (r : ℕ) (m : Mark) (e : Element) → T (leaf i r) → Mem m (marks i r) → Mem e (m .list) → yardBound i m e ≤ total i (e .yard)
+
+-- of any search on a tree of sound layout and shape, whatever the tree's numbers say
+pub record Decided (i : Instance) (limit : ℕ) : Type 0 where
+  pub listing : Listing i (run i limit .state .held)
+  -- the held yards are the first k of the measured yards, of which none is measured twice, and each is a yard of the tree
+  pub held : run i limit .state .held ≡ take (i .wanted) (ranked i (run i limit .state .measured))
+  pub measured-once : Distinct (run i limit .state .measured)
+  pub measured-in : (y : ℕ) → Mem y (run i limit .state .measured) → Below i 0 y
+  pub measured-few : (ys : List ℕ) → TreeYards i ys → length (run i limit .state .measured) ≤ length ys
+  -- "It is spent exactly if the limit's number of steps was taken and it isn't settled."
+  pub spent : T (not (settled i (run i limit .state))) → run i limit .taken ≡ limit
+  pub within : run i limit .taken ≤ limit
+  -- a settled search stays as it is under a greater limit
+  pub stays : T (settled i (run i limit .state)) → (more : ℕ) → run i (limit + more) ≡ run i limit
+  -- inner regions plus twice the yards are enough
+  pub ends : (ys : List ℕ) → TreeYards i ys → inners (i .tree) + 2 * length ys ≤ limit → T (settled i (run i limit .state))
+  -- no key is above sixteen times a u32
+  pub fits : Fits 68719476720 (run i limit .state)
+
+-- of a settled search on a true tree
+pub record Right (i : Instance) (limit : ℕ) : Type 0 where
+  pub complete : Complete i (run i limit .state .held)
+  -- every measured yard was queued with a key, and if k are held, neither its key nor its bound is above the last held distance
+  pub keyed : (y : ℕ) → Mem y (run i limit .state .measured) → (a : ℕ) × KeyOf i (run i limit .state .firsts) y a
+  pub key-within : length (run i limit .state .held) ≡ i .wanted → (y a : ℕ) → Mem y (run i limit .state .measured) → KeyOf i (run i limit .state .firsts) y a → a ≤ greatestHeld (run i limit .state .held)
+  pub bound-within : length (run i limit .state .held) ≡ i .wanted → (r : ℕ) (e : Element) → T (leaf i r) → r < size i → Mem e (chosen i r .list) → Mem (e .yard) (run i limit .state .measured)
+      → yardBound i (chosen i r) e ≤ greatestHeld (run i limit .state .held)
