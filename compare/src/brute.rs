@@ -1,0 +1,107 @@
+//! The answer by brute force: all distances, all yards, sorted. Shares no search code.
+
+use crate::query::{Aggregate, Query};
+use crate::road::RoadBook;
+use crate::tree::{Region, Tree};
+
+/// "the least total of seconds over all walks": roads are relaxed until nothing changes.
+pub fn distances(road: &RoadBook, from: u16) -> Vec<u64> {
+    let mut distance = vec![u64::MAX / 2; usize::from(road.junctions)];
+    distance[usize::from(from)] = 0;
+    let mut changed = true;
+    while changed {
+        changed = false;
+        for road in &road.roads {
+            let (low, high) = (usize::from(road.low), usize::from(road.high));
+            for (here, there) in [(low, high), (high, low)] {
+                let through = distance[here] + u64::from(road.seconds);
+                if through < distance[there] {
+                    distance[there] = through;
+                    changed = true;
+                }
+            }
+        }
+    }
+    distance
+}
+
+/// All distances between junctions.
+pub fn all_distances(road: &RoadBook) -> Vec<Vec<u64>> {
+    (0..road.junctions).map(|j| distances(road, j)).collect()
+}
+
+/// "the sum (code 0) or the maximum (code 1) over the crews".
+fn aggregate(code: Aggregate, values: &[u64]) -> u64 {
+    let mut total = 0;
+    for &value in values {
+        total = match code {
+            Aggregate::Sum => total + value,
+            Aggregate::Maximum if value > total => value,
+            Aggregate::Maximum => total,
+        };
+    }
+    total
+}
+
+/// "*Yard order* is by aggregate, then junction number": all yards in it, as (aggregate, yard).
+pub fn ranked(all: &[Vec<u64>], yards: &[u16], query: &Query) -> Vec<(u64, u16)> {
+    let mut ranked = Vec::new();
+    for &yard in yards {
+        let to_crew = |&crew: &u16| all[usize::from(crew)][usize::from(yard)];
+        let values: Vec<u64> = query.crews.iter().map(to_crew).collect();
+        ranked.push((aggregate(query.aggregate, &values), yard));
+    }
+    ranked.sort();
+    ranked
+}
+
+/// "exactly the first k of the tree's yards (or all if fewer)".
+pub fn first_k(all: &[Vec<u64>], yards: &[u16], query: &Query) -> Vec<(u64, u16)> {
+    let mut ranked = ranked(all, yards, query);
+    ranked.truncate(query.k);
+    ranked
+}
+
+/// A yard's bound on a tree that passes, from all distances.
+pub fn yard_bound(all: &[Vec<u64>], tree: &Tree, query: &Query, yard: u16) -> u64 {
+    let mut landmarks = junctions(&tree.regions[0]);
+    landmarks.push(picked(all, tree, query, yard));
+    let mut values = Vec::new();
+    for &crew in &query.crews {
+        values.push(greatest_difference(all, &landmarks, crew, yard));
+    }
+    aggregate(query.aggregate, &values)
+}
+
+/// The landmark that a yard's leaf picks: "greatest sum of LB over crews, ties to the first".
+fn picked(all: &[Vec<u64>], tree: &Tree, query: &Query, yard: u16) -> u16 {
+    let sheet = junctions(&tree.regions[0]);
+    let holds = |r: &&Region| r.children == 0 && r.first <= yard && yard < r.after;
+    let leaf = tree.regions.iter().find(holds).map_or(vec![], junctions);
+    let mut best: Option<(u64, u16)> = None;
+    for landmark in leaf {
+        let mut sum = 0;
+        for &crew in &query.crews {
+            sum += greatest_difference(all, &sheet, crew, landmark);
+        }
+        if best.is_none_or(|(most, _)| sum > most) {
+            best = Some((sum, landmark));
+        }
+    }
+    best.map_or(0, |(_, landmark)| landmark)
+}
+
+/// The junctions of a region's landmarks.
+fn junctions(region: &Region) -> Vec<u16> {
+    region.landmarks.iter().map(|l| l.junction).collect()
+}
+
+/// The greatest |d(l, u) − d(l, v)| over some landmarks l.
+fn greatest_difference(all: &[Vec<u64>], landmarks: &[u16], u: u16, v: u16) -> u64 {
+    let mut greatest = 0;
+    for &landmark in landmarks {
+        let row = &all[usize::from(landmark)];
+        greatest = greatest.max(row[usize::from(u)].abs_diff(row[usize::from(v)]));
+    }
+    greatest
+}

@@ -1,0 +1,27 @@
+//! A plain meeting-yard finder, written from the paper alone, to hold the proved one against.
+//!
+//! The modules follow the paper's layers; each function carries the sentence that it implements.
+#![forbid(unsafe_code)]
+
+pub mod book;
+pub mod refusal;
+pub mod road;
+pub mod yard;
+
+pub mod tree;
+
+pub mod build;
+pub mod check;
+
+pub mod query;
+pub mod search;
+
+pub mod eccentricity;
+pub mod list;
+
+pub mod brute;
+pub mod generate;
+
+pub use build::{build, Built};
+pub use check::check;
+pub use search::{search, Found};

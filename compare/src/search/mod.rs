@@ -1,0 +1,127 @@
+//! Search: the k yards of least aggregate, by the tree's bounds.
+
+pub mod bound;
+pub mod state;
+
+use crate::query::Query;
+use crate::refusal::{refuse_unless, zero_work, AREA, WORK_WORDS};
+use crate::tree::Tree;
+use crate::{query, road, tree};
+use bound::Sheet;
+use state::State;
+
+/// "Both return taken and measured, and settled also the number of yards listed."
+#[derive(Clone, Copy, Debug, Default, PartialEq, Eq)]
+pub struct Found {
+    pub refusal: u32,
+    pub settled: u32,
+    pub listed: u32,
+    pub taken: u32,
+    pub measured: u32,
+}
+
+/// All that a search asks of its books, with the crews' true distances and the sheet.
+pub struct Search {
+    pub tree: Tree,
+    pub query: Query,
+    pub sheet: Sheet,
+    pub crew_distances: Vec<Vec<u32>>,
+}
+
+/// A search's end: settled or spent, the steps taken and the last state.
+pub struct Outcome {
+    pub settled: bool,
+    pub taken: u32,
+    pub state: State,
+}
+
+/// "The planner, in C, calls search": refused, settled or spent.
+pub fn search(
+    road: &[u8],
+    tree: &[u8],
+    query: &[u8],
+    work: &mut [u32],
+    results: &mut [u32],
+) -> Found {
+    let search = match tested(road, tree, query, work.len(), results.len()) {
+        Ok(search) => search,
+        Err(refusal) => return refused(refusal),
+    };
+    let outcome = run(&search);
+    zero_work(work);
+    if outcome.settled {
+        write_list(&outcome.state, results);
+    }
+    found(&outcome)
+}
+
+/// "Books are tested in the order road, yard, tree, query, each through its own tests, a test between books
+/// going with the later one; then the call's m, leaf limit and areas."
+pub fn tested(
+    road: &[u8],
+    tree: &[u8],
+    query: &[u8],
+    work: usize,
+    results: usize,
+) -> Result<Search, u32> {
+    let road = road::read(road)?;
+    let tree = tree::read(tree, road.junctions)?;
+    let query = query::read(query, road.junctions)?;
+    refuse_unless(work >= WORK_WORDS && results >= 2 * query.k, AREA)?;
+    let sheet = Sheet::new(&road, &tree);
+    let distances = |&crew: &u16| road.least_distances(crew);
+    let crew_distances = query.crews.iter().map(distances).collect();
+    Ok(Search {
+        tree,
+        query,
+        sheet,
+        crew_distances,
+    })
+}
+
+/// "It is spent exactly if the limit's number of steps was taken and it isn't settled."
+pub fn run(search: &Search) -> Outcome {
+    let mut state = State::start(search);
+    let mut taken = 0;
+    while !state.settled(search) && taken < search.query.limit {
+        state = state::step(search, state);
+        taken += 1;
+    }
+    let settled = state.settled(search);
+    Outcome {
+        settled,
+        taken,
+        state,
+    }
+}
+
+/// "A refusal returns its number, with every other returned field 0".
+fn refused(refusal: u32) -> Found {
+    Found {
+        refusal,
+        ..Found::default()
+    }
+}
+
+/// "Both return taken and measured, and settled also the number of yards listed."
+fn found(outcome: &Outcome) -> Found {
+    let listed = match outcome.settled {
+        true => outcome.state.held.len() as u32,
+        false => 0,
+    };
+    Found {
+        refusal: 0,
+        settled: u32::from(outcome.settled),
+        listed,
+        taken: outcome.taken,
+        measured: outcome.state.measured.len() as u32,
+    }
+}
+
+/// "Settled writes (yard, distance) words into the result area and nothing after them".
+fn write_list(state: &State, results: &mut [u32]) {
+    for (words, &(distance, yard)) in results.chunks_mut(2).zip(&state.held) {
+        words[0] = u32::from(yard);
+        words[1] = distance as u32;
+    }
+}

@@ -1,0 +1,128 @@
+//! A search's state, its steps, and when it is settled.
+
+use std::collections::{BTreeMap, BTreeSet, VecDeque};
+
+use super::bound::{f, pick_landmark, region_key, yard_bound};
+use super::Search;
+
+/// "at equal keys a region precedes a yard, then lower number first": the order of the cases is this order.
+#[derive(Clone, Copy, Debug, PartialEq, Eq, PartialOrd, Ord)]
+pub enum Item {
+    Region(usize),
+    Yard(u16),
+}
+
+/// "One step is a function of its own: from a search's state, which keeps the queue, the held yards and the
+/// measured yards". The leaves already taken are kept too, with what they still have.
+pub struct State {
+    pub queue: BTreeSet<(u64, Item)>,
+    pub held: Vec<(u64, u16)>,
+    pub measured: Vec<u16>,
+    leaves: BTreeMap<usize, Leaf>,
+}
+
+/// A leaf already taken: its first key, the true distances from its landmark to the crews, the elements left.
+struct Leaf {
+    first_key: u64,
+    crew_values: Vec<u32>,
+    elements: VecDeque<Element>,
+}
+
+/// A list's element: its f, its stored distance and its yard.
+struct Element {
+    f: u64,
+    distance: u32,
+    yard: u16,
+}
+
+impl State {
+    /// "The queue starts with the root."
+    pub fn start(search: &Search) -> Self {
+        State {
+            queue: BTreeSet::from([(region_key(search, 0, 0), Item::Region(0))]),
+            held: Vec::new(),
+            measured: Vec::new(),
+            leaves: BTreeMap::new(),
+        }
+    }
+
+    /// "The search is settled when the queue is empty, or k are held and every queued key is above the
+    /// greatest held distance."
+    pub fn settled(&self, search: &Search) -> bool {
+        let Some((least_key, _)) = self.queue.first() else {
+            return true;
+        };
+        let full = self.held.len() == search.query.k;
+        full && self.held.last().is_some_and(|(d, _)| least_key > d)
+    }
+}
+
+/// "One step takes the least key; at equal keys a region precedes a yard, then lower number first."
+pub fn step(search: &Search, mut state: State) -> State {
+    match state.queue.pop_first() {
+        Some((key, Item::Region(number))) if search.tree.regions[number].is_leaf() => {
+            take_leaf(search, &mut state, key, number)
+        }
+        Some((key, Item::Region(number))) => take_inner(search, &mut state, key, number),
+        Some((_, Item::Yard(yard))) => take_yard(search, &mut state, yard),
+        None => (),
+    }
+    state
+}
+
+/// "An inner region queues its children."
+fn take_inner(search: &Search, state: &mut State, key: u64, number: usize) {
+    for child in search.tree.children(number) {
+        let child_key = region_key(search, child, key);
+        state.queue.insert((child_key, Item::Region(child)));
+    }
+}
+
+/// "A leaf queues its next yard and, if any remain, itself, with the greater of its first key and the next f."
+/// "Its key [the yard's] is the greater of its bound and the leaf's first key."
+fn take_leaf(search: &Search, state: &mut State, key: u64, number: usize) {
+    let leaf = state
+        .leaves
+        .entry(number)
+        .or_insert_with(|| first_taken(search, key, number));
+    if let Some(next) = leaf.elements.pop_front() {
+        let bound = yard_bound(search, &leaf.crew_values, next.distance, next.yard);
+        let yard_key = bound.max(leaf.first_key);
+        state.queue.insert((yard_key, Item::Yard(next.yard)));
+    }
+    if let Some(next) = leaf.elements.front() {
+        let leaf_key = leaf.first_key.max(next.f);
+        state.queue.insert((leaf_key, Item::Region(number)));
+    }
+}
+
+/// "A leaf when first taken picks its landmark [...]. Its list's elements leave by f, [...] then by place."
+fn first_taken(search: &Search, key: u64, number: usize) -> Leaf {
+    let picked = pick_landmark(search, number);
+    let landmark = &search.tree.regions[number].landmarks[picked];
+    let at_landmark = |row: &Vec<u32>| row[usize::from(landmark.junction)];
+    let crew_values: Vec<u32> = search.crew_distances.iter().map(at_landmark).collect();
+    let element = |&(distance, yard): &(u32, u16)| Element {
+        f: f(search.query.aggregate, &crew_values, distance),
+        distance,
+        yard,
+    };
+    let mut elements: Vec<Element> = landmark.list().iter().map(element).collect();
+    elements.sort_by_key(|element| element.f); // stable, so equal f stay by place
+    Leaf {
+        first_key: key,
+        crew_values,
+        elements: elements.into(),
+    }
+}
+
+/// "A yard is measured by true distances; the k least so far in yard order are held."
+fn take_yard(search: &Search, state: &mut State, yard: u16) {
+    let to_yard = |row: &Vec<u32>| u64::from(row[usize::from(yard)]);
+    let distances = search.crew_distances.iter().map(to_yard);
+    let distance = search.query.aggregate.over(distances);
+    state.measured.push(yard);
+    state.held.push((distance, yard));
+    state.held.sort_unstable();
+    state.held.truncate(search.query.k);
+}

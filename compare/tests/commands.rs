@@ -1,0 +1,151 @@
+//! The command `reference`.
+
+use std::fs;
+use std::io::Write;
+use std::path::PathBuf;
+use std::process::{Command, Output, Stdio};
+
+use compare::generate::damage::{sound_query, sound_road, sound_tree, sound_yard};
+
+/// Runs the command with these arguments and this standard input.
+fn run(arguments: &[&str], input: &[u8]) -> Output {
+    let mut child = Command::new(env!("CARGO_BIN_EXE_reference"))
+        .args(arguments)
+        .stdin(Stdio::piped())
+        .stdout(Stdio::piped())
+        .stderr(Stdio::piped())
+        .spawn()
+        .unwrap();
+    let _ = child.stdin.take().unwrap().write_all(input);
+    child.wait_with_output().unwrap()
+}
+
+/// What an accepted command prints.
+fn printed(arguments: &[&str], input: &[u8]) -> String {
+    let output = run(arguments, input);
+    assert!(output.status.success() && output.stderr.is_empty());
+    String::from_utf8(output.stdout).unwrap()
+}
+
+/// A file with these bytes, in this test's own directory.
+fn file(name: &str, bytes: &[u8]) -> String {
+    let path = PathBuf::from(env!("CARGO_TARGET_TMPDIR")).join(name);
+    fs::write(&path, bytes).unwrap();
+    path.to_str().unwrap().to_string()
+}
+
+#[test]
+fn lists() {
+    let books = [sound_road(), sound_tree(), sound_query()].concat();
+    let expected = compare::list::list(&books);
+    assert_eq!(printed(&["list"], &books), expected);
+    assert!(expected.starts_with("yard seconds\n"));
+    assert_eq!(printed(&["list"], &[]), "refused 1\n");
+    let mut longest = books.clone();
+    longest.resize(65_536, 0);
+    let cut = printed(&["list"], &longest);
+    longest.resize(100_000, 1);
+    assert_eq!(printed(&["list"], &longest), cut);
+}
+
+#[test]
+fn checks_builds_and_searches() {
+    let road = file("road", &sound_road());
+    let yard = file("yard", &sound_yard());
+    let tree = file("tree", &sound_tree());
+    let query = file("query", &sound_query());
+    let out = file("out", &[]);
+    assert_eq!(
+        printed(&["check", &road, &yard, &tree, "16384"], &[]),
+        "0\n"
+    );
+    assert_eq!(
+        printed(&["check", &road, &yard, &tree, "16383"], &[]),
+        "12\n"
+    );
+    assert_eq!(printed(&["check", &road, &road, &tree, "0"], &[]), "4\n");
+    let length = sound_tree().len();
+    let most = u64::MAX.to_string();
+    let build = ["build", &road, &yard, "2", "2", &most, "21981", &out];
+    assert_eq!(printed(&build, &[]), format!("0 {length}\n"));
+    assert_eq!(fs::read(&out).unwrap(), sound_tree());
+    let short = ["build", &road, &yard, "2", "2", &most, "21980", &out];
+    assert_eq!(printed(&short, &[]), "12 0\n");
+    let search = ["search", &road, &tree, &query, "16384", "4"];
+    assert_eq!(printed(&search, &[]), "0 1 2 9 4\n1 91\n2 91\n");
+    let short = ["search", &road, &tree, &query, "16384", "3"];
+    assert_eq!(printed(&short, &[]), "12 0 0 0 0\n");
+}
+
+#[test]
+fn roads() {
+    let chain = compare::road::write(1, &[]);
+    let one = file("one", &chain);
+    assert_eq!(
+        printed(&["roads", &one], &[]),
+        "junction furthest total\n0 0 0\n"
+    );
+    assert_eq!(
+        printed(&["roads", "-"], &chain),
+        "junction furthest total\n0 0 0\n"
+    );
+    assert_eq!(printed(&["roads", "-"], &[]), "refused 1\n");
+    let book = run(&["generate", "longchain", "1"], &[]).stdout;
+    let table = printed(&["roads", "-"], &book);
+    let total = 65_535_u64 * 1_023 * 512;
+    assert!(table.starts_with(&format!("junction furthest total\n0 67042305 {total}\n")));
+    assert_eq!(table.lines().count(), 1_025);
+}
+
+#[test]
+fn roads_of_n() {
+    let road = |(low, high, seconds)| compare::road::Road { low, high, seconds };
+    let roads = [(0, 1, 2), (1, 2, 3), (2, 3, 4), (3, 4, 1)].map(road);
+    let expected = "junction furthest total\n0 10 26\n1 8 20\n2 5 17\n3 9 21\n4 10 24\n";
+    assert_eq!(
+        printed(&["roads", "-"], &compare::road::write(5, &roads)),
+        expected
+    );
+    assert_eq!(
+        printed(&["roads", "-"], &compare::road::write(6, &roads)),
+        "refused 6\n"
+    );
+}
+
+#[test]
+fn generates() {
+    for kind in ["grid", "random", "star", "chain", "ring", "longchain"] {
+        let book = run(&["generate", kind, "4294967295"], &[]).stdout;
+        assert!(compare::road::read(&book).is_ok(), "{kind}");
+    }
+    let book = run(&["generate", "yards", "256", "1"], &[]).stdout;
+    assert_eq!(compare::yard::read(&book, 1_024).unwrap().len(), 256);
+}
+
+#[test]
+fn usage() {
+    let road = file("usage", &sound_road());
+    let wrong: [&[&str]; 14] = [
+        &[],
+        &["unknown"],
+        &["list", "more"],
+        &["check"],
+        &["check", "missing file", &road, &road, "1"],
+        &["check", &road, &road, &road, "-1"],
+        &["check", &road, &road, &road, "words"],
+        &["build", &road, &road, "4294967296", "1", "1", "1", "out"],
+        &["search", &road, &road, &road, "1"],
+        &["roads"],
+        &["generate", "unknown", "1"],
+        &["generate", "grid", "4294967296"],
+        &["generate", "yards", "257", "1"],
+        &["generate", "yards", "0", "1"],
+    ];
+    for arguments in wrong {
+        let output = run(arguments, &[]);
+        assert_eq!(output.status.code(), Some(2), "{arguments:?}");
+        assert!(output.stdout.is_empty());
+        let message = String::from_utf8(output.stderr).unwrap();
+        assert!(message.contains("usage: reference"), "{message}");
+    }
+}
