@@ -1,0 +1,17 @@
+.PHONY: demo test bench
+
+# The main job on a shipped example: all distances of net N, a chain of five junctions.
+demo: target/bin/eccentricity
+	target/bin/eccentricity < examples/net-n.road
+
+# The gate.
+test:
+	@tests/gate
+
+# The proved programs beside the plain ones, on the same books.
+bench: target/bin/eccentricity
+	cd compare && cargo build --release --offline --quiet
+	compare/target/release/bench target/bin/eccentricity
+
+target/bin/eccentricity:
+	rt check eccentricity
