@@ -4,9 +4,9 @@ use mathlib.Core.Logic.{_⊎_, inl, inr}
 use mathlib.Core.Bool.{Bool, true, false, not, _&&_, _||_}
 use Prim.Native.Nat.{ℕ, zero, suc, _≤_, _<_}
 use native.Mathlib.Omega.{arith}
-use borrow.Author.Tests.{eq-eqb}
 use lib.Dec.{T, eqb, ltb, ltb→lt, nltb→le}
 use Rattle.book.specs.Choose.{choose, refuse, firstOf}
+pub use Rattle.book.proofs.Tests.{or-left, or-right, or-cases, eq→eqb}
 
 -- a fact of a choice, from the fact of each side
 pub choose-case : {A : Type 0} (P : A → Type 0) (b : Bool) {x y : A} → (T b → P x) → (T (not b) → P y) → P (choose b x y)
@@ -106,21 +106,6 @@ passes-if ok number later e = simp e
 pub fails-if : (ok : Bool) (number later : ℕ) → ok ≡ false → refuse ok number later ≡ number
 unfolding refuse choose
 fails-if ok number later e = simp e
-
-pub or-cases : (a b : Bool) → T (a || b) → T a ⊎ T b
-or-cases true b t = inl tt
-or-cases false b t = inr t
-
-pub or-left : (a b : Bool) → T a → T (a || b)
-or-left true b t = tt
-or-left false b t = absurd t
-
-pub or-right : (a b : Bool) → T b → T (a || b)
-or-right true b t = tt
-or-right false b t = t
-
-pub eq→eqb : (a b : ℕ) → a ≡ b → T (eqb a b)
-eq→eqb a b e = true-T (eq-eqb a b e)
 
 -- no answer is above m
 pub refuse-low : (ok : Bool) (number later m : ℕ) → number ≤ m → later ≤ m → refuse ok number later ≤ m

@@ -1,3 +1,4 @@
+pub mod Tests
 pub mod Choosing
 pub mod Filling
 pub mod Laws

@@ -9,29 +9,9 @@ use lib.ListN.{length, getD}
 use lib.Dec.{T, ltb, leb, eqb, eqb→eq, eqb-refl, T-not, not-T}
 use Rattle.book.specs.Choose.{choose}
 use Rattle.book.specs.Lists.{Distinct}
+pub use Rattle.book.proofs.Tests.{or-left, or-right, or-cases, eq→eqb, ne→neqb, neqb→ne}
 
 -- ---- tests
-
-pub or-left : (a b : Bool) → T a → T (a || b)
-or-left true b t = tt
-or-left false b t = absurd t
-
-pub or-right : (a b : Bool) → T b → T (a || b)
-or-right true b t = tt
-or-right false b t = t
-
-pub or-cases : (a b : Bool) → T (a || b) → T a ⊎ T b
-or-cases true b t = inl tt
-or-cases false b t = inr t
-
-pub eq→eqb : (m n : ℕ) → m ≡ n → T (eqb m n)
-eq→eqb m n e = rw e (eqb-refl n)
-
-pub ne→neqb : (m n : ℕ) → m ≢ n → T (not (eqb m n))
-ne→neqb m n h = not-T (eqb m n) (λ t. h (eqb→eq m n t))
-
-pub neqb→ne : (m n : ℕ) → T (not (eqb m n)) → m ≢ n
-neqb→ne m n t e = T-not (eqb m n) t (eq→eqb m n e)
 
 -- a choice between a number and 0 that is not 0: the test holds
 pub choose-positive : (b : Bool) (x : ℕ) → 0 < choose b x 0 → T b × (choose b x 0 ≡ x)

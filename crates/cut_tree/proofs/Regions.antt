@@ -10,7 +10,7 @@ use Rattle.book.specs.Lists.{Distinct}
 use Rattle.book.proofs.Lists.{map-mem}
 use Rattle.tree_layout.specs.Values.{Element, Mark, Region, leafMark, innerMark}
 use Rattle.tree_layout.specs.Facts.{Rising, RegionValues}
-use Rattle.tree_layout.proofs.Formed.{Formed}
+use Rattle.tree_layout.specs.Formed.{Formed}
 use Rattle.tree_layout.proofs.MarkFields.{leaf-place, leaf-pairs, leaf-form, inner-place, inner-least, inner-greatest, inner-form}
 use Rattle.tree_leaf.specs.Leaf.{firstList, leafOk}
 use Rattle.tree_leaf.specs.Leaf.{yardsIn}

@@ -11,7 +11,7 @@ use Rattle.book.proofs.Lists.{mem-getD}
 use Rattle.tree_layout.specs.Values.{Region, Tree, regionAt}
 use Rattle.tree_layout.specs.Decode.{decode}
 use Rattle.tree_layout.specs.Facts.{RegionValues}
-use Rattle.tree_layout.proofs.Formed.{FormedTree}
+use Rattle.tree_layout.specs.Formed.{FormedTree}
 use Rattle.tree.specs.Shape.{siblings, subtree, levels, shaped, treeRefusal}
 use Rattle.tree.specs.Yards.{oneLeaf, oneInner, yardsBelow, treeYards}
 use Rattle.tree.specs.Facts.{Preorder, TreeShape}

@@ -11,7 +11,8 @@ use lib.ListN.{length, getD, set, length-set, replicate, length-replicate, getD-
 use lib.Seq.{getD-set-same, getD-set-other}
 use lib.Dec.{T, eqb, eqb→eq, T-not, eqb-refl}
 use Rattle.book.specs.Choose.{choose}
-use Rattle.book.proofs.Choosing.{choose-case, choose-yes, choose-no, T-split, eq→eqb}
+use Rattle.book.proofs.Choosing.{choose-case, choose-yes, choose-no, eq→eqb}
+use Rattle.book.proofs.Tests.{ne→neqb}
 use Rattle.road_layout.specs.Road.{Road, junctions, roadAt, roadsTo, roads, roadCount}
 use Rattle.book.specs.Bytes.{u16At}
 use Rattle.road_layout.specs.Layout.{layoutRefusal}
@@ -23,13 +24,6 @@ use Rattle.road.specs.Adjacency.{Links, links, pushArc, pushRoad, lastAr
 use Rattle.road.specs.Queue.{Reach, reach, shortenBoth, relaxBoth}
 use Rattle.road.proofs.Shortening.{shorten-sizes}
 use Rattle.road.proofs.Theorems.{net-sound}
-
-ne→neqb : (a b : ℕ) → a ≢ b → T (not (eqb a b))
-ne→neqb a b n = go (T-split (eqb a b))
-  where
-    go : T (eqb a b) ⊎ T (not (eqb a b)) → T (not (eqb a b))
-    go (inl t) = absurd (n (eqb→eq a b t))
-    go (inr t) = t
 
 -- the newest arc of u, where the newest of all leaves u, and where it does not
 pub last-own : (u : ℕ) (a : Arc) (xs : List Arc) → a .from ≡ u → lastArc u (a ∷ xs) ≡ suc (length xs)

@@ -19,7 +19,7 @@ use Rattle.tree_layout.proofs.Sizes.{size-leaf}
 use Rattle.tree_layout.proofs.Reading.{all-none, all-next, element-yard, list-turn, list-none, list-part, region-lists}
 use Rattle.tree_leaf.proofs.Listing.{first-list}
 use Rattle.tree_leaf.specs.Leaf.{firstList}
-use Rattle.tree_distances.proofs.Spanning.{drop-next}
+use Rattle.true_spans.proofs.Spanning.{drop-next}
 use Rattle.tree_distances.proofs.Placing.{regions-read-are}
 use Rattle.tree_check.specs.Check.{has}
 use Rattle.tree_check.specs.Known.{knownElement, knownList, knownRegion, knownTree}

@@ -1,5 +1,5 @@
 -- What is found by walks is test 9: of an accepted tree beside a list of its yards. Assumes nothing.
-use mathlib.Core.Path.{_≡_, refl, sym, ap, fun-ext, _∙_}
+use mathlib.Core.Path.{_≡_, refl, sym, ap, _∙_}
 use mathlib.Core.Logic.{_⊎_, inl, inr}
 use mathlib.Core.Bool.{Bool, true, false, not, _&&_}
 use mathlib.Core.List.{List, [], _∷_, List·Memᴰ as Mem, List·Memᴰ·head as head, List·Memᴰ·tail as tail, List·Memᴰ·not-nil as not-nil}
@@ -9,10 +9,9 @@ use lib.ListN.{length}
 use lib.Dec.{T, eqb}
 use Rattle.book.specs.Choose.{choose}
 use Rattle.road_layout.specs.Road.{junctions}
-use Rattle.road.specs.Dijkstra.{far, at, dist}
+use Rattle.road.specs.Dijkstra.{far, dist}
 use Rattle.road.specs.Facts.{Metric}
-use Rattle.road.proofs.Theorems.{dist-at}
-use Rattle.tree_layout.specs.Values.{Element, Mark, Region, Tree, regionAt}
+use Rattle.tree_layout.specs.Values.{Mark, Region, Tree, regionAt}
 use Rattle.tree_layout.specs.Decode.{junctionCount, decode}
 use Rattle.tree_layout.specs.Refusal.{all}
 use Rattle.tree_layout.proofs.Reading.{all-none, all-next}
@@ -25,34 +24,16 @@ use Rattle.tree.specs.Yards.{yardsBelow, treeYards}
 use Rattle.tree.specs.Theorems.{Whole}
 use Rattle.tree.proofs.Ranges.{below-tree}
 use Rattle.tree.proofs.Theorems.{tree-facts, accepted-whole}
-use Rattle.tree_truth.specs.Truth.{leastFrom, least, greatestFrom, greatest, trueElement, trueList, trueSpan, trueTree, within, trueBesideRegion, trueBeside}
+use Rattle.tree_truth.specs.Truth.{trueList, trueSpan, trueTree, within, trueBesideRegion, trueBeside}
 use Rattle.tree_truth.specs.Facts.{TrueNumbers, Same}
-use Rattle.tree_truth.proofs.Testing.{element-test, list-test, span-test, beside-region-test, beside-test}
-use Rattle.tree_truth.proofs.Extremes.{least-from, greatest-from}
+use Rattle.tree_truth.proofs.Testing.{beside-region-test, beside-test}
 use Rattle.tree_truth.proofs.Within.{within-mem, mem-within}
 use Rattle.tree_truth.proofs.Theorems.{tested}
-use Rattle.tree_distances.specs.Found.{distancesFrom, elementIn, listIn, spanIn, foundList, foundSpan, foundRegion, foundTree}
-
--- the distances from a junction are the road book's
-looked : (road : List ℕ) (u v : ℕ) → at (distancesFrom road u) v ≡ dist road u v
-unfolding distancesFrom
-looked road u v = dist-at road u v
-
-looks : (road : List ℕ) (u : ℕ) → at (distancesFrom road u) ≡ dist road u
-looks road u = fun-ext (λ v. looked road u v)
-
--- ---- a leaf's landmark
-
-list-same : (road : List ℕ) (m : Mark) → foundList road m ≡ trueList (dist road) m
-unfolding foundList listIn elementIn
-list-same road m = all-same _ _ (m .list) (λ e. ap (λ (x : ℕ). eqb (e .distance) x) (looked road (m .place) (e .yard)) ∙ sym (element-test (dist road) (m .place) e)) ∙ sym (list-test (dist road) m)
-
--- ---- an inner region's landmark, with some yards that are not too far
-
-span-same : (road zs : List ℕ) (m : Mark) → 0 < length zs → ((y : ℕ) → Mem y zs → dist road (m .place) y ≤ far) → foundSpan road zs m ≡ trueSpan (dist road) zs m
-unfolding foundSpan spanIn
-span-same road zs m h f =
-    rw (looks road (m .place), least-from (dist road (m .place)) far zs h f, greatest-from (dist road (m .place)) zs h) (sym (span-test (dist road) zs m))
+use Rattle.true_lists.specs.Found.{foundList}
+use Rattle.true_lists.proofs.Looking.{list-same}
+use Rattle.true_spans.specs.Found.{foundSpan}
+use Rattle.true_spans.proofs.Sameness.{span-same}
+use Rattle.tree_distances.specs.Found.{foundRegion, foundTree}
 
 -- two tests of a list's members agree on all of them
 all-alike : {A : Type 0} (f g : A → Bool) (xs : List A) → ((x : A) → Mem x xs → f x ≡ g x) → all f xs ≡ all g xs

@@ -1,4 +1,2 @@
-pub mod Listing
-pub mod Spanning
 pub mod Placing
 pub mod Finding

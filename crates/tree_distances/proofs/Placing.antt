@@ -18,7 +18,9 @@ use Rattle.tree_layout.proofs.Places.{filled-records}
 use Rattle.tree_layout.proofs.Formed.{marks-lists, marks-spans}
 use Rattle.tree_layout.proofs.Decoding.{read-region, read-regions-next, place-is, decode-is}
 use Rattle.tree_truth.specs.Truth.{within}
-use Rattle.tree_distances.specs.Found.{foundList, foundSpan, foundRegion, foundTree, Placed, AllPlaced, Beside}
+use Rattle.true_lists.specs.Found.{foundList, Placed}
+use Rattle.true_spans.specs.Found.{foundSpan}
+use Rattle.tree_distances.specs.Found.{foundRegion, foundTree, AllPlaced, Beside}
 
 -- ---- the region at a place, with its fields as they are read
 

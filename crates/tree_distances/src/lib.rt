@@ -1,8 +1,4 @@
 // Test 9: whether a tree book's stored distances, leasts and greatests are the true ones, by one walk for each landmark.
-mod lists; // lists.rt: the landmarks of a leaf
-mod spans; // spans.rt: the landmarks of an inner region
-mod walk; // walk.rt: the distances from a landmark
-
 ghost use mathlib.Core.Path.{_≡_};
 ghost use mathlib.Core.Bool.{true};
 ghost use Prim.Native.Nat.{ℕ, _+_, _≤_, _<_};
@@ -14,7 +10,8 @@ ghost use Rattle.road.specs.Queue.{Roomy};
 ghost use Rattle.yard.specs.Yards.{yardsOf, yardRefusal};
 ghost use Rattle.tree_layout.specs.Decode.{decode, readRegion, readRegions, sizeAt};
 ghost use Rattle.tree_layout.specs.Refusal.{all, recordsOk};
-ghost use Rattle.tree_distances.specs.Found.{Placed, AllPlaced, foundRegion, foundTree, Beside};
+ghost use Rattle.true_lists.specs.Found.{Placed};
+ghost use Rattle.tree_distances.specs.Found.{AllPlaced, foundRegion, foundTree, Beside};
 
 // Whether the numbers of the region whose record is at a place are true.
 fn region_true(
@@ -41,7 +38,7 @@ fn region_true(
     let children = book::u8_at(tree, at + 4);
     let yards = book::u16_at(tree, at + 5) as usize;
     if children == 0 {
-        return lists::lists_true(
+        return true_lists::lists_true(
             road,
             head,
             next,
@@ -56,7 +53,7 @@ fn region_true(
             yards,
         );
     }
-    spans::spans_true(
+    true_spans::spans_true(
         road,
         head,
         next,

@@ -17,7 +17,8 @@ use Rattle.book.proofs.Writing.{Rest, rest-all, read-u8, next-u8, read-u16, nex
 use Rattle.tree_layout.specs.Values.{Element, Mark, Region, Tree, leafMark, innerMark}
 use Rattle.tree_layout.specs.Decode.{elementAt, readList, listPart, readLists, readSpans, readMarks, readRegion, readRegions, markSize, recordSize, sizeAt, placeFrom, junctionCount, regionCount, yardCount, landmarkCount, decode}
 use Rattle.tree_layout.proofs.Places.{mark-size-leaf, mark-size-inner, place-zero, place-suc}
-use Rattle.tree_layout.proofs.Formed.{Formed, FormedTree, marks-lists, marks-spans}
+use Rattle.tree_layout.specs.Formed.{Formed, FormedTree}
+use Rattle.tree_layout.proofs.Formed.{marks-lists, marks-spans}
 use Rattle.tree_layout.proofs.Decoding.{element-is, read-list-none, read-list-next, list-part-is, read-lists-none, read-lists-next, read-spans-none, read-spans-next, record-size, size-of, read-region, read-regions-none, read-regions-next, count-junctions, count-regions, count-yards, count-landmarks, decode-is}
 use Rattle.tree_encode.specs.Encode.{encodeElement, encodeList, encodeMark, encodeMarks, encodeRegion, encodeRegions, encodeBody, encode}
 use Rattle.tree_encode.proofs.Sizes.{mark-leaf, mark-inner, list-length}

@@ -16,7 +16,7 @@ use Rattle.book.proofs.Writing.{u16-length, u32-length}
 use Rattle.tree_layout.specs.Values.{Element, Mark, Region, Tree}
 use Rattle.tree_layout.specs.Decode.{markSize, recordSize}
 use Rattle.tree_layout.proofs.Places.{mark-size-leaf, mark-size-inner}
-use Rattle.tree_layout.proofs.Formed.{Formed, FormedTree}
+use Rattle.tree_layout.specs.Formed.{Formed, FormedTree}
 use Rattle.tree_layout.proofs.Decoding.{record-size}
 use Rattle.tree.specs.Yards.{sumFrom}
 use Rattle.tree.proofs.Sums.{sum-nothing, sum-cons}

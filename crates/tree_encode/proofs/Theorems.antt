@@ -13,7 +13,8 @@ use Rattle.tree_layout.specs.Values.{Element, Mark, Region, Tree, regionAt}
 use Rattle.tree_layout.specs.Decode.{markSize, recordSize, decode, placeOf, placeFrom, regionCount, landmarkCount, junctionCount, yardCount}
 use Rattle.tree_layout.specs.Facts.{TreeLayout, RegionValues}
 use Rattle.tree_layout.proofs.Places.{mark-size-leaf, mark-size-inner, decode-length, decode-junctions, decode-yards, decode-landmarks}
-use Rattle.tree_layout.proofs.Formed.{FormedTree, decode-formed}
+use Rattle.tree_layout.specs.Formed.{FormedTree}
+use Rattle.tree_layout.proofs.Formed.{decode-formed}
 use Rattle.tree_layout.proofs.Decoding.{record-size, place-is}
 use Rattle.tree.specs.Shape.{shaped, treeRefusal}
 use Rattle.tree.specs.Yards.{sumFrom, oneLeaf, oneInner, leaves, inners}

@@ -7,7 +7,7 @@ use Rattle.book.specs.Bytes.{Bytes}
 use Rattle.tree_layout.specs.Values.{Element, Mark, Region, Tree}
 use Rattle.tree_layout.specs.Decode.{recordSize, decode}
 use Rattle.tree_layout.specs.Facts.{RegionValues}
-use Rattle.tree_layout.proofs.Formed.{FormedTree}
+use Rattle.tree_layout.specs.Formed.{FormedTree}
 use Rattle.tree.specs.Shape.{treeRefusal}
 use Rattle.tree.specs.Yards.{sumFrom}
 use Rattle.tree.specs.Facts.{TreeShape}

@@ -1,4 +1,4 @@
--- What the layout fixes of a decoded tree: landmarks, lists and spans have their numbers and forms. Assumes nothing.
+-- A decoded tree has the layout's form. Assumes nothing.
 use mathlib.Core.Path.{_≡_, refl, ap}
 use mathlib.Core.Logic.{_⊎_, inl, inr}
 use mathlib.Core.Bool.{not}
@@ -12,16 +12,7 @@ use Rattle.book.proofs.Choosing.{choose-yes, choose-no, T-split}
 use Rattle.book.proofs.Lists.{eq→eqb, ne→neqb, neqb→ne, getD-mem}
 use Rattle.tree_layout.specs.Values.{Mark, Region, Tree, leafMark, innerMark, noRegion, regionAt}
 use Rattle.tree_layout.specs.Decode.{readList, listPart, readLists, readSpans, readMarks, readRegion, readRegions, sizeAt, decode, landmarkCount, regionCount}
-
--- a region's landmarks are m; a leaf's have lists of its yards' number, an inner region's have none
-pub record Formed (m : ℕ) (r : Region) : Type 0 where
-  pub count : length (r .marks) ≡ m
-  pub lists : r .children ≡ 0 → (k : Mark) → Mem k (r .marks) → (k ≡ leafMark (k .place) (k .list)) × (length (k .list) ≡ r .yards)
-  pub spans : 0 < r .children → (k : Mark) → Mem k (r .marks) → k ≡ innerMark (k .place) (k .least) (k .greatest)
-
--- every region of the tree is so formed
-abbrev pub FormedTree : Tree → Type 0
-FormedTree t = (r : Region) → Mem r (t .regions) → Formed (t .landmarks) r
+use Rattle.tree_layout.specs.Formed.{Formed, FormedTree}
 
 pub readList-length : (p : List ℕ) (n at : ℕ) → length (readList p n at) ≡ n
 unfolding readList

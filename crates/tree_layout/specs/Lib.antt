@@ -3,3 +3,4 @@ pub mod Decode
 pub mod Refusal
 pub mod Facts
 pub mod Reading
+pub mod Formed
