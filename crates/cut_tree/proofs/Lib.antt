@@ -4,6 +4,7 @@ pub mod Parts
 pub mod Cutting
 pub mod Steps
 pub mod Regions
+pub mod Records
 pub mod Shape
 pub mod Theorems
 pub mod Vectors

@@ -71,6 +71,10 @@ few a s (y ∷ z ∷ zs) r f h = absurd (omega (arith, r .0 z (head refl), f y (
 
 -- ---- cuts
 
+pub cut-is : (a s i : ℕ) → cutAt a s i ≡ a + i * s / 4
+unfolding cutAt
+cut-is a s i = refl
+
 pub cut-first : (a s : ℕ) → cutAt a s 0 ≡ a
 unfolding cutAt
 cut-first a s = omega arith

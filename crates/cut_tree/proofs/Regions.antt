@@ -66,7 +66,7 @@ module _ (g : Given) where
 
   -- ---- form
 
-  leaf-formed : (a s : ℕ) (ys : List ℕ) → Formed (g .landmarks) (leafRegion g a s ys)
+  pub leaf-formed : (a s : ℕ) (ys : List ℕ) → Formed (g .landmarks) (leafRegion g a s ys)
   unfolding leafRegion
   leaf-formed a s ys = record {
     count = length-map (landmarksOf g a s) (λ l. leafMark l (ranked (g .d) l ys)) ∙ landmarks-length g a s;
@@ -74,7 +74,7 @@ module _ (g : Given) where
     spans = λ h k i. absurd (omega arith);
   }
 
-  inner-formed : (a s q : ℕ) (ys : List ℕ) → 0 < q → Formed (g .landmarks) (innerRegion g a s q ys)
+  pub inner-formed : (a s q : ℕ) (ys : List ℕ) → 0 < q → Formed (g .landmarks) (innerRegion g a s q ys)
   unfolding innerRegion
   inner-formed a s q ys h = record {
     count = length-map (landmarksOf g a s) (λ l. innerMark l (least (g .d l) ys) (greatest (g .d l) ys)) ∙ landmarks-length g a s;

@@ -10,7 +10,7 @@ use lib.ListN.{length, take, drop}
 use lib.Seq.{slice}
 use lib.Dec.{T, ltb, leb, eqb, le→leb, lt→ltb, not-T, ltb→lt, leb→le}
 use Rattle.book.specs.Choose.{choose}
-use Rattle.book.proofs.Choosing.{choose-yes, choose-no}
+use Rattle.book.proofs.Choosing.{choose-case, choose-yes, choose-no}
 use Rattle.book.proofs.Lists.{eq→eqb, ne→neqb}
 use Rattle.tree_layout.specs.Values.{Region}
 use Rattle.tree_truth.specs.Truth.{within}
@@ -26,13 +26,31 @@ unfolding countBelow
 count-none x [] f = refl
 count-none x (y ∷ ys) f = choose-no (ltb y x) _ _ (not-T (ltb y x) (λ t. omega (arith, ltb→lt y x t, f y (head refl))))
 
-count-yes : (x y : ℕ) (ys : List ℕ) → y < x → countBelow x (y ∷ ys) ≡ suc (countBelow x ys)
+pub count-yes : (x y : ℕ) (ys : List ℕ) → y < x → countBelow x (y ∷ ys) ≡ suc (countBelow x ys)
 unfolding countBelow
 count-yes x y ys h = choose-yes (ltb y x) _ _ (lt→ltb y x h)
 
-count-no : (x y : ℕ) (ys : List ℕ) → x ≤ y → countBelow x (y ∷ ys) ≡ 0
+pub count-no : (x y : ℕ) (ys : List ℕ) → x ≤ y → countBelow x (y ∷ ys) ≡ 0
 unfolding countBelow
 count-no x y ys h = choose-no (ltb y x) _ _ (not-T (ltb y x) (λ t. omega (arith, ltb→lt y x t)))
+
+pub count-empty : (x : ℕ) → countBelow x [] ≡ 0
+unfolding countBelow
+count-empty x = refl
+
+-- no more than all, and no fewer below a higher number
+pub count-most : (x : ℕ) (ys : List ℕ) → countBelow x ys ≤ length ys
+unfolding countBelow
+count-most x [] = omega arith
+count-most x (y ∷ ys) = choose-case (λ (n : ℕ). n ≤ suc (length ys)) (ltb y x) (λ t. omega (arith, count-most x ys)) (λ t. omega arith)
+
+pub count-rise : (low high : ℕ) (ys : List ℕ) → low ≤ high → countBelow low ys ≤ countBelow high ys
+count-rise low high [] h = omega (arith, count-empty low)
+count-rise low high (y ∷ ys) h = go (decLt y low) (count-rise low high ys h)
+  where
+    go : Dec (y < low) → countBelow low ys ≤ countBelow high ys → countBelow low (y ∷ ys) ≤ countBelow high (y ∷ ys)
+    go (yes p) r = omega (arith, count-yes low y ys p, count-yes high y ys (omega arith))
+    go (no p) r = omega (arith, count-no low y ys (omega arith))
 
 pub within-slice : (low high : ℕ) (ys : List ℕ) → Rising ys → low ≤ high → within low high ys ≡ slice (countBelow low ys) (countBelow high ys) ys
 unfolding countBelow
