@@ -29,7 +29,9 @@ pub header-length : (a s q n : ℕ) → length (header a s q n) ≡ 7
 unfolding header
 header-length a s q n =
     let rest = q ∷ u16Bytes n in
-    omega (arith, length-append (u16Bytes a) (u16Bytes (a + s) ++ rest), length-append (u16Bytes (a + s)) rest, u16-length a, u16-length (a + s), u16-length n)
+    let one = length-append (u16Bytes a) (u16Bytes (a + s) ++ rest) in
+    let two = length-append (u16Bytes (a + s)) rest in
+    omega (arith, one, two, u16-length a, u16-length (a + s), u16-length n)
 
 -- its fields written one after the other
 pub header-written : (tree one two three out : List ℕ) (start a s q n : ℕ)
@@ -63,7 +65,8 @@ header-then a s q n rest =
     sym (append-assoc (u16Bytes a) (u16Bytes (a + s) ++ (q ∷ u16Bytes n)) rest
     ∙ ap (λ (l : List ℕ). u16Bytes a ++ l) (append-assoc (u16Bytes (a + s)) (q ∷ u16Bytes n) rest))
 
-then-written : (tree mid out : List ℕ) (start a s q n : ℕ) (rest : List ℕ) → mid ≡ write tree start (header a s q n) → out ≡ write mid (start + 7) rest
+then-written : (tree mid out : List ℕ) (start a s q n : ℕ) (rest : List ℕ)
+    → mid ≡ write tree start (header a s q n) → out ≡ write mid (start + 7) rest
     → out ≡ write tree start (u16Bytes a ++ (u16Bytes (a + s) ++ (q ∷ (u16Bytes n ++ rest))))
 then-written tree mid out start a s q n rest e f =
     let u : start + length (header a s q n) ≡ start + 7 = omega (arith, header-length a s q n) in
@@ -81,25 +84,35 @@ module _ (b yb : List ℕ) (from end a s m limit : ℕ) where
   unfolding given
   leaf-is =
       leaf-record (given b m limit) a s (yardsFrom yb (end - from) from)
-      ∙ rw (from-length yb (end - from) from, landmarks-are (given b m limit) a s, leaf-marks-encoded b yb from end m a s (borders (roads b) a s)) refl
+      ∙ rw (
+        from-length yb (end - from) from,
+        landmarks-are (given b m limit) a s,
+        leaf-marks-encoded b yb from end m a s (borders (roads b) a s),
+      ) refl
 
   inner-is : (q : ℕ) → 0 < q → encodeRegion (innerRegion (given b m limit) a s q (yardsFrom yb (end - from) from))
       ≡ u16Bytes a ++ (u16Bytes (a + s) ++ (q ∷ (u16Bytes (end - from) ++ landmarkBytes (innerBytes b yb from end) m a s (borders (roads b) a s) m 0)))
   unfolding given
   inner-is q h =
       inner-record (given b m limit) a s q (yardsFrom yb (end - from) from)
-      ∙ rw (from-length yb (end - from) from, landmarks-are (given b m limit) a s, inner-marks-encoded b yb from end q m a s (borders (roads b) a s) h) refl
+      ∙ rw (
+        from-length yb (end - from) from,
+        landmarks-are (given b m limit) a s,
+        inner-marks-encoded b yb from end q m a s (borders (roads b) a s) h,
+      ) refl
 
 module _ (b yb : List ℕ) (from end a s m : ℕ) (tree mid out : List ℕ) (start : ℕ) where
   -- a leaf's
-  pub leaf-written : mid ≡ write tree start (header a s 0 (end - from)) → out ≡ write mid (start + 7) (landmarkBytes (leafBytes b yb from end) m a s (borders (roads b) a s) m 0)
+  pub leaf-written : mid ≡ write tree start (header a s 0 (end - from))
+      → out ≡ write mid (start + 7) (landmarkBytes (leafBytes b yb from end) m a s (borders (roads b) a s) m 0)
       → (limit : ℕ) → out ≡ write tree start (encodeRegion (leafRegion (given b m limit) a s (yardsFrom yb (end - from) from)))
   leaf-written e f limit =
       then-written tree mid out start a s 0 (end - from) (landmarkBytes (leafBytes b yb from end) m a s (borders (roads b) a s) m 0) e f
       ∙ ap (write tree start) (sym (leaf-is b yb from end a s m limit))
 
   -- an inner region's
-  pub inner-written : (q : ℕ) → 0 < q → mid ≡ write tree start (header a s q (end - from)) → out ≡ write mid (start + 7) (landmarkBytes (innerBytes b yb from end) m a s (borders (roads b) a s) m 0)
+  pub inner-written : (q : ℕ) → 0 < q → mid ≡ write tree start (header a s q (end - from))
+      → out ≡ write mid (start + 7) (landmarkBytes (innerBytes b yb from end) m a s (borders (roads b) a s) m 0)
       → (limit : ℕ) → out ≡ write tree start (encodeRegion (innerRegion (given b m limit) a s q (yardsFrom yb (end - from) from)))
   inner-written q h e f limit =
       then-written tree mid out start a s q (end - from) (landmarkBytes (innerBytes b yb from end) m a s (borders (roads b) a s) m 0) e f
@@ -107,10 +120,12 @@ module _ (b yb : List ℕ) (from end a s m : ℕ) (tree mid out : List ℕ) (sta
 
 -- ---- its length
 
-pub leaf-bytes : (b : List ℕ) (m limit a s : ℕ) (ys : List ℕ) → length (encodeRegion (leafRegion (given b m limit) a s ys)) ≡ 7 + m * (2 + 6 * length ys)
+pub leaf-bytes : (b : List ℕ) (m limit a s : ℕ) (ys : List ℕ)
+    → length (encodeRegion (leafRegion (given b m limit) a s ys)) ≡ 7 + m * (2 + 6 * length ys)
 unfolding given
 leaf-bytes b m limit a s ys = leaf-size (given b m limit) a s ys
 
-pub inner-bytes : (b : List ℕ) (m limit a s q : ℕ) (ys : List ℕ) → 0 < q → length (encodeRegion (innerRegion (given b m limit) a s q ys)) ≡ 7 + m * 10
+pub inner-bytes : (b : List ℕ) (m limit a s q : ℕ) (ys : List ℕ) → 0 < q
+    → length (encodeRegion (innerRegion (given b m limit) a s q ys)) ≡ 7 + m * 10
 unfolding given
 inner-bytes b m limit a s q ys h = inner-size (given b m limit) a s q ys h

@@ -44,7 +44,8 @@ loop-less c = search needs
 loop-again : tie.Need-loop-again Inv-loop μ-loop
 loop-again c =
     let i = c .before .before .before in
-    parted-with _ (i .before .before .before .pre .0) _ _ _ _ _ _ (i .loop .inv) (c .before .before .loop-test .taken) (c .before .below2 .ensures) (c .if1 .taken)
+    parted-with _ (i .before .before .before .pre .0) _ _ _ _ _ _ (i .loop .inv)
+    (c .before .before .loop-test .taken) (c .before .below2 .ensures) (c .if1 .taken)
 
 loop-less-2 : tie.Need-loop-less-2 Inv-loop μ-loop
 loop-less-2 c = search needs
@@ -52,7 +53,8 @@ loop-less-2 c = search needs
 loop-again-2 : tie.Need-loop-again-2 Inv-loop μ-loop
 loop-again-2 c =
     let i = c .before .before .before in
-    parted-without _ (i .before .before .before .pre .0) _ _ _ _ _ _ (i .loop .inv) (c .before .before .loop-test .taken) (c .before .below2 .ensures) (c .if1 .left)
+    parted-without _ (i .before .before .before .pre .0) _ _ _ _ _ _ (i .loop .inv)
+    (c .before .before .loop-test .taken) (c .before .below2 .ensures) (c .if1 .left)
 
 returns : tie.Need-returns Inv-loop μ-loop
 returns c = parted-end _ _ _ _ _ _ (c .before .loop .inv) (c .loop-test .left)
