@@ -8,10 +8,14 @@ demo: target/bin/eccentricity
 test:
 	@tests/gate
 
-# The proved programs beside the plain ones, on the same books.
-bench: target/bin/eccentricity
-	cd compare && cargo build --release --offline --quiet
+# The proved programs and calls beside the plain ones, on the same books.
+bench: target/bin/eccentricity target/staticlib/libfinder.a
+	cd compare && cargo build --release --offline --quiet --workspace
 	compare/target/release/bench target/bin/eccentricity
+	compare/target/release/calls
 
 target/bin/eccentricity:
 	rt check eccentricity
+
+target/staticlib/libfinder.a:
+	rt staticlib finder

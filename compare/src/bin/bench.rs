@@ -11,7 +11,13 @@ use compare::generate::standard;
 /// How often each program is run; the shortest time counts.
 const RUNS: usize = 15;
 /// The road books that are measured, by their kinds, and the ratio that is wanted of each.
-const BOOKS: [(&str, f64); 5] = [("grid", 1.0), ("random", 1.0), ("star", 2.0), ("chain", 2.0), ("ring", 2.0)];
+const BOOKS: [(&str, f64); 5] = [
+    ("grid", 1.0),
+    ("random", 1.0),
+    ("star", 2.0),
+    ("chain", 2.0),
+    ("ring", 2.0),
+];
 const SEED: u32 = 2026;
 
 /// Prints a row for each road book: the proved program's time, the plain one's, and the ratio.
@@ -57,7 +63,10 @@ fn row(kind: &str, wanted: f64, proved: &Path, plain: &Path, book: &Path) -> Res
         theirs = theirs.min(timed(plain, &["roads", "-"], book)?);
     }
     let (ours, theirs) = (ours.as_secs_f64() * 1e3, theirs.as_secs_f64() * 1e3);
-    println!("{kind:<9} {ours:>11.1} {theirs:>10.1} {:>7.2} {wanted:>8.1}", ours / theirs);
+    println!(
+        "{kind:<9} {ours:>11.1} {theirs:>10.1} {:>7.2} {wanted:>8.1}",
+        ours / theirs
+    );
     Ok(())
 }
 
@@ -70,14 +79,19 @@ fn reference() -> Result<PathBuf, String> {
 /// What a program prints for a book on its standard input.
 fn printed(program: &Path, arguments: &[&str], book: &Path) -> Result<Vec<u8>, String> {
     let output = command(program, arguments, book)?.output();
-    output.map(|output| output.stdout).map_err(|error| error.to_string())
+    output
+        .map(|output| output.stdout)
+        .map_err(|error| error.to_string())
 }
 
 /// How long a program takes on a book, its output thrown away.
 fn timed(program: &Path, arguments: &[&str], book: &Path) -> Result<Duration, String> {
     let mut command = command(program, arguments, book)?;
     let start = Instant::now();
-    let status = command.stdout(Stdio::null()).status().map_err(|error| error.to_string())?;
+    let status = command
+        .stdout(Stdio::null())
+        .status()
+        .map_err(|error| error.to_string())?;
     let took = start.elapsed();
     if status.success() {
         Ok(took)

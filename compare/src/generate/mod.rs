@@ -1,5 +1,7 @@
 //! A deterministic generator of books: the same seed always gives the same bytes.
 
+pub mod call;
+pub mod change;
 pub mod damage;
 pub mod district;
 pub mod standard;

@@ -4,3 +4,4 @@ pub mod Matching
 pub mod Answering
 pub mod Theorems
 pub mod Vectors
+pub mod Turning

@@ -161,10 +161,17 @@ module _ (road yard tree : List ℕ) (words : ℕ) (laid : Laid road yard tree w
       ∙ passes (trueTree (dist road) t) _ _ (true-T e))
       ∙ work-enough words (laid .full)
 
+  -- the test of yards, and test 9
+  pub yards-exact : T (sameSet (treeYards (decode tree)) (yardsOf yard)) ↔ HoldsEach (decode tree .regions) (yardsOf yard)
+  yards-exact = ((λ s. same-holds (set-same (treeYards t) ys s)), (λ h. same-set (treeYards t) ys (holds-same h)))
+
+  pub totals-exact : (trueTree (dist road) (decode tree) ≡ true) ↔ TrueTotals (net road) (decode tree .regions)
+  totals-exact = ((λ e. numbers-totals (tested tree (laid .shape) .exact (dist road) .0 e)), (λ n. tested tree (laid .shape) .exact (dist road) .1 (totals-numbers n)))
+
   exact : (checkAnswer road yard tree words ≡ 0) ↔ (HoldsEach rs ys × TrueTotals (net road) rs)
   exact = (
-    (λ e. let p = passes-there e in (same-holds (p .0), numbers-totals (tested tree (laid .shape) .exact (dist road) .0 (p .1)))),
-    (λ p. there-passes (holds-same (p .0)) (tested tree (laid .shape) .exact (dist road) .1 (totals-numbers (p .1)))),
+    (λ e. let p = passes-there e in (same-holds (p .0), totals-exact .0 (p .1))),
+    (λ p. there-passes (holds-same (p .0)) (totals-exact .1 (p .1))),
   )
 
 -- demand 2, of check

@@ -1,0 +1,89 @@
+//! The proved finder's calls, as `include/finder.h` declares them, on slices.
+
+pub mod lent;
+
+#[cfg(feature = "build")]
+use compare::Built;
+
+/// `struct finder_built`.
+#[cfg(feature = "build")]
+#[repr(C)]
+struct FinderBuilt {
+    refusal: u32,
+    length: u32,
+}
+
+extern "C" {
+    fn finder_check(
+        road: *const u8,
+        road_len: usize,
+        yard: *const u8,
+        yard_len: usize,
+        tree: *const u8,
+        tree_len: usize,
+        work: *mut u32,
+        work_len: usize,
+    ) -> u32;
+
+    #[cfg(feature = "build")]
+    fn finder_build(
+        road: *const u8,
+        road_len: usize,
+        yard: *const u8,
+        yard_len: usize,
+        m: u32,
+        leaf_limit: u32,
+        work: *mut u32,
+        work_len: usize,
+        tree: *mut u8,
+        tree_len: usize,
+    ) -> FinderBuilt;
+}
+
+/// The refusal number, 0 if accepted.
+pub fn check(road: &[u8], yard: &[u8], tree: &[u8], work: &mut [u32]) -> u32 {
+    // SAFETY: a slice's pointer is not null and is aligned, the slices live through the call, and nothing overlaps the unique one.
+    unsafe {
+        finder_check(
+            road.as_ptr(),
+            road.len(),
+            yard.as_ptr(),
+            yard.len(),
+            tree.as_ptr(),
+            tree.len(),
+            work.as_mut_ptr(),
+            work.len(),
+        )
+    }
+}
+
+/// The refusal number and the tree's length.
+#[cfg(feature = "build")]
+pub fn build(
+    road: &[u8],
+    yard: &[u8],
+    m: u32,
+    leaf_limit: u32,
+    work: &mut [u32],
+    area: &mut [u8],
+) -> Built {
+    // SAFETY: as for `check`; the two unique slices don't overlap either.
+    let built = unsafe {
+        finder_build(
+            road.as_ptr(),
+            road.len(),
+            yard.as_ptr(),
+            yard.len(),
+            m,
+            leaf_limit,
+            work.as_mut_ptr(),
+            work.len(),
+            area.as_mut_ptr(),
+            area.len(),
+        )
+    };
+    Built {
+        refusal: built.refusal,
+        length: built.length,
+    }
+}

@@ -1,0 +1,121 @@
+//! Random calls: sound ones, and ones with a damaged or changed book, with books that disagree, or with a short area.
+
+use super::change::{changed_road, changed_tree, changed_yard};
+use super::damage::{random_damage, Call};
+use super::district::{district, false_tree, random_tree, District};
+use super::Numbers;
+use crate::build::{build, AREA_BYTES};
+use crate::refusal::WORK_WORDS;
+use crate::road::{self, RoadBook};
+use crate::tree::{self, Tree};
+
+/// A check; the district has at most so many junctions.
+pub fn random_check(numbers: &mut Numbers, most_junctions: u16) -> Call {
+    let d = district(numbers, most_junctions);
+    let roads = roads_of(&d);
+    let tree = some_tree(numbers, &d, &roads);
+    let yard = other_yard(numbers, &d);
+    Call::Check {
+        road: other_road(numbers, &d, &roads),
+        yard,
+        tree: other_tree(numbers, &tree),
+        work: area(numbers, WORK_WORDS),
+    }
+}
+
+/// A build; the district has at most so many junctions.
+pub fn random_build(numbers: &mut Numbers, most_junctions: u16) -> Call {
+    let d = district(numbers, most_junctions);
+    let roads = roads_of(&d);
+    Call::Build {
+        road: other_road(numbers, &d, &roads),
+        yard: other_yard(numbers, &d),
+        m: parameter(numbers, 4),
+        leaf_limit: parameter(numbers, 256),
+        work: area(numbers, WORK_WORDS),
+        area: area(numbers, AREA_BYTES),
+    }
+}
+
+/// The roads of a district, whose book passes.
+fn roads_of(d: &District) -> RoadBook {
+    road::read(&d.road).expect("a district's road book passes")
+}
+
+/// A tree of the district: built or of random cuts, at times with false numbers.
+fn some_tree(numbers: &mut Numbers, d: &District, roads: &RoadBook) -> Tree {
+    let tree = if numbers.once_in(2) {
+        random_tree(numbers, roads, &d.yards)
+    } else {
+        built_tree(numbers, d)
+    };
+    if numbers.once_in(6) {
+        false_tree(numbers, &tree)
+    } else {
+        tree
+    }
+}
+
+/// Build's tree for some m and leaf limit.
+fn built_tree(numbers: &mut Numbers, d: &District) -> Tree {
+    let m = numbers.between(1, 4) as u32;
+    let leaf_limit = numbers.between(1, 8) as u32;
+    let mut area = vec![0; AREA_BYTES];
+    let built = build(
+        &d.road,
+        &d.yard,
+        m,
+        leaf_limit,
+        &mut [0; WORK_WORDS],
+        &mut area,
+    );
+    tree::read(&area[..built.length as usize], d.junctions).expect("a built tree passes")
+}
+
+/// The road book, seldom changed or damaged.
+fn other_road(numbers: &mut Numbers, d: &District, roads: &RoadBook) -> Vec<u8> {
+    match numbers.between(0, 11) {
+        0 => random_damage(numbers, &d.road),
+        1 => changed_road(numbers, d.junctions, &roads.roads),
+        _ => d.road.clone(),
+    }
+}
+
+/// The yard book, seldom changed or damaged.
+fn other_yard(numbers: &mut Numbers, d: &District) -> Vec<u8> {
+    match numbers.between(0, 11) {
+        0 => random_damage(numbers, &d.yard),
+        1 => changed_yard(numbers, &d.yards),
+        _ => d.yard.clone(),
+    }
+}
+
+/// The tree book, often changed or damaged.
+fn other_tree(numbers: &mut Numbers, tree: &Tree) -> Vec<u8> {
+    match numbers.between(0, 5) {
+        0 => random_damage(numbers, &tree::write(tree)),
+        1 | 2 => changed_tree(numbers, tree),
+        _ => tree::write(tree),
+    }
+}
+
+/// An area's length: what is needed, a little more, or seldom less.
+fn area(numbers: &mut Numbers, needed: usize) -> usize {
+    match numbers.between(0, 15) {
+        0 => numbers.between(0, needed as u64 - 1) as usize,
+        1 => needed - 1,
+        2..=5 => needed + numbers.between(1, 40) as usize,
+        _ => needed,
+    }
+}
+
+/// A number from 1 to most, at times small, seldom outside.
+fn parameter(numbers: &mut Numbers, most: u64) -> u32 {
+    match numbers.between(0, 23) {
+        0 => 0,
+        1 => most as u32 + 1,
+        2 => numbers.any() as u32,
+        3..=12 => numbers.between(1, most.min(8)) as u32,
+        _ => numbers.between(1, most) as u32,
+    }
+}

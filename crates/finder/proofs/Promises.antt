@@ -1,0 +1,75 @@
+-- The demands are kept. Assumes nothing.
+use mathlib.Core.Path.{_≡_}
+use mathlib.Core.Logic.{_↔_}
+use mathlib.Core.List.{List}
+use Prim.Native.Nat.{ℕ, _≤_}
+use lib.ListN.{length}
+use Rattle.work_area.specs.Work.{workWords}
+use Rattle.work_area.proofs.Zeroing.{accepted-zeroed, refused-kept}
+use Rattle.road_layout.specs.Road.{junctions}
+use Rattle.road.specs.Refusal.{roadRefusal}
+use Rattle.road.proofs.Theorems.{passing-exact}
+use Rattle.yard.specs.Yards.{yardRefusalIn}
+use Rattle.yard.proofs.YardLayout.{yard-layout-in}
+use Rattle.tree.specs.Shape.{treeRefusal}
+use Rattle.tree.proofs.Theorems.{accepted-iff}
+use Rattle.tree_check.specs.Check.{checkAnswer}
+use Rattle.tree_check.specs.Facts.{Laid}
+use Rattle.tree_check.proofs.Theorems.{check-exact}
+use Rattle.tree_check.proofs.Turning.{road-first, yard-next, tree-next, counts-next, yards-next, numbers-next, work-next, none-turned}
+use Rattle.finder.specs.Promises.{SoundBooks, SoundTree, FirstRefusal, Accepted, CheckSafe, CheckTrue}
+
+-- ---- sound books are those that no test turns back
+
+module _ (road yard : List ℕ) where
+  sound-roads : SoundBooks road yard → roadRefusal road ≡ 0
+  sound-roads s = passing-exact road .1 (s .roads)
+
+  sound-yards : SoundBooks road yard → yardRefusalIn yard (junctions road) ≡ 0
+  sound-yards s = yard-layout-in yard (junctions road) .1 (s .yards, s .inside)
+
+  books-sound : roadRefusal road ≡ 0 → yardRefusalIn yard (junctions road) ≡ 0 → SoundBooks road yard
+  books-sound r y = let l = yard-layout-in yard (junctions road) .0 y in record { roads = passing-exact road .0 r; yards = l .0; inside = l .1 }
+
+sound-tree : (road tree : List ℕ) → SoundTree road tree → treeRefusal tree ≡ 0
+sound-tree road tree s = accepted-iff tree .1 (s .facts)
+
+-- ---- demand 2, of check
+
+laid-out : (road yard tree : List ℕ) (words : ℕ) → SoundBooks road yard → workWords ≤ words → SoundTree road tree → Laid road yard tree words
+laid-out road yard tree words b w s =
+    record { roads = sound-roads road yard b; yards = sound-yards road yard b; shape = sound-tree road tree s; counts = s .counts; full = w }
+
+pub check-true : CheckTrue
+check-true road yard tree words b w s = check-exact road yard tree words (laid-out road yard tree words b w s)
+
+-- ---- demand 1, of check
+
+module _ (road yard tree : List ℕ) (words : ℕ) where
+  first-refusal : FirstRefusal road yard tree words (checkAnswer road yard tree words)
+  first-refusal = record {
+    by-road = road-first road yard tree words;
+    by-yard = λ r. yard-next road yard tree words (passing-exact road .1 r);
+    by-tree = λ b. tree-next road yard tree words (sound-roads road yard b) (sound-yards road yard b);
+    by-counts = λ b t. counts-next road yard tree words (sound-roads road yard b) (sound-yards road yard b) (accepted-iff tree .1 t);
+    by-yards = λ b s. yards-next road yard tree words (sound-roads road yard b) (sound-yards road yard b) (sound-tree road tree s) (s .counts);
+    by-numbers = λ b s. numbers-next road yard tree words (sound-roads road yard b) (sound-yards road yard b) (sound-tree road tree s) (s .counts);
+    by-work = λ b s. work-next road yard tree words (sound-roads road yard b) (sound-yards road yard b) (sound-tree road tree s) (s .counts);
+  }
+
+  accepted-exact : (checkAnswer road yard tree words ≡ 0) ↔ Accepted road yard tree words
+  accepted-exact = (there, λ a. check-true road yard tree words (a .books) (a .full) (a .tree-sound) .1 (a .yards, a .numbers))
+    where
+      there : checkAnswer road yard tree words ≡ 0 → Accepted road yard tree words
+      there e =
+          let l = none-turned road yard tree words e in
+          let x = check-exact road yard tree words l .0 e in
+          record { books = books-sound road yard (l .roads) (l .yards); tree-sound = record { facts = accepted-iff tree .0 (l .shape); counts = l .counts }; yards = x .0; numbers = x .1; full = l .full }
+
+pub check-safe : CheckSafe
+check-safe road yard tree work = record {
+  refused = first-refusal road yard tree (length work);
+  accepted = accepted-exact road yard tree (length work);
+  kept = refused-kept (checkAnswer road yard tree (length work)) work;
+  emptied = accepted-zeroed (checkAnswer road yard tree (length work)) work;
+}

@@ -1,0 +1,97 @@
+/* How much stack a call takes, against the header's FINDER_STACK_BYTES: the call runs on a stack of its own that held one pattern, and
+ * the lowest byte that no longer does tells. */
+#include <stdio.h>
+#include <string.h>
+#include <ucontext.h>
+
+#include "finder.h"
+
+#define AREA (4 * FINDER_STACK_BYTES)
+#define PATTERN 0xa5
+
+/* The district: a chain of junctions, a yard at each, and a tree of eight levels, which is as deep as a tree may be. */
+#define JUNCTIONS 8
+
+static uint8_t area[AREA];
+static uint8_t road[9 + 6 * (JUNCTIONS - 1)];
+static uint8_t yard[7 + 2 * JUNCTIONS];
+static uint8_t tree[1024];
+static size_t tree_length;
+static uint32_t work[FINDER_WORK_WORDS];
+static uint32_t refusal;
+static ucontext_t here, there;
+
+static uint8_t *put16(uint8_t *at, unsigned value)
+{
+    at[0] = (uint8_t)(value / 256);
+    at[1] = (uint8_t)(value % 256);
+    return at + 2;
+}
+
+static uint8_t *put32(uint8_t *at, unsigned value)
+{
+    return put16(put16(at, value / 65536), value % 65536);
+}
+
+/* A region's start, its landmark the first junction. */
+static uint8_t *put_region(uint8_t *at, unsigned first, unsigned after, unsigned children, unsigned yards)
+{
+    at = put16(put16(at, first), after);
+    *at++ = (uint8_t)children;
+    return put16(put16(at, yards), first);
+}
+
+static void make_books(void)
+{
+    uint8_t *at = put16(put16(put32(road, sizeof road - 4) + 1, JUNCTIONS), JUNCTIONS - 1);
+    unsigned v;
+
+    for (v = 0; v + 1 < JUNCTIONS; v++)
+        at = put16(put16(put16(at, v), v + 1), 1);
+    at = put16(put32(yard, sizeof yard - 4) + 1, JUNCTIONS);
+    for (v = 0; v < JUNCTIONS; v++)
+        at = put16(at, v);
+
+    at = put16(put16(put16(tree + 5, JUNCTIONS), 2 * JUNCTIONS - 1), JUNCTIONS);
+    *at++ = 1;
+    for (v = 0; v + 1 < JUNCTIONS; v++) {
+        at = put32(put32(put_region(at, v, JUNCTIONS, 2, JUNCTIONS - v), 0), JUNCTIONS - 1 - v);
+        at = put16(put32(put_region(at, v, v + 1, 0, 1), 0), v);
+    }
+    at = put16(put32(put_region(at, v, v + 1, 0, 1), 0), v);
+    tree_length = (size_t)(at - tree);
+    put32(tree, (unsigned)tree_length - 4);
+    road[4] = yard[4] = tree[4] = 1;
+}
+
+static void check(void)
+{
+    refusal = finder_check(road, sizeof road, yard, sizeof yard, tree, tree_length, work, FINDER_WORK_WORDS);
+}
+
+/* The stack that a call takes, in bytes. */
+static size_t stack_of(void (*call)(void))
+{
+    size_t low = 0;
+
+    memset(area, PATTERN, AREA);
+    getcontext(&there);
+    there.uc_stack.ss_sp = area;
+    there.uc_stack.ss_size = AREA;
+    there.uc_link = &here;
+    makecontext(&there, call, 0);
+    swapcontext(&here, &there);
+    while (low < AREA && area[low] == PATTERN)
+        low++;
+    return AREA - low;
+}
+
+int main(void)
+{
+    size_t bytes;
+
+    make_books();
+    bytes = stack_of(check);
+    printf("check: refusal %u, %zu bytes of stack, at most %d promised\n", (unsigned)refusal, bytes, FINDER_STACK_BYTES);
+    return refusal != 0 || bytes > FINDER_STACK_BYTES;
+}
