@@ -12,10 +12,10 @@ use lib.Dec.{T, ltb, leb, eqb, le→leb, lt→ltb, not-T, ltb→lt, leb→le}
 use Rattle.book.specs.Choose.{choose}
 use Rattle.book.proofs.Choosing.{choose-case, choose-yes, choose-no}
 use Rattle.book.proofs.Lists.{eq→eqb, ne→neqb}
-use Rattle.tree_layout.specs.Values.{Region}
+use Rattle.tree_layout.specs.Values.{Region, Tree}
 use Rattle.tree_truth.specs.Truth.{within}
 use Rattle.tree_truth.proofs.Within.{within-yes, within-no, within-empty}
-use Rattle.cut_tree.specs.Cut.{Given, leafRegion, innerRegion, cutAt, part, partCount, partRegions, cut}
+use Rattle.cut_tree.specs.Cut.{Given, leafRegion, innerRegion, cutAt, part, partCount, partRegions, cut, cutTree}
 use Rattle.cut_tree.specs.Facts.{countBelow}
 use Rattle.cut_tree.proofs.Parts.{Rising, within-none, cut-first, cut-rise, cut-top, part-is}
 
@@ -111,3 +111,22 @@ module _ (g : Given) (k a s : ℕ) (ys : List ℕ) where
 
   pub cut-many : g .limit < length ys → partCount a s ys 4 0 ≢ 1 → cut g (suc k) a s ys ≡ innerRegion g a s (partCount a s ys 4 0) ys ∷ partRegions (cut g k) a s ys 4 0
   cut-many h e = cut-parts h ∙ choose-no (eqb (partCount a s ys 4 0) 1) _ _ (ne→neqb (partCount a s ys 4 0) 1 e)
+
+-- ---- the tree's fields
+
+module _ (g : Given) (junctions : ℕ) (ys : List ℕ) where
+  pub tree-junctions : cutTree g junctions ys .junctions ≡ junctions
+  unfolding cutTree
+  tree-junctions = refl
+
+  pub tree-yards : cutTree g junctions ys .yards ≡ length ys
+  unfolding cutTree
+  tree-yards = refl
+
+  pub tree-landmarks : cutTree g junctions ys .landmarks ≡ g .landmarks
+  unfolding cutTree
+  tree-landmarks = refl
+
+  pub tree-regions : cutTree g junctions ys .regions ≡ cut g 5 0 junctions ys
+  unfolding cutTree
+  tree-regions = refl

@@ -177,3 +177,8 @@ module _ (road yard tree : List ℕ) (words : ℕ) (laid : Laid road yard tree w
 -- demand 2, of check
 pub check-exact : CheckExact
 check-exact = exact
+
+-- a tree with the book's yards and true numbers passes
+pub true-passes : (road yard tree : List ℕ) (words : ℕ) → Laid road yard tree words → Same (treeYards (decode tree)) (yardsOf yard) → trueTree (dist road) (decode tree) ≡ true
+    → checkAnswer road yard tree words ≡ 0
+true-passes road yard tree words laid s e = there-passes road yard tree words laid s e

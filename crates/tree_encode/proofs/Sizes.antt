@@ -137,3 +137,9 @@ marks-none c = refl
 pub marks-next : (c : ℕ) (m : Mark) (ms : List Mark) → encodeMarks c (m ∷ ms) ≡ encodeMark c m ++ encodeMarks c ms
 unfolding encodeMarks
 marks-next c m ms = refl
+
+-- ---- the book: twelve bytes of header, then the regions
+
+pub encode-is : (t : Tree) → encode t ≡ u32Bytes (length (encodeBody t)) ++ (1 ∷ (u16Bytes (t .junctions) ++ (u16Bytes (length (t .regions)) ++ (u16Bytes (t .yards) ++ (t .landmarks ∷ encodeRegions (t .regions))))))
+unfolding encode encodeBody
+encode-is t = refl

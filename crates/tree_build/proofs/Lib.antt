@@ -1,0 +1,4 @@
+pub mod Heading
+pub mod Limits
+pub mod Answering
+pub mod Placing
