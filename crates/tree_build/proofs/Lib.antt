@@ -2,3 +2,4 @@ pub mod Heading
 pub mod Limits
 pub mod Answering
 pub mod Placing
+pub mod Theorems

@@ -98,15 +98,46 @@ fn put_tree(road: &[u8], yard: &[u8], m: u32, limit: u32, tree: &mut [u8]) -> us
     let mut list = [0u16; 1024];
     let n = book::u16_at(road, 5);
     let put = tree_cutting::cut(
-        5, 0, n as usize, limit as usize, m as usize, road, &head, &next, &to, &cost, &mut ds, &mut done, &mut queue, &mut keys, &mut list, yard, tree, 12,
+        5,
+        0,
+        n as usize,
+        limit as usize,
+        m as usize,
+        road,
+        &head,
+        &next,
+        &to,
+        &cost,
+        &mut ds,
+        &mut done,
+        &mut queue,
+        &mut keys,
+        &mut list,
+        yard,
+        tree,
+        12,
     );
     let end = put.at;
-    put_header(tree, (end - 4) as u32, n, put.regions as u16, book::u16_at(yard, 5), m as u8);
+    put_header(
+        tree,
+        (end - 4) as u32,
+        n,
+        put.regions as u16,
+        book::u16_at(yard, 5),
+        m as u8,
+    );
     end
 }
 
 // Builds a tree into a lent area. An accepted call returns its length and zeroes the first 16,384 work words; one that is turned back changes nothing.
-pub fn build(road: &[u8], yard: &[u8], m: u32, limit: u32, work: &mut [u32], tree: &mut [u8]) -> Built
+pub fn build(
+    road: &[u8],
+    yard: &[u8],
+    m: u32,
+    limit: u32,
+    work: &mut [u32],
+    tree: &mut [u8],
+) -> Built
     ensures refusal { λ r. ⌜ r .refusal ≡ buildAnswer (now (road .entry)) (now (yard .entry)) m limit
         (length (now (work .entry))) (length (now (tree .entry))) ⌝ }
     ensures length { λ r. ⌜ r .length ≡ builtLength (now (road .entry)) (now (yard .entry)) m limit
