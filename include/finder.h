@@ -1,13 +1,14 @@
 /* The meeting-yard finder, for C. Link with libfinder.a, which `rt staticlib finder` writes to target/staticlib.
  *
- * What is lent. A call is lent byte areas (books) and word areas as a pointer and a count: of bytes for a book, of 32-bit words for
- * the work area. No pointer is NULL, also where the count is 0, and each is aligned for its type. The work area overlaps no
- * other area of the call. All is lent for the time of the call only: nothing is kept, nothing is allocated, and nothing outside
+ * What is lent. A call is lent byte areas (books) and word areas as a pointer and a count: of bytes for a book or a tree that is built,
+ * of 32-bit words for the work area. No pointer is NULL, also where the count is 0, and each is aligned for its type. An area that the
+ * call may write overlaps no other area of the call. All is lent for the time of the call only: nothing is kept, nothing is allocated, and nothing outside
  * the lent areas is read or written. Books are only read; they may hold any bytes. Calls may run at the same time if no area that
  * one of them writes is lent to another.
  *
- * What comes back. The refusal is 0 if the call is accepted. Otherwise it is the number below of the first test that failed, and
- * no lent byte or word has changed. Books are tested in the order road, yard, tree, each through all of its tests; then the areas.
+ * What comes back. The refusal is 0 if the call is accepted. Otherwise it is the number below of the first test that failed, every
+ * other field that is returned is 0, and no lent byte or word has changed. Books are tested in the order road, yard, tree, each through all of its tests; then the
+ * call's numbers and areas.
  *
  *    1  fewer than five bytes, or the length is not the count of the bytes after it
  *    2  the version is not 1
@@ -18,7 +19,8 @@
  *    7  the tree's shape rules don't hold
  *    8  junction counts or yards disagree between books, or a yard isn't a junction of the road book
  *    9  in a check: a stored distance, least or greatest isn't the true one
- *   12  a lent area is too short: work below FINDER_WORK_WORDS words
+ *   11  m is outside 1 to 4, or the leaf limit outside 1 to 256
+ *   12  a lent area is too short: work below FINDER_WORK_WORDS words, a built tree's area below FINDER_TREE_BYTES bytes
  *
  * The work area may hold anything. An accepted call leaves its first FINDER_WORK_WORDS words 0 and the rest as they were.
  * A call needs at most FINDER_STACK_BYTES bytes of stack. Measured on x86-64: 84,744 for a check.
@@ -34,6 +36,7 @@ extern "C" {
 #endif
 
 #define FINDER_WORK_WORDS 16384
+#define FINDER_TREE_BYTES 21981
 #define FINDER_STACK_BYTES 262144
 
 /* Checks a tree book beside a road book and a yard book. It answers 0 if and only if the books are sound, the tree's leaves hold each
@@ -41,6 +44,17 @@ extern "C" {
  * each least and greatest true of its region's yards, and the work area is long enough. */
 uint32_t finder_check(const uint8_t *road, size_t road_len, const uint8_t *yard, size_t yard_len,
                       const uint8_t *tree, size_t tree_len, uint32_t *work, size_t work_len);
+
+struct finder_built {
+    uint32_t refusal;
+    uint32_t length; /* of the tree, in bytes */
+};
+
+/* Builds the tree of a road book and a yard book into the area, with m landmarks for each region and at most leaf_limit yards in a leaf,
+ * and returns its length. The tree passes the check beside the two books; the bytes of the area after it stay as they were. */
+struct finder_built finder_build(const uint8_t *road, size_t road_len, const uint8_t *yard, size_t yard_len,
+                                 uint32_t m, uint32_t leaf_limit, uint32_t *work, size_t work_len,
+                                 uint8_t *tree, size_t tree_len);
 
 #ifdef __cplusplus
 }

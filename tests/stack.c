@@ -16,6 +16,7 @@ static uint8_t area[AREA];
 static uint8_t road[9 + 6 * (JUNCTIONS - 1)];
 static uint8_t yard[7 + 2 * JUNCTIONS];
 static uint8_t tree[1024];
+static uint8_t built[FINDER_TREE_BYTES];
 static size_t tree_length;
 static uint32_t work[FINDER_WORK_WORDS];
 static uint32_t refusal;
@@ -69,6 +70,11 @@ static void check(void)
     refusal = finder_check(road, sizeof road, yard, sizeof yard, tree, tree_length, work, FINDER_WORK_WORDS);
 }
 
+static void build(void)
+{
+    refusal = finder_build(road, sizeof road, yard, sizeof yard, 1, 1, work, FINDER_WORK_WORDS, built, sizeof built).refusal;
+}
+
 /* The stack that a call takes, in bytes. */
 static size_t stack_of(void (*call)(void))
 {
@@ -86,12 +92,21 @@ static size_t stack_of(void (*call)(void))
     return AREA - low;
 }
 
+/* Measures a call that has to be accepted; whether it keeps to the bound. */
+static int keeps(const char *name, void (*call)(void))
+{
+    size_t bytes = stack_of(call);
+
+    printf("%s: refusal %u, %zu bytes of stack, at most %d promised\n", name, (unsigned)refusal, bytes, FINDER_STACK_BYTES);
+    return refusal == 0 && bytes <= FINDER_STACK_BYTES;
+}
+
 int main(void)
 {
-    size_t bytes;
+    int kept;
 
     make_books();
-    bytes = stack_of(check);
-    printf("check: refusal %u, %zu bytes of stack, at most %d promised\n", (unsigned)refusal, bytes, FINDER_STACK_BYTES);
-    return refusal != 0 || bytes > FINDER_STACK_BYTES;
+    kept = keeps("check", check);
+    kept &= keeps("build", build);
+    return !kept;
 }

@@ -2,11 +2,9 @@
 
 pub mod lent;
 
-#[cfg(feature = "build")]
 use compare::Built;
 
 /// `struct finder_built`.
-#[cfg(feature = "build")]
 #[repr(C)]
 struct FinderBuilt {
     refusal: u32,
@@ -25,7 +23,6 @@ extern "C" {
         work_len: usize,
     ) -> u32;
 
-    #[cfg(feature = "build")]
     fn finder_build(
         road: *const u8,
         road_len: usize,
@@ -58,7 +55,6 @@ pub fn check(road: &[u8], yard: &[u8], tree: &[u8], work: &mut [u32]) -> u32 {
 }
 
 /// The refusal number and the tree's length.
-#[cfg(feature = "build")]
 pub fn build(
     road: &[u8],
     yard: &[u8],

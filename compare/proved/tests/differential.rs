@@ -40,9 +40,8 @@ impl Tally {
                 area,
             } => {
                 let (work, area) = (words(numbers, *work), bytes(numbers, *area));
-                if let Some(built) = build_alike([road, yard], [*m, *leaf_limit], &work, &area) {
-                    *self.builds.entry(built.refusal).or_default() += 1;
-                }
+                let built = build_alike([road, yard], [*m, *leaf_limit], &work, &area);
+                *self.builds.entry(built.refusal).or_default() += 1;
             }
             Call::Search { .. } => (),
         }
@@ -56,10 +55,8 @@ impl Tally {
         };
         println!("checks by refusal: {:?}", self.checks);
         assert_eq!(seen(&self.checks), [0, 1, 2, 3, 4, 5, 6, 7, 8, 9, 12]);
-        if cfg!(feature = "build") {
-            println!("builds by refusal: {:?}", self.builds);
-            assert_eq!(seen(&self.builds), [0, 1, 2, 3, 4, 5, 6, 8, 11, 12]);
-        }
+        println!("builds by refusal: {:?}", self.builds);
+        assert_eq!(seen(&self.builds), [0, 1, 2, 3, 4, 5, 6, 8, 11, 12]);
     }
 }
 
@@ -109,13 +106,12 @@ fn check_alike(books: [&[u8]; 3], work: &[u32]) -> u32 {
 }
 
 /// Makes the build through both finders.
-#[cfg(feature = "build")]
 fn build_alike(
     books: [&[u8]; 2],
     [m, leaf_limit]: [u32; 2],
     work: &[u32],
     area: &[u8],
-) -> Option<Built> {
+) -> Built {
     let mut held = books.map(lent);
     let (mut words, mut tree) = (lent_words(work), lent(area));
     let [road, yard] = held.each_mut().map(|book| &*book.area());
@@ -134,12 +130,7 @@ fn build_alike(
     assert!(words.is(&after), "work area of {}", call());
     assert!(tree.is(&written), "tree area of {}", call());
     assert_kept(&held, &books);
-    Some(theirs)
-}
-
-#[cfg(not(feature = "build"))]
-fn build_alike(_: [&[u8]; 2], _: [u32; 2], _: &[u32], _: &[u8]) -> Option<Built> {
-    None
+    theirs
 }
 
 /// No book has changed, nor a guard around it.

@@ -3,6 +3,7 @@ use mathlib.Core.Path.{_≡_}
 use mathlib.Core.Logic.{_↔_}
 use mathlib.Core.List.{List}
 use Prim.Native.Nat.{ℕ, _≤_}
+use native.Mathlib.Omega.{arith}
 use lib.ListN.{length}
 use Rattle.work_area.specs.Work.{workWords}
 use Rattle.work_area.proofs.Zeroing.{accepted-zeroed, refused-kept}
@@ -17,7 +18,9 @@ use Rattle.tree_check.specs.Check.{checkAnswer}
 use Rattle.tree_check.specs.Facts.{Laid}
 use Rattle.tree_check.proofs.Theorems.{check-exact}
 use Rattle.tree_check.proofs.Turning.{road-first, yard-next, tree-next, counts-next, yards-next, numbers-next, work-next, none-turned}
-use Rattle.finder.specs.Promises.{SoundBooks, SoundTree, FirstRefusal, Accepted, CheckSafe, CheckTrue}
+use Rattle.tree_build.specs.Build.{buildAnswer}
+use Rattle.tree_build.proofs.Theorems.{build-refusals, build-exact}
+use Rattle.finder.specs.Promises.{SoundBooks, SoundTree, FirstRefusal, Accepted, CheckSafe, CheckTrue, FirstBuildRefusal, BuildAccepted, BuildSafe, BuildTrue}
 
 -- ---- sound books are those that no test turns back
 
@@ -73,3 +76,46 @@ check-safe road yard tree work = record {
   kept = refused-kept (checkAnswer road yard tree (length work)) work;
   emptied = accepted-zeroed (checkAnswer road yard tree (length work)) work;
 }
+
+-- ---- demand 1, of build
+
+module _ (road yard : List ℕ) (m limit words room : ℕ) where
+  first-build-refusal : FirstBuildRefusal road yard m limit words room (buildAnswer road yard m limit words room)
+  first-build-refusal =
+      let r = build-refusals road yard m limit words room in
+      record {
+        by-road = r .road-first;
+        by-yard = λ p. r .yard-next (passing-exact road .1 p);
+        by-range = λ b. r .eleven (sound-roads road yard b) (sound-yards road yard b) .1;
+        by-areas = λ b i. r .twelve (sound-roads road yard b) (sound-yards road yard b) i .1;
+      }
+
+  -- accepted by the tests, and sound
+  build-accepted : (buildAnswer road yard m limit words room ≡ 0) ↔ BuildAccepted road yard m limit words room
+  build-accepted = (there, back)
+    where
+      there : buildAnswer road yard m limit words room ≡ 0 → BuildAccepted road yard m limit words room
+      there e =
+          let a = build-refusals road yard m limit words room .none .0 e in
+          record { books = books-sound road yard (a .roads) (a .yards); range = a .range; areas = a .areas }
+
+      back : BuildAccepted road yard m limit words room → buildAnswer road yard m limit words room ≡ 0
+      back a =
+          build-refusals road yard m limit words room .none .1
+          (record { roads = sound-roads road yard (a .books); yards = sound-yards road yard (a .books); range = a .range; areas = a .areas })
+
+pub build-safe : BuildSafe
+build-safe road yard m limit work tree = record {
+  refused = first-build-refusal road yard m limit (length work) (length tree);
+  accepted = build-accepted road yard m limit (length work) (length tree);
+  kept = λ h. let k = build-exact road yard m limit work tree .refused h in (k .length-none, (k .work-kept, k .tree-kept));
+  emptied = λ e. build-exact road yard m limit work tree .accepted e .zeroes;
+}
+
+-- ---- demand 2, of build
+
+pub build-true : BuildTrue
+build-true road yard m limit work tree b i a =
+    let z = build-accepted road yard m limit (length work) (length tree) .1 (record { books = b; range = i; areas = a }) in
+    let w = build-exact road yard m limit work tree .accepted z in
+    record { one = w .one; cuts = w .rule; size = w .size; short = omega (arith, w .size, w .short); passes = w .passes; back = w .back }

@@ -1,12 +1,13 @@
 -- What the calls promise, to be held against the mission's words and the paper's. Assumes nothing: these are statements.
 --
--- A call is lent books, lists of bytes, and a work area, a list of words. The contract in src/lib.rt says that a check answers `checkAnswer` of them and leaves
--- `workAfter` in the work area; the statements here are about these two, for all lists.
+-- A call is lent books, lists of bytes, and a work area, a list of words; a build also the area of its tree. The contracts in src/lib.rt say that a check
+-- answers `checkAnswer` of them, that a build answers `buildAnswer` and `builtLength` and leaves `treeAfter` in the tree's area, and that both leave `workAfter`
+-- in the work area; the statements here are about these, for all lists.
 use mathlib.Core.Path.{_≡_}
 use mathlib.Core.Logic.{_≢_, _↔_}
-use mathlib.Core.List.{List}
+use mathlib.Core.List.{List, _++_}
 use Prim.Native.Nat.{ℕ, _≤_, _<_}
-use lib.ListN.{length}
+use lib.ListN.{length, drop}
 use Rattle.work_area.specs.Work.{workWords, zeroed, workAfter}
 use Rattle.road_layout.specs.Road.{junctions}
 use Rattle.road.specs.Walk.{net}
@@ -16,8 +17,13 @@ use Rattle.yard.specs.Yards.{YardLayout, yardCount, yardAt, yardsOf, yardRefusa
 use Rattle.tree_layout.specs.Decode.{junctionCount, decode}
 use Rattle.tree.specs.Shape.{treeRefusal}
 use Rattle.tree.specs.Theorems.{TreeFacts}
+use Rattle.tree_encode.specs.Encode.{encode}
+use Rattle.cut_tree.specs.Facts.{Rule}
 use Rattle.tree_check.specs.Check.{checkAnswer}
 use Rattle.tree_check.specs.Facts.{HoldsEach, TrueTotals}
+use Rattle.tree_records.specs.Given.{given}
+use Rattle.tree_build.specs.Build.{treeBytes, buildAnswer, builtTree, builtLength, treeAfter}
+use Rattle.tree_build.specs.Facts.{InRange, Areas, writtenBook}
 
 -- ---- sound books
 
@@ -96,3 +102,55 @@ CheckSafe = (road yard tree work : List ℕ) → CheckKept road yard tree work (
 abbrev pub CheckTrue : Type 0
 CheckTrue = (road yard tree : List ℕ) (words : ℕ) → SoundBooks road yard → workWords ≤ words → SoundTree road tree
     → (checkAnswer road yard tree words ≡ 0) ↔ (YardsHeld yard tree × NumbersTrue road tree)
+
+-- ---- demand 1, of build
+
+-- "Turned back, in this order": the answer of a build is the number of the first test that fails
+pub record FirstBuildRefusal (road yard : List ℕ) (m limit words room answer : ℕ) : Type 0 where
+  -- "Books are tested in the order road, yard": 1 to 6, of the road book
+  pub by-road : roadRefusal road ≢ 0 → answer ≡ roadRefusal road
+  -- of the yard book 1 to 5, and 8
+  pub by-yard : Passing road → yardRefusalIn yard (junctions road) ≢ 0 → answer ≡ yardRefusalIn yard (junctions road)
+  -- "then the call's m, leaf limit and areas", 11: m outside 1 to 4, or the leaf limit outside 1 to 256
+  pub by-range : SoundBooks road yard → (InRange m limit → ⊥) → answer ≡ 11
+  -- 12: "work below 16,384 words, .. a built tree's area below 21,981 bytes"
+  pub by-areas : SoundBooks road yard → InRange m limit → (Areas words room → ⊥) → answer ≡ 12
+
+-- what holds whenever a build's answer is 0
+pub record BuildAccepted (road yard : List ℕ) (m limit words room : ℕ) : Type 0 where
+  pub books : SoundBooks road yard
+  pub range : InRange m limit
+  pub areas : Areas words room
+
+-- a build's answer and length, and its work area and its tree's area before and after
+pub record BuildKept (road yard : List ℕ) (m limit : ℕ) (work tree : List ℕ) (answer size : ℕ) (workLater treeLater : List ℕ) : Type 0 where
+  pub refused : FirstBuildRefusal road yard m limit (length work) (length tree) answer
+  pub accepted : (answer ≡ 0) ↔ BuildAccepted road yard m limit (length work) (length tree)
+  -- "A refusal returns its number, with every other returned field 0, and changes no lent byte or word."
+  pub kept : answer ≢ 0 → (size ≡ 0) × (workLater ≡ work) × (treeLater ≡ tree)
+  -- "zero the first 16,384 words of the work area and leave any after them"
+  pub emptied : answer ≡ 0 → workLater ≡ zeroed workWords work
+
+abbrev pub BuildSafe : Type 0
+BuildSafe = (road yard : List ℕ) (m limit : ℕ) (work tree : List ℕ)
+    → BuildKept road yard m limit work tree (buildAnswer road yard m limit (length work) (length tree)) (builtLength road yard m limit (length work) (length tree))
+    (workAfter (buildAnswer road yard m limit (length work) (length tree)) work) (treeAfter road yard m limit (length work) tree)
+
+-- ---- demand 2, of build
+--
+-- "Building writes the one tree that the stated cuts give; it passes, and reading it back gives the regions and numbers that were written."
+pub record BuildWrites (road yard : List ℕ) (m limit : ℕ) (work tree : List ℕ) : Type 0 where
+  -- "the one tree", and "Bytes after a built tree stay."; `builtTree` is a value, and its ranges are cut as the paper's "Building" says
+  pub one : treeAfter road yard m limit (length work) tree ≡ encode (builtTree road yard m limit) ++ drop (length (encode (builtTree road yard m limit))) tree
+  pub cuts : Rule (given road m limit)
+  -- "Build returns the tree's length.", and no tree is longer than the area that is asked for
+  pub size : builtLength road yard m limit (length work) (length tree) ≡ length (encode (builtTree road yard m limit))
+  pub short : length (encode (builtTree road yard m limit)) ≤ treeBytes
+  -- "it passes": the bytes that were written, so many as are returned, beside the two books, with any full work area
+  pub passes : (words : ℕ) → workWords ≤ words → checkAnswer road yard (writtenBook road yard m limit (length work) tree) words ≡ 0
+  -- "reading it back gives the regions and numbers that were written"
+  pub back : decode (writtenBook road yard m limit (length work) tree) ≡ builtTree road yard m limit
+
+abbrev pub BuildTrue : Type 0
+BuildTrue = (road yard : List ℕ) (m limit : ℕ) (work tree : List ℕ) → SoundBooks road yard → InRange m limit → Areas (length work) (length tree)
+    → BuildWrites road yard m limit work tree

@@ -1,8 +1,10 @@
 // The calls of the planner, which is in C. A slice is a pointer and a count there; include/finder.h declares them and says what is lent.
+use tree_build::Built;
 ghost use mathlib.Core.Path.{_≡_};
 ghost use lib.ListN.{length};
 ghost use Rattle.work_area.specs.Work.{workAfter};
 ghost use Rattle.tree_check.specs.Check.{checkAnswer};
+ghost use Rattle.tree_build.specs.Build.{buildAnswer, builtLength, treeAfter};
 
 // Checks a tree book beside a road book and a yard book: 0, or the number of the first test that fails. An accepted call zeroes the first 16,384 work words.
 #[no_mangle]
@@ -12,4 +14,27 @@ pub extern "C" fn finder_check(road: &[u8], yard: &[u8], tree: &[u8], work: &mut
         ≡ workAfter (checkAnswer (now (road .entry)) (now (yard .entry)) (now (tree .entry)) (length (now (work .entry)))) (now (work .entry)) ⌝ }
 {
     tree_check::check(road, yard, tree, work) as u32
+}
+
+// Builds the tree of a road book and a yard book, with m landmarks for each region, into a lent area: 0 and the tree's length, or the number of the first test
+// that fails. An accepted call zeroes the first 16,384 work words and leaves the bytes after the tree.
+#[no_mangle]
+pub extern "C" fn finder_build(
+    road: &[u8],
+    yard: &[u8],
+    m: u32,
+    leaf_limit: u32,
+    work: &mut [u32],
+    tree: &mut [u8],
+) -> Built
+    ensures refusal { λ r. ⌜ r .refusal ≡ buildAnswer (now (road .entry)) (now (yard .entry)) m leaf_limit
+        (length (now (work .entry))) (length (now (tree .entry))) ⌝ }
+    ensures length { λ r. ⌜ r .length ≡ builtLength (now (road .entry)) (now (yard .entry)) m leaf_limit
+        (length (now (work .entry))) (length (now (tree .entry))) ⌝ }
+    ensures work { λ _. ⌜ now (work .exit) ≡ workAfter (buildAnswer (now (road .entry)) (now (yard .entry)) m leaf_limit
+        (length (now (work .entry))) (length (now (tree .entry)))) (now (work .entry)) ⌝ }
+    ensures tree { λ _. ⌜ now (tree .exit) ≡ treeAfter (now (road .entry)) (now (yard .entry)) m leaf_limit
+        (length (now (work .entry))) (now (tree .entry)) ⌝ }
+{
+    tree_build::build(road, yard, m, leaf_limit, work, tree)
 }

@@ -74,14 +74,15 @@ write-before hs xs tree n h fits =
     ∙ ap (λ (k : ℕ). (hs ++ xs) ++ drop k tree) (sym total)
     ∙ sym all
 
--- what stands at the start after a writing there, and after it
-pub written-front : (w tree : List ℕ) → length w ≤ length tree → take (length w) (write tree 0 w) ≡ w
-written-front w tree h =
-    let e : write tree 0 w ≡ w ++ drop (0 + length w) tree = write-is w tree 0 (omega arith) in
-    ap (take (length w)) e ∙ take-at w (drop (0 + length w) tree) (length w) refl
-
-pub written-rest : (w tree : List ℕ) → length w ≤ length tree → drop (length w) (write tree 0 w) ≡ drop (length w) tree
-written-rest w tree h =
+-- what stands after a writing at the start, its front and the rest
+pub written-whole : (w tree : List ℕ) → length w ≤ length tree → write tree 0 w ≡ w ++ drop (length w) tree
+written-whole w tree h =
     let e : write tree 0 w ≡ w ++ drop (0 + length w) tree = write-is w tree 0 (omega arith) in
     let z : 0 + length w ≡ length w = omega arith in
-    ap (drop (length w)) e ∙ drop-at w (drop (0 + length w) tree) (length w) refl ∙ ap (λ (k : ℕ). drop k tree) z
+    e ∙ ap (λ (k : ℕ). w ++ drop k tree) z
+
+pub written-front : (w tree : List ℕ) → length w ≤ length tree → take (length w) (write tree 0 w) ≡ w
+written-front w tree h = ap (take (length w)) (written-whole w tree h) ∙ take-at w (drop (length w) tree) (length w) refl
+
+pub written-rest : (w tree : List ℕ) → length w ≤ length tree → drop (length w) (write tree 0 w) ≡ drop (length w) tree
+written-rest w tree h = ap (drop (length w)) (written-whole w tree h) ∙ drop-at w (drop (length w) tree) (length w) refl

@@ -34,7 +34,7 @@ use Rattle.tree_check.specs.Facts.{Laid}
 use Rattle.tree_check.proofs.Theorems.{true-passes}
 use Rattle.tree_build.specs.Build.{treeBytes, rangeRefusal, roomRefusal, buildAnswer, builtTree, builtLength, treeAfter}
 use Rattle.tree_build.specs.Facts.{InRange, Areas, Accepted, Refusals, Kept, writtenBook, Writes, BuildExact}
-use Rattle.tree_build.proofs.Heading.{written-front, written-rest}
+use Rattle.tree_build.proofs.Heading.{written-front, written-rest, written-whole}
 use Rattle.tree_build.proofs.Limits.{built-tree, its-junctions, short}
 use Rattle.tree_build.proofs.Answering.{range-facts, facts-range, room-facts, long-enough, accepted-facts, facts-accepted, call-tests, area-tests, road-turned, yard-turned, turned-length, turned-work, turned-tree, taken-length, taken-work, taken-tree}
 
@@ -178,6 +178,8 @@ module _ (road yard : List ℕ) (m limit : ℕ) (work tree : List ℕ) where
 
     writes : Writes road yard m limit work tree
     writes = record {
+      one = tree-is ∙ written-whole (encode t) tree fits;
+      size = length-is;
       back = rw book-is back;
       passes = λ words h. rw book-is (passes words h);
       bytes = rw book-is bytes;

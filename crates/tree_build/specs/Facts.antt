@@ -1,7 +1,7 @@
 -- What a build promises, to be held against the paper. Assumes nothing: these are statements.
 use mathlib.Core.Path.{_≡_}
 use mathlib.Core.Logic.{_↔_, _≢_}
-use mathlib.Core.List.{List, [], _∷_, List·Memᴰ as Mem}
+use mathlib.Core.List.{List, [], _∷_, _++_, List·Memᴰ as Mem}
 use Prim.Native.Nat.{ℕ, _≤_, _<_}
 use lib.ListN.{length, take, drop}
 use Rattle.book.specs.Bytes.{Bytes}
@@ -14,6 +14,7 @@ use Rattle.tree_layout.specs.Values.{Region}
 use Rattle.tree_layout.specs.Decode.{decode}
 use Rattle.tree.specs.Shape.{treeRefusal}
 use Rattle.tree.specs.Facts.{Preorder}
+use Rattle.tree_encode.specs.Encode.{encode}
 use Rattle.cut_tree.specs.Facts.{Rule}
 use Rattle.tree_records.specs.Given.{given}
 use Rattle.tree_check.specs.Check.{checkAnswer}
@@ -60,6 +61,9 @@ writtenBook road yard m limit words tree = take (builtLength road yard m limit w
 
 -- an accepted call
 pub record Writes (road yard : List ℕ) (m limit : ℕ) (work tree : List ℕ) : Type 0 where
+  -- the tree's book, and after it what stood there; "Build returns the tree's length."
+  pub one : treeAfter road yard m limit (length work) tree ≡ encode (builtTree road yard m limit) ++ drop (length (encode (builtTree road yard m limit))) tree
+  pub size : builtLength road yard m limit (length work) (length tree) ≡ length (encode (builtTree road yard m limit))
   -- "reading it back gives the regions and numbers that were written"
   pub back : decode (writtenBook road yard m limit (length work) tree) ≡ builtTree road yard m limit
   -- the written tree passes the check beside the two books, with a full work area

@@ -31,7 +31,6 @@ fn main() {
         let theirs = |work: &mut [u32]| compare::check(&road, &yard, tree, work);
         row("check", leaf_limit, ours, theirs);
     }
-    #[cfg(feature = "build")]
     for leaf_limit in LEAF_LIMITS {
         let (one, other) = (&mut vec![0; AREA_BYTES], &mut vec![0; AREA_BYTES]);
         let ours = |work: &mut [u32]| {
