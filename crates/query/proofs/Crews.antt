@@ -1,15 +1,17 @@
 -- Whether the crews stand inside, one crew at a time, as a loop counts: `count - k` crews are left. Assumes nothing.
-use mathlib.Core.Path.{_≡_, refl, sym, _∙_}
+use mathlib.Core.Path.{_≡_, refl, sym, ap, _∙_}
+use mathlib.Core.Logic.{_⊎_, inl, inr}
 use mathlib.Core.Bool.{true, false}
-use mathlib.Core.List.{List}
+use mathlib.Core.List.{List, List·Memᴰ as Mem, List·Memᴰ·not-nil as not-nil, List·Memᴰ·cases-cons as cases-cons}
 use Prim.Native.Nat.{ℕ, zero, suc, _+_, _-_, _*_, _≤_, _<_}
 use native.Mathlib.Decide.{ℕ-discrete}
 use native.Mathlib.Omega.{arith}
 use borrow.Author.Tests.{lt-ltb, le-ltb}
+use lib.ListN.{length}
 use lib.Dec.{T, ltb, ltb→lt, lt→ltb}
 use Rattle.book.specs.Bytes.{u16At}
 use Rattle.book.proofs.Choosing.{and-left, and-right, and-both}
-use Rattle.query.specs.Query.{crewAt, crewsFrom, inside}
+use Rattle.query.specs.Query.{crewCount, crewAt, crewsFrom, crewsOf, inside}
 
 -- what stands at a crew's place is its junction
 pub read-crew : (b : List ℕ) (i x : ℕ) → x ≡ u16At b (12 + 2 * i) → x ≡ crewAt b i
@@ -53,3 +55,30 @@ module _ (b : List ℕ) (n : ℕ) where
   inside-all (suc left) k f =
       and-both (ltb (crewAt b k) n) (inside n (crewsFrom b left (k + 1))) (lt→ltb (crewAt b k) n (f k (omega arith) (omega arith)))
       (inside-all left (k + 1) (λ i p q. f i (omega arith) (omega arith)))
+
+-- ---- the list of crews
+
+module _ (b : List ℕ) where
+  count-from : (n i : ℕ) → length (crewsFrom b n i) ≡ n
+  unfolding crewsFrom
+  count-from zero i = refl
+  count-from (suc n) i = ap suc (count-from n (i + 1))
+
+  -- as many as the book counts
+  pub crews-length : length (crewsOf b) ≡ crewCount b
+  unfolding crewsOf
+  crews-length = count-from (crewCount b) 0
+
+  from-below : (n left k q : ℕ) → ((i : ℕ) → k ≤ i → i < k + left → crewAt b i < n) → Mem q (crewsFrom b left k) → q < n
+  unfolding crewsFrom
+  from-below n zero k q f m = absurd (not-nil m)
+  from-below n (suc left) k q f m = go (cases-cons m) (λ j. from-below n left (k + 1) q (λ i p r. f i (omega arith) (omega arith)) j)
+    where
+      go : (q ≡ crewAt b k) ⊎ Mem q (crewsFrom b left (k + 1)) → (Mem q (crewsFrom b left (k + 1)) → q < n) → q < n
+      go (inl e) rest = rw e (f k (omega arith) (omega arith))
+      go (inr j) rest = rest j
+
+  -- each at a junction below n if every place of the book has one
+  pub crews-below : (n : ℕ) → ((i : ℕ) → i < crewCount b → crewAt b i < n) → (q : ℕ) → Mem q (crewsOf b) → q < n
+  unfolding crewsOf
+  crews-below n f q m = from-below n (crewCount b) 0 q (λ i p r. f i (omega arith)) m

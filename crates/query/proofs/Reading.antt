@@ -14,7 +14,7 @@ use Rattle.book.specs.Open.{openRefusal, opened}
 use Rattle.book.specs.declared.Opened.the-variants as Opened
 use Rattle.book.proofs.Choosing.{first-none, first-later, first-earlier, passes, passed, passes-if, fails-if, eq→eqb}
 use Rattle.book.proofs.Opening.{opened-refused, opens, open-zero}
-use Rattle.query.specs.Query.{aggregateOf, wantedOf, limitOf, crewCount, crewsOf, crewsFrom, inside, valueRefusal, bodyRefusal, queryRefusal, queryOf, queryBook, QueryLayout}
+use Rattle.query.specs.Query.{aggregateOf, wantedOf, limitOf, crewCount, crewsOf, crewsFrom, inside, valueRefusal, bodyRefusal, queryRefusal, queryOf, queryBook, numberOf, QueryLayout}
 use Rattle.query.specs.declared.Query.{Query}
 use Rattle.query.specs.declared.QueryBook.{QueryBook}
 use Rattle.query.specs.declared.QueryBook.the-variants.{Asked, Refused}
@@ -104,6 +104,30 @@ read-refused zero q why e = let z : _≡_ {A = ℕ} 0 1 = cc in absurd (omega ar
 read-refused (suc x) q why e =
     let f : suc x ≡ why = cc in
     (f, omega arith)
+
+-- what is asked, by the book's fields
+module _ (b : List ℕ) where
+  pub asked-aggregate : queryOf b .aggregate ≡ aggregateOf b
+  unfolding queryOf
+  asked-aggregate = refl
+
+  pub asked-wanted : queryOf b .wanted ≡ wantedOf b
+  unfolding queryOf
+  asked-wanted = refl
+
+  pub asked-limit : queryOf b .limit ≡ limitOf b
+  unfolding queryOf
+  asked-limit = refl
+
+  pub asked-crews : queryOf b .crews ≡ crewCount b
+  unfolding queryOf
+  asked-crews = refl
+
+-- the number that an answer has
+pub number-is : (x : ℕ) (q : Query) → numberOf (queryBook x q) ≡ x
+unfolding numberOf queryBook
+number-is zero q = refl
+number-is (suc x) q = refl
 
 -- ---- what passes
 

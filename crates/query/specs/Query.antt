@@ -74,6 +74,11 @@ unfoldable pub queryBook : ℕ → Query → QueryBook
 queryBook zero q = Asked q
 queryBook (suc n) q = Refused (suc n)
 
+-- the number of an answer: "The number of an accepted call is 0."
+unfoldable pub numberOf : QueryBook → ℕ
+numberOf (Asked q) = 0
+numberOf (Refused why) = why
+
 -- a query book that no test turns back, sentence by sentence
 pub record QueryLayout (b : List ℕ) (junctions : ℕ) : Type 0 where
   -- "a 4-byte count of the bytes after it, a version byte (1), then fields", seven bytes of header among them

@@ -4,7 +4,7 @@ use book::Opened;
 ghost use mathlib.Core.Path.{_≡_};
 ghost use Prim.Native.Nat.{ℕ, _+_, _*_, _≤_, _<_};
 ghost use lib.ListN.{length};
-ghost use Rattle.query.specs.Query.{crewCount, crewAt, crewsFrom, inside, valueRefusal, queryRefusal, queryOf, queryBook};
+ghost use Rattle.query.specs.Query.{crewCount, crewAt, crewsFrom, inside, valueRefusal, queryRefusal, queryOf, queryBook, numberOf};
 
 // What a query asks: the aggregate's code, how many yards, the limit of steps, and how many crews there are.
 pub struct Query {
@@ -18,6 +18,16 @@ pub struct Query {
 pub enum QueryBook {
     Asked(Query),
     Refused(u8),
+}
+
+// The number of an answer, 0 for a query that is accepted.
+pub fn number(o: QueryBook) -> u8
+    ensures { λ r. ⌜ r ≡ numberOf o ⌝ }
+{
+    match o {
+        QueryBook::Asked(_) => 0,
+        QueryBook::Refused(why) => why,
+    }
 }
 
 // Whether each of the `count` crews stands at a junction below n.

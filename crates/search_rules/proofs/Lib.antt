@@ -13,6 +13,7 @@ pub mod Fitting
 pub mod Trees
 pub mod Books
 pub mod Theorems
+pub mod Asked
 pub mod Walks
 pub mod Turns
 pub mod Vectors

@@ -1,10 +1,12 @@
 -- The work area's test, and the area after a call. Assumes nothing.
 use mathlib.Core.Path.{_≡_, refl, sym, ap, _∙_}
+use mathlib.Core.Bool.{Bool, true, false}
 use mathlib.Core.List.{List}
 use Prim.Native.Nat.{ℕ, _≤_, _<_}
 use native.Mathlib.Omega.{arith}
-use lib.ListN.{length}
+use lib.ListN.{length, replicate, drop, length-append, length-drop}
 use lib.Dec.{T, leb, eqb, leb→le, le→leb, not-T}
+use Rattle.book.specs.Choose.{choose}
 use Rattle.book.proofs.Choosing.{passes, fails, passed, choose-yes, choose-no}
 use Rattle.book.proofs.Lists.{eq→eqb, ne→neqb}
 use Rattle.book.proofs.Filling.{filled, filled-parts}
@@ -36,3 +38,17 @@ module _ (refusal : ℕ) (work : List ℕ) where
   pub refused-kept : (refusal ≡ 0 → ⊥) → workAfter refusal work ≡ work
   unfolding workAfter
   refused-kept h = choose-no (eqb refusal 0) (zeroed workWords work) work (ne→neqb refusal 0 h)
+
+-- areas of one length have one length after a call
+zeroed-length : (n : ℕ) (v w : List ℕ) → length v ≡ length w → length (zeroed n v) ≡ length (zeroed n w)
+unfolding zeroed
+zeroed-length n v w e = omega (arith, length-append (replicate n 0) (drop n v), length-append (replicate n 0) (drop n w), length-drop n v, length-drop n w)
+
+either-length : (b : Bool) (v w x y : List ℕ) → length v ≡ length w → length x ≡ length y → length (choose b x v) ≡ length (choose b y w)
+unfolding choose
+either-length true v w x y e f = f
+either-length false v w x y e f = e
+
+pub after-length : (refusal : ℕ) (v w : List ℕ) → length v ≡ length w → length (workAfter refusal v) ≡ length (workAfter refusal w)
+unfolding workAfter
+after-length refusal v w e = either-length (eqb refusal 0) v w (zeroed workWords v) (zeroed workWords w) e (zeroed-length workWords v w e)

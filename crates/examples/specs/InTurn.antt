@@ -1,0 +1,33 @@
+-- The examples' trees pass beside their roads, and searches on the same two areas in turn: so that demand 3 says something of them. Assumes nothing: these are statements.
+use mathlib.Core.Path.{_≡_}
+use mathlib.Core.List.{List, [], _∷_, _++_}
+use Prim.Native.Nat.{ℕ}
+use lib.ListN.{drop, replicate}
+use Rattle.tree_check.specs.Check.{checkAnswer}
+use Rattle.search_call.specs.Call.{Call, areasAfter}
+use Rattle.search_call.specs.Demand.{Promised}
+use Rattle.examples.specs.Books.{roadN, treeN, roadOne, treeOne, roadThree, treeThree, asking, onN, onThree, lent, refusedRow, row}
+
+-- a yard book of "yards 1, 3, 4", of "yard 0" and of "yards 0 and 2"
+unfoldable pub yardN : List ℕ
+yardN = 0 ∷ 0 ∷ 0 ∷ 9 ∷ 1 ∷ 0 ∷ 3 ∷ 0 ∷ 1 ∷ 0 ∷ 3 ∷ 0 ∷ 4 ∷ []
+
+unfoldable pub yardOne : List ℕ
+yardOne = 0 ∷ 0 ∷ 0 ∷ 5 ∷ 1 ∷ 0 ∷ 1 ∷ 0 ∷ 0 ∷ []
+
+unfoldable pub yardThree : List ℕ
+yardThree = 0 ∷ 0 ∷ 0 ∷ 7 ∷ 1 ∷ 0 ∷ 2 ∷ 0 ∷ 0 ∷ 0 ∷ 2 ∷ []
+
+-- the listing; a crew at no junction; limit 3; the chain of three
+unfoldable pub four : List Call
+four = onN (asking 0 2 4 (0 ∷ 2 ∷ [])) ∷ onN (asking 0 2 4 (0 ∷ 5 ∷ [])) ∷ onN (asking 0 2 3 (0 ∷ 2 ∷ [])) ∷ onThree (asking 0 1 6 (1 ∷ [])) ∷ []
+
+pub record InTurn : Type 0 where
+  pub passes-N : checkAnswer roadN yardN treeN 16384 ≡ 0
+  pub passes-one : checkAnswer roadOne yardOne treeOne 16384 ≡ 0
+  pub passes-three : checkAnswer roadThree yardThree treeThree 16384 ≡ 0
+  -- 10: "at no junction of the road book"
+  pub refused : row (onN (asking 0 2 4 (0 ∷ 5 ∷ []))) ≡ refusedRow 10
+  -- the listing's words are written, then the chain's yard over their start; the two others write nothing
+  pub results : areasAfter four lent .results ≡ (0 ∷ 1 ∷ 3 ∷ 13 ∷ []) ++ drop 4 (replicate 128 7)
+  pub promised : Promised four lent

@@ -1,0 +1,165 @@
+-- Demand 3, and what is promised beside it. Assumes nothing.
+use mathlib.Core.Bool.{not}
+use mathlib.Core.Path.{_≡_, refl, sym, ap, _∙_}
+use mathlib.Core.List.{List, [], _∷_, _++_, map, List·Memᴰ as Mem, List·Memᴰ·head as head, List·Memᴰ·tail as tail}
+use Prim.Native.Nat.{ℕ, _+_, _≤_}
+use native.Mathlib.Omega.{arith}
+use lib.ListN.{length, drop}
+use lib.Dec.{T, not-T}
+use Rattle.book.specs.Bytes.{Bytes}
+use Rattle.book.specs.Lists.{Distinct}
+use Rattle.book.specs.Writing.{write}
+use Rattle.book.proofs.Lists.{map-mem}
+use Rattle.book.proofs.Writing.{write-is}
+use Rattle.road.specs.Dijkstra.{dist}
+use Rattle.tree_layout.specs.Values.{Element}
+use Rattle.tree_layout.specs.Facts.{Before}
+use Rattle.tree_layout.specs.Decode.{decode}
+use Rattle.tree_truth.specs.Facts.{TrueNumbers}
+use Rattle.tree_truth.proofs.Theorems.{tested}
+use Rattle.tree_check.specs.Facts.{Laid}
+use Rattle.tree_check.proofs.Passing.{passed-laid, passed-yards, passed-true}
+use Rattle.search_rules.specs.Run.{words, answer}
+use Rattle.search_rules.specs.Facts.{WellFormed, Sound}
+use Rattle.search_rules.specs.Theorems.{Sorted, TreeYards, Listing, Decided as RulesDecided}
+use Rattle.search_rules.proofs.Held.{before-not, greatest-is}
+use Rattle.search_rules.proofs.Books.{Passed, well-of, sound-of}
+use Rattle.search_rules.proofs.Asked.{asked-wanted, asked-yards, asked-there, asked-ends}
+use Rattle.search_rules.proofs.Theorems.{decided, answer-taken, answer-measured, answer-listing, answer-within, answer-spent, words-length}
+use Rattle.search_rules.proofs.Walks.{total-least, first-yards}
+use Rattle.search_call.specs.Call.{Call, Areas, Search, searches}
+use Rattle.search_call.specs.Demand.{OnPassing, NotRefused, Settled, code, k, crews, limit, yards, instanceOf, list, Full, lastDistance, measured, BoundOf, Demand3, TrueList, Decided, AnyTree, OwnYards}
+use Rattle.search_call.proofs.Calls.{on-settled, settled-on, spent-on, on-listed, on-taken, on-measured, on-tests, on-refused, work-zeroed, results-written, results-kept, areas-kept}
+use Rattle.search_call.proofs.Bounded.{has-bound, one-bound}
+use Rattle.search_call.proofs.Lists.{call-of, written-in-turn}
+
+-- whatever yard book a tree passes with has the tree's own yards
+pub own-yards : OwnYards
+own-yards road tree p = passed-yards road (p .yard) tree (p .work) (p .zero)
+
+-- yards of a list in yard order whose equal yards are one are distinct
+yards-distinct : (l : List Element) → Sorted l → ((h g : Element) → Mem h l → Mem g l → h .yard ≡ g .yard → h ≡ g) → Distinct (map (λ (e : Element). e .yard) l)
+yards-distinct [] s d = tt
+yards-distinct (h ∷ l) s d = (
+  (λ m.
+      let (g, j, e) = map-mem (λ (x : Element). x .yard) l (h .yard) m in
+      let b : Before h g = s .0 g j in
+      let c : Before h h = rw (← d h g (head refl) (tail j) e) at b in
+      before-not c c),
+  yards-distinct l (s .1) (λ x g a b. d x g (tail a) (tail b)),
+)
+
+-- what is written over the start, and what stood after it
+over-start : (w b : List ℕ) → length w ≤ length b → write b 0 w ≡ w ++ drop (length w) b
+over-start w b h = write-is w b 0 (omega arith) ∙ ap (λ (n : ℕ). w ++ drop n b) (let e : 0 + length w ≡ length w = omega arith in e)
+
+-- ---- one search
+
+module _ (s : Search) where
+  abbrev road : List ℕ
+  road = s .call .road
+
+  abbrev tree : List ℕ
+  tree = s .call .tree
+
+  module _ (p : Passed road tree (crews s)) where
+    well : WellFormed (instanceOf s)
+    well = well-of road tree (code s) (k s) (crews s) p
+
+    tree-yards : TreeYards (instanceOf s) (yards s)
+    tree-yards = asked-yards road tree (code s) (k s) (crews s) p
+
+    -- on a tree that passes it is sound
+    sound : OnPassing s → Sound (instanceOf s)
+    sound q =
+        let numbers : TrueNumbers (dist road) (decode tree) = passed-true road (q .yard) tree (q .work) (q .zero) in
+        let laid : Laid road (q .yard) tree (q .work) = passed-laid road (q .yard) tree (q .work) (q .zero) in
+        sound-of road tree (code s) (k s) (crews s) p (numbers .lists) (tested tree (laid .shape) .encloses (dist road) numbers)
+
+    true-list : T (answer (instanceOf s) (limit s) .settled) → TrueList s
+    true-list t =
+        let l : Listing (instanceOf s) (list s) = answer-listing (instanceOf s) well (limit s) t in
+        record {
+          distances = λ e j. rw (l .distances e j)
+              (total-least road tree (code s) (k s) (crews s) p (e .yard) (asked-there road tree (code s) (k s) (crews s) p (e .yard) (l .in-tree e j)));
+          distinct = yards-distinct (list s) (l .sorted) (l .distinct);
+          sorted = l .sorted;
+          in-tree = λ e j. tree-yards .every (e .yard) (l .in-tree e j);
+          few = omega (arith, l .few, asked-wanted road tree (code s) (k s) (crews s));
+        }
+
+    -- no measured yard's bound is above the last distance of a full list
+    within-last : OnPassing s → T (answer (instanceOf s) (limit s) .settled) → Full s → (y b : ℕ) → Mem y (measured s) → BoundOf s y b → b ≤ lastDistance s
+    within-last q t full y b j d =
+        let m : Mem (d .element .yard) (measured s) = rw (d .names) j in
+        let f = full ∙ sym (asked-wanted road tree (code s) (k s) (crews s)) in
+        let h = answer-within (instanceOf s) (sound q) (limit s) t f (d .home) (d .element) (d .is-leaf) (d .number) (d .in-list) m in
+        omega (arith, d .value, greatest-is (list s))
+
+  -- whatever the tree's numbers say
+  module _ (bytes : Bytes tree) where
+    abbrev c : Call
+    c = s .call
+
+    abbrev a : Areas
+    a = s .areas
+
+    -- the books of a search that is not refused pass the tests
+    books : NotRefused s → Passed road tree (crews s)
+    books n = on-tests c a n .books bytes
+
+    abbrev rules : (n : NotRefused s) → RulesDecided (instanceOf s) (limit s)
+    rules n = decided (instanceOf s) (well (books n)) (limit s)
+
+    true-settled : Settled s → TrueList s
+    true-settled t = let (n, u) = on-settled c a t in true-list (books n) u
+
+    room : Settled s → length (words (list s)) ≤ length (a .results)
+    room t = omega (arith, words-length (list s), true-settled t .few, on-tests c a (on-settled c a t .0) .results-full)
+
+    not-settled : NotRefused s → (Settled s → ⊥) → T (not (answer (instanceOf s) (limit s) .settled))
+    not-settled n h = not-T (answer (instanceOf s) (limit s) .settled) (λ t. h (settled-on c a n t))
+
+    decided-search : Decided s
+    decided-search = record {
+      listed = true-settled;
+      count = λ t. on-listed c a (on-settled c a t .0);
+      room = room;
+      writes = λ t. results-written c a t ∙ over-start (words (list s)) (a .results) (room t);
+      leaves = results-kept c a;
+      spent = λ n h.
+          let (e, f) = answer-spent (instanceOf s) (limit s) (not-settled n h) in
+          (spent-on c a n (not-settled n h), on-listed c a n ∙ ap length e, on-taken c a n ∙ f);
+      within = λ n. omega (arith, on-taken c a n, answer-taken (instanceOf s) (limit s), rules n .within);
+      counted = λ n. on-measured c a n ∙ answer-measured (instanceOf s) (limit s);
+      once = λ n. rules n .measured-once;
+      in-tree = λ n y j. tree-yards (books n) .every y (rules n .measured-in y j);
+      bounded = λ n y j. has-bound (instanceOf s) (well (books n) .shape) (tree-yards (books n) .below y j) (well (books n) .shape .root);
+      one-bound = λ n. one-bound (instanceOf s) (well (books n) .shape);
+      zeroes = λ n. (on-tests c a n .work-full, work-zeroed c a n);
+      unchanged = λ h. (on-refused c a h, areas-kept c a h);
+    }
+
+-- ---- a list of searches
+
+-- demand 3
+pub demand-3 : Demand3
+demand-3 calls bytes first = record {
+  exact = λ s m q t.
+      let (n, u) = on-settled (s .call) (s .areas) t in
+      let p = books s (of-bytes s m) n in
+      first-yards (s .call .road) (s .call .tree) (code s) (k s) (crews s) p (sound s p q) (limit s) u;
+  measured-within = λ s m q t.
+      let (n, u) = on-settled (s .call) (s .areas) t in
+      within-last s (books s (of-bytes s m) n) q u;
+  ends = λ s m q n h. settled-on (s .call) (s .areas) n
+      (asked-ends (s .call .road) (s .call .tree) (code s) (k s) (crews s) (books s (of-bytes s m) n) (limit s) h);
+  results = written-in-turn calls first;
+}
+  where
+    of-bytes : (s : Search) → Mem s (searches calls first) → Bytes (s .call .tree)
+    of-bytes s m = bytes (s .call) (call-of calls first s m)
+
+-- of any tree that the search's own tests accept
+pub any-tree : AnyTree
+any-tree calls bytes first s m = decided-search s (bytes (s .call) (call-of calls first s m))

@@ -1,0 +1,5 @@
+pub mod Calls
+pub mod Refusing
+pub mod Bounded
+pub mod Lists
+pub mod Demand

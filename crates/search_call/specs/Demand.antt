@@ -1,0 +1,188 @@
+-- Demand 3: what is promised of any list of searches on one work area and one result area, to be held against the paper; and what is promised beside it.
+-- Assumes nothing: these are statements.
+use mathlib.Core.Path.{_≡_}
+use mathlib.Core.List.{List, [], _∷_, _++_, map, List·Memᴰ as Mem}
+use Prim.Native.Nat.{ℕ, _+_, _*_, _≤_, _<_}
+use lib.ListN.{length, drop}
+use lib.Dec.{T, eqb}
+use Rattle.book.specs.Choose.{choose}
+use Rattle.book.specs.Bytes.{Bytes}
+use Rattle.book.specs.Lists.{Distinct}
+use Rattle.work_area.specs.Work.{workWords, zeroed}
+use Rattle.road.specs.Walk.{Arc, net}
+use Rattle.yard.specs.Yards.{yardsOf}
+use Rattle.tree_layout.specs.Values.{Element, lastFrom}
+use Rattle.tree_layout.specs.Decode.{decode}
+use Rattle.tree.specs.Yards.{treeYards, inners}
+use Rattle.tree_truth.specs.Facts.{Same}
+use Rattle.tree_check.specs.Check.{checkAnswer}
+use Rattle.query.specs.Query.{aggregateOf, wantedOf, limitOf, crewsOf}
+use Rattle.search_rules.specs.Instance.{Instance, size, leaf}
+use Rattle.search_rules.specs.Bounds.{chosen, yardBound}
+use Rattle.search_rules.specs.Run.{words, run}
+use Rattle.search_rules.specs.Theorems.{Sorted}
+use Rattle.search_rules.specs.Walks.{AggregateLeast, FirstYards}
+use Rattle.search_call.specs.Call.{Found, refused, Call, Areas, Search, searchIn, searchAnswer, overStart, foundOn, callOn, searches, areasAfter}
+
+-- ---- the words of the demand
+
+-- "A tree passes beside a road book if check gives 0 for the two with some yard book and a full work area"
+pub record Passes (road tree : List ℕ) : Type 0 where
+  pub yard : List ℕ
+  pub work : ℕ
+  pub full : workWords ≤ work
+  pub zero : checkAnswer road yard tree work ≡ 0
+
+-- a search "on a tree that passes"
+abbrev pub OnPassing : Search → Type 0
+OnPassing s = Passes (s .call .road) (s .call .tree)
+
+-- what it returned, and both areas after it
+abbrev pub found : Search → Found
+found s = foundOn (s .call) (s .areas)
+
+abbrev pub after : Search → Areas
+after s = callOn (s .call) (s .areas)
+
+abbrev pub NotRefused : Search → Type 0
+NotRefused s = found s .refusal ≡ 0
+
+abbrev pub Settled : Search → Type 0
+Settled s = found s .settled ≡ 1
+
+-- its query: the aggregate's code, "k", the crews and the step limit
+abbrev pub code : Search → ℕ
+code s = aggregateOf (s .call .query)
+
+abbrev pub k : Search → ℕ
+k s = wantedOf (s .call .query)
+
+abbrev pub crews : Search → List ℕ
+crews s = crewsOf (s .call .query)
+
+abbrev pub limit : Search → ℕ
+limit s = limitOf (s .call .query)
+
+-- its roads, both ways; "the tree's yards"; "an inner region has children": how many there are
+abbrev pub arcs : Search → List Arc
+arcs s = net (s .call .road)
+
+abbrev pub yards : Search → List ℕ
+yards s = treeYards (decode (s .call .tree))
+
+abbrev pub innerRegions : Search → ℕ
+innerRegions s = inners (decode (s .call .tree))
+
+-- the search that its books ask for
+abbrev pub instanceOf : Search → Instance
+instanceOf s = searchIn (s .call .road) (s .call .tree) (s .call .query)
+
+-- the yards that it lists, with their distances, by the step rules; the result area gets their words
+abbrev pub list : Search → List Element
+list s = searchAnswer (s .call .road) (s .call .tree) (s .call .query) .listed
+
+-- "a settled list is full if it has k yards"
+abbrev pub Full : Search → Type 0
+Full s = length (list s) ≡ k s
+
+-- "the last listed distance"
+abbrev pub lastDistance : Search → ℕ
+lastDistance s = lastFrom 0 (list s)
+
+-- the yards that its state has as measured when it ends
+abbrev pub measured : Search → List ℕ
+measured s = run (instanceOf s) (limit s) .state .measured
+
+-- "A yard's bound takes per crew the greatest of these differences over the sheet's landmarks and l (for l with the list's distance), then aggregates.": b is
+-- yard y's, which stands in the list of the landmark that its leaf picks
+pub record BoundIn (i : Instance) (y b : ℕ) : Type 0 where
+  pub home : ℕ
+  pub number : home < size i
+  pub is-leaf : T (leaf i home)
+  pub element : Element
+  pub in-list : Mem element (chosen i home .list)
+  pub names : element .yard ≡ y
+  pub value : b ≡ yardBound i (chosen i home) element
+
+abbrev pub BoundOf : Search → ℕ → ℕ → Type 0
+BoundOf s y b = BoundIn (instanceOf s) y b
+
+-- the lists of the settled searches
+unfoldable pub settledLists : List Search → List (List Element)
+settledLists [] = []
+settledLists (s ∷ ss) = choose (eqb (found s .settled) 1) (list s ∷ settledLists ss) (settledLists ss)
+
+-- "with all the settled lists written over its start in turn"
+unfoldable pub overwritten : List (List Element) → List ℕ → List ℕ
+overwritten [] results = results
+overwritten (l ∷ ls) results = overwritten ls (overStart (words l) results)
+
+-- ---- demand 3
+
+-- of any list of calls, and what the two areas hold before the first
+pub record Promised (calls : List Call) (first : Areas) : Type 0 where
+  -- "each settled search on a tree that passes has listed exactly the first k of the tree's yards, or all if fewer, by aggregate least distance and then
+  -- junction number, each with that distance; so no yard left out comes before one listed"
+  pub exact : (s : Search) → Mem s (searches calls first) → OnPassing s → Settled s
+      → FirstYards (arcs s) (code s) (k s) (crews s) (yards s) (list s)
+  -- "none of these measured a yard whose bound exceeds the last listed distance of a full list"
+  pub measured-within : (s : Search) → Mem s (searches calls first) → OnPassing s → Settled s
+      → Full s → (y b : ℕ) → Mem y (measured s) → BoundOf s y b → b ≤ lastDistance s
+  -- "every search on such a tree, not refused, with a limit of inner regions plus twice the yards or more has settled"
+  pub ends : (s : Search) → Mem s (searches calls first) → OnPassing s → NotRefused s
+      → innerRegions s + 2 * length (yards s) ≤ limit s → Settled s
+  -- "at the end the result area is what it held at first with all the settled lists written over its start in turn"
+  pub results : areasAfter calls first .results ≡ overwritten (settledLists (searches calls first)) (first .results)
+
+-- a book is a list of bytes (of the tree book this is asked, so that its numbers are of 32 bits)
+abbrev pub OfBytes : List Call → Type 0
+OfBytes calls = (c : Call) → Mem c calls → Bytes (c .tree)
+
+abbrev pub Demand3 : Type 0
+Demand3 = (calls : List Call) → OfBytes calls → (first : Areas) → Promised calls first
+
+-- ---- beside it
+
+-- what a settled list has on any tree: "true distances, distinct yards and yard order"; its yards are the tree's, and no more than k
+pub record TrueList (s : Search) : Type 0 where
+  pub distances : (e : Element) → Mem e (list s) → AggregateLeast (arcs s) (code s) (e .yard) (crews s) (e .distance)
+  pub distinct : Distinct (map (λ (e : Element). e .yard) (list s))
+  pub sorted : Sorted (list s)
+  pub in-tree : (e : Element) → Mem e (list s) → Mem (e .yard) (yards s)
+  pub few : length (list s) ≤ k s
+
+-- a search, whether its tree passes or is one "that check would refuse by 9"
+pub record Decided (s : Search) : Type 0 where
+  -- a settled list is true, and the returned number is that of its yards
+  pub listed : Settled s → TrueList s
+  pub count : Settled s → found s .listed ≡ length (list s)
+  -- "Settled writes (yard, distance) words into the result area and nothing after them", where there is room for them; what hasn't settled writes nothing there
+  pub room : Settled s → length (words (list s)) ≤ length (s .areas .results)
+  pub writes : Settled s → after s .results ≡ words (list s) ++ drop (length (words (list s))) (s .areas .results)
+  pub leaves : (Settled s → ⊥) → after s .results ≡ s .areas .results
+  -- "spent exactly if the limit's number of steps was taken and it isn't settled"
+  pub spent : NotRefused s → (Settled s → ⊥) → (found s .settled ≡ 0) × (found s .listed ≡ 0) × (found s .taken ≡ limit s)
+  pub within : NotRefused s → found s .taken ≤ limit s
+  -- the returned number of measured yards is that of its state's; each is a yard of the tree and is measured once
+  pub counted : NotRefused s → found s .measured ≡ length (measured s)
+  pub once : NotRefused s → Distinct (measured s)
+  pub in-tree : NotRefused s → (y : ℕ) → Mem y (measured s) → Mem y (yards s)
+  -- a yard of the tree has exactly one bound
+  pub bounded : NotRefused s → (y : ℕ) → Mem y (yards s) → (b : ℕ) × BoundOf s y b
+  pub one-bound : NotRefused s → (y b c : ℕ) → BoundOf s y b → BoundOf s y c → b ≡ c
+  -- "Check, build and search zero the first 16,384 words of the work area and leave any after them."
+  pub zeroes : NotRefused s → (workWords ≤ length (s .areas .work)) × (after s .work ≡ zeroed workWords (s .areas .work))
+  -- "A refusal returns its number, with every other returned field 0, and changes no lent byte or word."
+  pub unchanged : (NotRefused s → ⊥) → (found s ≡ refused (found s .refusal)) × (after s ≡ s .areas)
+
+abbrev pub AnyTree : Type 0
+AnyTree = (calls : List Call) → OfBytes calls → (first : Areas) → (s : Search) → Mem s (searches calls first) → Decided s
+
+-- the work area's contents never matter: only its length does
+abbrev pub WorkUnread : Type 0
+WorkUnread = (calls : List Call) (a b : Areas) → length (a .work) ≡ length (b .work) → a .results ≡ b .results
+    → (map found (searches calls a) ≡ map found (searches calls b)) × (areasAfter calls a .results ≡ areasAfter calls b .results)
+
+-- whatever yard book a tree passes with has the tree's own yards
+abbrev pub OwnYards : Type 0
+OwnYards = (road tree : List ℕ) → (p : Passes road tree) → Same (treeYards (decode tree)) (yardsOf (p .yard))
