@@ -108,7 +108,7 @@ pub build-safe : BuildSafe
 build-safe road yard m limit work tree = record {
   refused = first-build-refusal road yard m limit (length work) (length tree);
   accepted = build-accepted road yard m limit (length work) (length tree);
-  kept = λ h. let k = build-exact road yard m limit work tree .refused h in (k .length-none, (k .work-kept, k .tree-kept));
+  kept = λ h. let k = build-exact road yard m limit work tree .refused h in (k .length-none, k .work-kept, k .tree-kept);
   emptied = λ e. build-exact road yard m limit work tree .accepted e .zeroes;
 }
 

@@ -23,18 +23,18 @@ pub extern "C" fn finder_build(
     road: &[u8],
     yard: &[u8],
     m: u32,
-    leaf_limit: u32,
+    limit: u32,
     work: &mut [u32],
     tree: &mut [u8],
 ) -> Built
-    ensures refusal { λ r. ⌜ r .refusal ≡ buildAnswer (now (road .entry)) (now (yard .entry)) m leaf_limit
+    ensures refusal { λ r. ⌜ r .refusal ≡ buildAnswer (now (road .entry)) (now (yard .entry)) m limit
         (length (now (work .entry))) (length (now (tree .entry))) ⌝ }
-    ensures length { λ r. ⌜ r .length ≡ builtLength (now (road .entry)) (now (yard .entry)) m leaf_limit
+    ensures length { λ r. ⌜ r .length ≡ builtLength (now (road .entry)) (now (yard .entry)) m limit
         (length (now (work .entry))) (length (now (tree .entry))) ⌝ }
-    ensures work { λ _. ⌜ now (work .exit) ≡ workAfter (buildAnswer (now (road .entry)) (now (yard .entry)) m leaf_limit
+    ensures work { λ _. ⌜ now (work .exit) ≡ workAfter (buildAnswer (now (road .entry)) (now (yard .entry)) m limit
         (length (now (work .entry))) (length (now (tree .entry)))) (now (work .entry)) ⌝ }
-    ensures tree { λ _. ⌜ now (tree .exit) ≡ treeAfter (now (road .entry)) (now (yard .entry)) m leaf_limit
+    ensures tree { λ _. ⌜ now (tree .exit) ≡ treeAfter (now (road .entry)) (now (yard .entry)) m limit
         (length (now (work .entry))) (now (tree .entry)) ⌝ }
 {
-    tree_build::build(road, yard, m, leaf_limit, work, tree)
+    tree_build::build(road, yard, m, limit, work, tree)
 }
