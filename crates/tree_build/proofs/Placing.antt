@@ -13,7 +13,8 @@ use Rattle.yard.proofs.YardLayout.{read-count}
 use Rattle.tree_layout.specs.Values.{Tree}
 use Rattle.tree_encode.specs.Encode.{encodeRegions, encodeBody, encode}
 use Rattle.tree_encode.proofs.Sizes.{body-length, encode-length, encode-is}
-use Rattle.tree_cutting.specs.Cutting.{rangeRegions, Written}
+use Rattle.tree_parts.specs.Parts.{Written}
+use Rattle.tree_cutting.specs.Cutting.{rangeRegions}
 use Rattle.tree_build.specs.Build.{treeBytes, builtTree, treeHeader}
 use Rattle.tree_build.specs.Facts.{Accepted}
 use Rattle.tree_build.proofs.Heading.{header-length, write-before}

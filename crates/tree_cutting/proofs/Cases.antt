@@ -9,9 +9,8 @@ use native.Mathlib.Numerals.{add-one}
 use native.Mathlib.Omega.{arith}
 use lib.ListN.{length, length-append}
 use lib.Dec.{T, eqb, leb, eqb→eq, leb→le, nleb→lt, T-not, not-T}
-use Rattle.book.specs.Choose.{choose}
-use Rattle.book.proofs.Choosing.{choose-yes, choose-no, true-T, false-T}
-use Rattle.book.proofs.Lists.{or-left, or-right, or-cases, eq→eqb, ne→neqb}
+use Rattle.book.proofs.Choosing.{true-T, false-T}
+use Rattle.book.proofs.Lists.{or-left, or-right, or-cases, eq→eqb}
 use Rattle.yard.specs.Yards.{yardsOf, yardRefusal}
 use Rattle.tree_layout.specs.Values.{Region}
 use Rattle.tree_truth.specs.Truth.{within}
@@ -19,7 +18,9 @@ use Rattle.cut_tree.specs.Cut.{Given, leafRegion, innerRegion, cutAt, part, par
 use Rattle.cut_tree.proofs.Parts.{Rising, within-rising, within-none, within-split, cut-first, cut-last, cut-rise, cut-top, part-is, count-drop, count-keep, regions-drop, regions-keep, regions-none}
 use Rattle.cut_tree.proofs.Steps.{within-nested, part-within, cut-none, cut-leaf, cut-one, cut-many}
 use Rattle.tree_records.specs.Given.{given}
-use Rattle.tree_cutting.specs.Cutting.{leafOnly, ownRegions, rangeRegions, partsFrom}
+use Rattle.tree_parts.specs.Parts.{leafOnly, ownRegions}
+use Rattle.tree_parts.proofs.Records.{leaf-is, own-none, own-one}
+use Rattle.tree_cutting.specs.Cutting.{rangeRegions, partsFrom}
 use Rattle.tree_records.proofs.Fields.{given-limit}
 use Rattle.tree_cuts.proofs.Slices.{yards-rising}
 
@@ -60,8 +61,8 @@ module _ (b yb : List ℕ) (m limit a s : ℕ) where
 
   module _ (levels : ℕ) where
     pub regions-leaf : (eqb levels 0 || leb (length ys) limit) ≡ true → rangeRegions b yb m limit levels a s ≡ leafOnly b m limit a s ys
-    unfolding rangeRegions leafOnly
-    regions-leaf t = go levels refl (or-cases (eqb levels 0) (leb (length ys) limit) (true-T t))
+    unfolding rangeRegions
+    regions-leaf t = go levels refl (or-cases (eqb levels 0) (leb (length ys) limit) (true-T t)) ∙ sym (leaf-is b m limit a s ys)
       where
         go : (k : ℕ) → k ≡ levels → T (eqb levels 0) ⊎ T (leb (length ys) limit) → cut g levels a s ys ≡ leafRegion g a s ys ∷ []
         go zero e c = rw (← e) (cut-none g 0 a s ys)
@@ -77,7 +78,7 @@ module _ (b yb : List ℕ) (m limit a s : ℕ) where
 
       -- the parent, if it stays, then the parts
       pub regions-cut : rangeRegions b yb m limit levels a s ≡ ownRegions b m limit a s (partCount a s ys 4 0) ys ++ partsFrom b yb m limit (levels - 1) a s 0
-      unfolding rangeRegions ownRegions partsFrom
+      unfolding rangeRegions partsFrom
       regions-cut = go (ℕ-discrete (partCount a s ys 4 0) 1)
         where
           q : ℕ
@@ -89,13 +90,13 @@ module _ (b yb : List ℕ) (m limit a s : ℕ) where
           level : levels ≡ suc (levels - 1)
           level = omega (arith, some-level)
 
-          go : Dec (partCount a s ys 4 0 ≡ 1) → cut g levels a s ys ≡ choose (eqb q 1) [] (innerRegion g a s q ys ∷ []) ++ partRegions (cut g (levels - 1)) a s ys 4 0
+          go : Dec (partCount a s ys 4 0 ≡ 1) → cut g levels a s ys ≡ ownRegions b m limit a s q ys ++ partRegions (cut g (levels - 1)) a s ys 4 0
           go (yes e) =
               ap (λ (k : ℕ). cut g k a s ys) level ∙ cut-one g (levels - 1) a s ys over e
-              ∙ ap (λ (l : List Region). l ++ partRegions (cut g (levels - 1)) a s ys 4 0) (sym (choose-yes (eqb q 1) [] (innerRegion g a s q ys ∷ []) (eq→eqb q 1 e)))
+              ∙ ap (λ (l : List Region). l ++ partRegions (cut g (levels - 1)) a s ys 4 0) (sym (own-none b m limit a s q ys e))
           go (no e) =
               ap (λ (k : ℕ). cut g k a s ys) level ∙ cut-many g (levels - 1) a s ys over e
-              ∙ ap (λ (l : List Region). l ++ partRegions (cut g (levels - 1)) a s ys 4 0) (sym (choose-no (eqb q 1) [] (innerRegion g a s q ys ∷ []) (ne→neqb q 1 e)))
+              ∙ ap (λ (l : List Region). l ++ partRegions (cut g (levels - 1)) a s ys 4 0) (sym (own-one b m limit a s q ys e))
 
     -- ---- its parts, from number i on
 
@@ -118,15 +119,6 @@ module _ (b yb : List ℕ) (m limit a s : ℕ) where
         parts-keep p =
             let end : cutAt a s i + (cutAt a s (suc i) - cutAt a s i) ≡ cutAt a s (suc i) = omega (arith, cut-rise a s i) in
             rw (first, end, ← part-within a s (yardsOf yb) i h) (regions-keep (cut g levels) a s ys (4 - (i + 1)) i p ∙ rw add-one refl)
-
--- the parent's record, if it has one
-pub own-none : (b : List ℕ) (m limit a s q : ℕ) (ys : List ℕ) → q ≡ 1 → ownRegions b m limit a s q ys ≡ []
-unfolding ownRegions
-own-none b m limit a s q ys e = choose-yes (eqb q 1) [] (innerRegion (given b m limit) a s q ys ∷ []) (eq→eqb q 1 e)
-
-pub own-one : (b : List ℕ) (m limit a s q : ℕ) (ys : List ℕ) → q ≢ 1 → ownRegions b m limit a s q ys ≡ innerRegion (given b m limit) a s q ys ∷ []
-unfolding ownRegions
-own-one b m limit a s q ys h = choose-no (eqb q 1) [] (innerRegion (given b m limit) a s q ys ∷ []) (ne→neqb q 1 h)
 
 -- a range's regions, by the yards in it
 pub range-cut : (b yb : List ℕ) (m limit levels a s : ℕ) → rangeRegions b yb m limit levels a s ≡ cut (given b m limit) levels a s (within a (a + s) (yardsOf yb))

@@ -1,3 +1,3 @@
-pub mod Joining
 pub mod Cases
+pub mod Ranges
 pub mod Turns

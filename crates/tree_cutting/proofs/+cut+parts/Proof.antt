@@ -8,11 +8,13 @@ use Prim.Native.Nat.{ℕ, _+_, _*_, _-_, _<_}
 use native.Mathlib.Omega.{arith}
 use Rattle.tree_cuts.proofs.below.Reads as below-reads
 use Rattle.tree_cuts.proofs.part_count.Reads as part-count-reads
-use Rattle.tree_cutting.proofs.Turns.{ready-kept, room-kept, range-order, range-few, range-yards, falls-cut, falls-part, falls-next, leaf-fits, leaf-done, level-left, yards-there, children-there, own-fits, parts-fit, cut-few, cut-done, parts-over, cuts-rise, part-top, drop-fits, drop-done, part-size, part-fits, rest-fits, rest-few, rest-done}
-use Rattle.tree_cutting.proofs.cut_at.Reads as cut-at-reads
-use Rattle.tree_cutting.proofs.leaf.Reads as leaf-reads
-use Rattle.tree_cutting.proofs.own.Reads as own-reads
-use Rattle.tree_cutting.proofs.stays.Reads as stays-reads
+use Rattle.tree_parts.proofs.Records.{ready-kept, room-kept}
+use Rattle.tree_cutting.proofs.Ranges.{range-order, range-few, range-yards, leaf-fits, leaf-done, level-left, yards-there, children-there, own-fits, parts-fit, cut-few, cut-done}
+use Rattle.tree_cutting.proofs.Turns.{falls-cut, falls-part, falls-next, parts-over, cuts-rise, part-top, drop-fits, drop-done, part-size, part-fits, rest-fits, rest-few, rest-done}
+use Rattle.tree_parts.proofs.cut_at.Reads as cut-at-reads
+use Rattle.tree_parts.proofs.leaf.Reads as leaf-reads
+use Rattle.tree_parts.proofs.own.Reads as own-reads
+use Rattle.tree_parts.proofs.stays.Reads as stays-reads
 use Rattle.tree_cutting.proofs.cut.Reads as cut
 use Rattle.tree_cutting.proofs.cut.Kinds as cut-kinds
 use Rattle.tree_cutting.proofs.parts.Reads as parts

@@ -1,9 +1,9 @@
 use native.Mathlib.Omega.{arith}
 use borrow.Author.Needs.{needs}
 use Rattle.yard.proofs.Listing.{from-length}
-use Rattle.tree_cutting.proofs.Turns.{leaf-written}
-use Rattle.tree_cutting.proofs.leaf.Statement.{statement}
-use Rattle.tree_cutting.proofs.leaf.Tie as tie
+use Rattle.tree_parts.proofs.Records.{leaf-written}
+use Rattle.tree_parts.proofs.leaf.Statement.{statement}
+use Rattle.tree_parts.proofs.leaf.Tie as tie
 
 put-leaf-requires : tie.Need-put-leaf-requires
 put-leaf-requires c κs = let s = c .before .before .before .before .before .before .before .before .before .before .before .before .before .before .before .before .before .before in let p = s .pre in (p .0 .adjacency, p .0 .walk, p .2, omega (arith, p .1, p .3), p .3, p .0 .borders, p .4, p .0 .few, p .5, p .6, p .7)

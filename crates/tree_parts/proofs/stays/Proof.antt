@@ -1,6 +1,6 @@
 use borrow.Author.Tests.{eq-eqb, ne-eqb}
-use Rattle.tree_cutting.proofs.stays.Statement.{statement}
-use Rattle.tree_cutting.proofs.stays.Tie as tie
+use Rattle.tree_parts.proofs.stays.Statement.{statement}
+use Rattle.tree_parts.proofs.stays.Tie as tie
 
 returns : tie.Need-returns
 returns c = simp (eq-eqb _ _ (c .if1 .taken))

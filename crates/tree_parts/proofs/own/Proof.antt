@@ -1,8 +1,8 @@
 use native.Mathlib.Omega.{arith}
 use borrow.Author.Needs.{needs}
-use Rattle.tree_cutting.proofs.Turns.{own-kept, own-written}
-use Rattle.tree_cutting.proofs.own.Statement.{statement}
-use Rattle.tree_cutting.proofs.own.Tie as tie
+use Rattle.tree_parts.proofs.Records.{own-kept, own-written}
+use Rattle.tree_parts.proofs.own.Statement.{statement}
+use Rattle.tree_parts.proofs.own.Tie as tie
 
 returns : tie.Need-returns
 returns c = let test = c in own-kept _ _ _ _ _ _ _ _ (test .if1 .taken)

@@ -2,8 +2,8 @@ use mathlib.Core.Path.{sym}
 use native.Mathlib.Omega.{arith}
 use native.Mathlib.Nat.{mul-le-mul-right}
 use Rattle.cut_tree.proofs.Parts.{cut-is}
-use Rattle.tree_cutting.proofs.cut_at.Statement.{statement}
-use Rattle.tree_cutting.proofs.cut_at.Tie as tie
+use Rattle.tree_parts.proofs.cut_at.Statement.{statement}
+use Rattle.tree_parts.proofs.cut_at.Tie as tie
 
 mul-result : tie.Need-mul-result
 mul-result c = omega (arith, mul-le-mul-right (c .args .s) (c .pre .1), c .pre .0)
