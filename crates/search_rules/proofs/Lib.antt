@@ -16,5 +16,7 @@ pub mod Theorems
 pub mod Asked
 pub mod Walks
 pub mod Turns
+pub mod Equations
+pub mod Measures
 pub mod Vectors
 pub mod Example

@@ -30,7 +30,7 @@ aggregate-each code most (q ∷ qs) = choose-case (λ z. z ≤ suc (length qs) *
     (λ t. rw suc-mul (omega (arith, aggregate-each code most qs))) (λ t. rw suc-mul (omega (arith, aggregate-each code most qs)))
 
 -- with no more than sixteen crews
-aggregate-most : (code most : ℕ) (qs : List ℕ) (g : ℕ → ℕ) → length qs ≤ 16 → ((q : ℕ) → Mem q qs → g q ≤ most) → aggregate code g qs ≤ 16 * most
+pub aggregate-most : (code most : ℕ) (qs : List ℕ) (g : ℕ → ℕ) → length qs ≤ 16 → ((q : ℕ) → Mem q qs → g q ≤ most) → aggregate code g qs ≤ 16 * most
 aggregate-most code most qs g few h = omega (arith, aggregate-mono code g (λ q. most) qs h, aggregate-each code most qs, mul-le-mul-right most few)
 
 leastFrom-most : (h : Mark → ℕ) (x : ℕ) (m : Mark) (ms : List Mark) → h m ≤ x → leastFrom h m ms ≤ x

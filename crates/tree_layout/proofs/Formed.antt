@@ -57,7 +57,7 @@ pub marks-spans : (b : List ℕ) (m children yards at : ℕ) → 0 < children �
 unfolding readMarks
 marks-spans b m children yards at h = choose-no (eqb children 0) _ _ (ne→neqb children 0 (omega arith))
 
-region-formed : (b : List ℕ) (m at : ℕ) → Formed m (readRegion b m at)
+pub region-formed : (b : List ℕ) (m at : ℕ) → Formed m (readRegion b m at)
 unfolding readRegion
 region-formed b m at = record {
   count = go (T-split (eqb c 0));

@@ -9,6 +9,8 @@ pub mod Marks
 pub mod Refusing
 pub mod Vectors
 pub mod Lasts
+pub mod Ends
+pub mod MarkPlaces
 pub mod Leasts
 pub mod Decoding
 pub mod Rising

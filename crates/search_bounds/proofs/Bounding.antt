@@ -1,0 +1,79 @@
+-- A region's bound and the landmark that is picked, as the code finds them. Assumes nothing.
+use mathlib.Core.Path.{_≡_, refl, sym, ap, _∙_}
+use mathlib.Core.List.{List, List·Memᴰ as Mem}
+use Prim.Native.Nat.{ℕ, _<_}
+use native.Mathlib.Omega.{arith}
+use lib.ListN.{length, getD}
+use Rattle.book.specs.Bytes.{u8At}
+use Rattle.book.proofs.Lists.{getD-mem}
+use Rattle.tree_layout.specs.Values.{Mark}
+use Rattle.tree_layout.specs.Decode.{landmarkCount}
+use Rattle.tree_layout.proofs.Reading.{landmark-count}
+use Rattle.search_rules.specs.Bounds.{aggregate, greatestOf, crewBound, noMark}
+use Rattle.search_bounds.specs.declared.Landmark.{Landmark}
+use Rattle.search_bounds.specs.Rows.{rowsLower, rowsUpper}
+use Rattle.search_bounds.specs.Marks.{marksAt, landmarkOf, RecordAt}
+use Rattle.search_bounds.specs.Bounds.{rowsMark, rowsCrew, rowsBound, rowsWeight, markWeight, firstGreatest, rowsChosen, Crews}
+use Rattle.search_bounds.proofs.Records.{marks-count}
+
+-- a crew's junction has a place in each row
+pub crew-there : (crews : List ℕ) → Crews crews → (j : ℕ) → j < length crews → getD crews j 0 < 1024
+crew-there crews s j h = s .there (getD crews j 0) (getD-mem crews j 0 h)
+
+-- ---- the landmarks of a record
+
+module _ (b : List ℕ) (at : ℕ) (r : RecordAt b at) (m : ℕ) (e : m ≡ u8At b 11) where
+  -- their number, as it is read
+  pub count-read : m ≡ landmarkCount b
+  count-read = e ∙ sym (landmark-count b)
+
+  pub count-marks : length (marksAt b at) ≡ m
+  count-marks = marks-count b at ∙ sym count-read
+
+module _ (b : List ℕ) (at : ℕ) (r : RecordAt b at) (j : ℕ) (h : j < landmarkCount b) (k : Landmark) (e : k ≡ landmarkOf (getD (marksAt b at) j noMark)) where
+  -- the junction of landmark j
+  pub place-read : k .place ≡ getD (marksAt b at) j noMark .place
+  unfolding landmarkOf
+  place-read = ap (λ (x : Landmark). x .place) e
+
+  pub place-there : k .place < 1024
+  place-there = rw place-read (r .placed (getD (marksAt b at) j noMark) (getD-mem (marksAt b at) j noMark (omega (arith, marks-count b at))))
+
+-- the bound of a landmark that is read is that of the landmark
+pub mark-read : (sheet : List ℕ) (rows q w : ℕ) (n : Mark) (k : Landmark) → k ≡ landmarkOf n
+    → w ≡ crewBound (rowsLower sheet rows (k .place) q) (rowsUpper sheet rows (k .place) q) (k .least) (k .greatest) → w ≡ rowsMark sheet rows q n
+unfolding rowsMark landmarkOf
+mark-read sheet rows q w n k e f = rw e at f
+
+-- ---- the definitions, opened
+
+pub mark-bound-made : (lb ub x a b w : ℕ) (y : ℕ) → lb ≡ x → ub ≡ y → w ≡ crewBound lb ub a b → w ≡ crewBound x y a b
+mark-bound-made lb ub x a b w y e f g = rw (← e, ← f) g
+
+pub crew-made : (sheet : List ℕ) (rows : ℕ) (ks : List Mark) (q x : ℕ) → x ≡ greatestOf (rowsMark sheet rows q) ks → x ≡ rowsCrew sheet rows ks q
+unfolding rowsCrew
+crew-made sheet rows ks q x e = e
+
+pub bound-made : (sheet : List ℕ) (rows code : ℕ) (crews : List ℕ) (ks : List Mark) (x : ℕ) → x ≡ aggregate code (rowsCrew sheet rows ks) crews → x ≡ rowsBound sheet rows code crews ks
+unfolding rowsBound
+bound-made sheet rows code crews ks x e = e
+
+pub weight-made : (sheet : List ℕ) (rows : ℕ) (crews : List ℕ) (l x : ℕ) → x ≡ aggregate 0 (rowsLower sheet rows l) crews → x ≡ rowsWeight sheet rows crews l
+unfolding rowsWeight
+weight-made sheet rows crews l x e = e
+
+pub weight-read : (sheet : List ℕ) (rows : ℕ) (crews : List ℕ) (ks : List Mark) (j u x : ℕ) → u ≡ getD ks j noMark .place → x ≡ rowsWeight sheet rows crews u → x ≡ markWeight sheet rows crews ks j
+unfolding markWeight
+weight-read sheet rows crews ks j u x e f = rw (← e) f
+
+pub chosen-made : (sheet : List ℕ) (rows : ℕ) (crews : List ℕ) (ks : List Mark) (m p : ℕ) → length ks ≡ m → p ≡ firstGreatest (markWeight sheet rows crews ks) m → p ≡ rowsChosen sheet rows crews ks
+unfolding rowsChosen
+chosen-made sheet rows crews ks m p e f = rw e f
+
+-- ---- a region by its number
+
+pub bound-moved : (sheet : List ℕ) (rows code : ℕ) (crews : List ℕ) (ks ms : List Mark) (x : ℕ) → ks ≡ ms → x ≡ rowsBound sheet rows code crews ks → x ≡ rowsBound sheet rows code crews ms
+bound-moved sheet rows code crews ks ms x e f = rw (← e) f
+
+pub chosen-moved : (sheet : List ℕ) (rows : ℕ) (crews : List ℕ) (ks ms : List Mark) (p : ℕ) → ks ≡ ms → p ≡ rowsChosen sheet rows crews ks → p ≡ rowsChosen sheet rows crews ms
+chosen-moved sheet rows crews ks ms p e f = rw (← e) f

@@ -1,0 +1,52 @@
+-- LB and UB, one row further. Assumes nothing.
+use mathlib.Core.Path.{_≡_, refl, sym, ap, _∙_}
+use mathlib.Core.List.{List}
+use Prim.Native.Nat.{ℕ, zero, suc, _+_, _*_, _≤_, _<_, min, max}
+use native.Mathlib.Numerals.{add-one}
+use native.Mathlib.Omega.{arith}
+use lib.ListN.{getD}
+use lib.Dec.{eqb}
+use Rattle.book.proofs.Choosing.{choose-yes, choose-no}
+use Rattle.book.proofs.Lists.{eq→eqb, ne→neqb}
+use Rattle.search_rules.specs.Bounds.{apart}
+use Rattle.search_bounds.specs.Rows.{cell, rowsLower, rowsUpper}
+
+pub cell-is : (sheet : List ℕ) (r v : ℕ) → getD sheet (r * 1024 + v) 0 ≡ cell sheet r v
+unfolding cell
+cell-is sheet r v = refl
+
+module _ (sheet : List ℕ) (l q : ℕ) where
+  pub lower-none : rowsLower sheet 0 l q ≡ 0
+  unfolding rowsLower
+  lower-none = refl
+
+  pub lower-suc : (r : ℕ) → rowsLower sheet (suc r) l q ≡ max (rowsLower sheet r l q) (apart (cell sheet r l) (cell sheet r q))
+  unfolding rowsLower
+  lower-suc r = refl
+
+  -- a turn: x with row r's difference
+  pub lower-turn : (r x d y : ℕ) → x ≡ rowsLower sheet r l q → d ≡ apart (cell sheet r l) (cell sheet r q) → y ≡ max x d → y ≡ rowsLower sheet (r + 1) l q
+  lower-turn r x d y e f g = g ∙ rw (e, f, add-one r) (sym (lower-suc r))
+
+  pub upper-one : rowsUpper sheet 1 l q ≡ cell sheet 0 l + cell sheet 0 q
+  unfolding rowsUpper
+  upper-one = choose-yes (eqb 0 0) _ _ tt
+
+  pub upper-suc : (r : ℕ) → 0 < r → rowsUpper sheet (suc r) l q ≡ min (rowsUpper sheet r l q) (cell sheet r l + cell sheet r q)
+  unfolding rowsUpper
+  upper-suc r h = choose-no (eqb r 0) _ _ (ne→neqb r 0 (omega arith))
+
+  -- a turn: x with row r's sum
+  pub upper-turn : (r x s y : ℕ) → 0 < r → x ≡ rowsUpper sheet r l q → s ≡ cell sheet r l + cell sheet r q → y ≡ min x s → y ≡ rowsUpper sheet (r + 1) l q
+  upper-turn r x s y h e f g = g ∙ rw (e, f, add-one r) (sym (upper-suc r h))
+
+  -- all rows are done
+  pub lower-end : (rows r x : ℕ) → r ≤ rows → rows ≤ r → x ≡ rowsLower sheet r l q → x ≡ rowsLower sheet rows l q
+  lower-end rows r x h k e = let z : r ≡ rows = omega arith in rw (← z) e
+
+  pub upper-end : (rows r x : ℕ) → r ≤ rows → rows ≤ r → x ≡ rowsUpper sheet r l q → x ≡ rowsUpper sheet rows l q
+  upper-end rows r x h k e = let z : r ≡ rows = omega arith in rw (← z) e
+
+-- the difference of two words that are read
+pub apart-read : (a b x y r : ℕ) → x ≡ a → y ≡ b → r ≡ apart x y → r ≡ apart a b
+apart-read a b x y r e f g = rw (← e, ← f) g

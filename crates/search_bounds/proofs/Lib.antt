@@ -1,0 +1,8 @@
+pub mod Cells
+pub mod Records
+pub mod Folds
+pub mod Bounding
+pub mod Picking
+pub mod Numbered
+pub mod Sheets
+pub mod Searching

@@ -1,0 +1,116 @@
+-- What the rows of a search's sheet give: LB, UB, a region's bound, and the landmark that a leaf picks. Assumes nothing.
+use mathlib.Core.Path.{_≡_, refl, sym, ap, _∙_}
+use mathlib.Core.Logic.{_≢_}
+use mathlib.Core.List.{List, [], _∷_, List·Memᴰ as Mem}
+use Prim.Native.Nat.{ℕ, zero, suc, _+_, _≤_, _<_, min, max}
+use native.Mathlib.Omega.{arith}
+use lib.ListN.{length, getD, take}
+use lib.Seq.{take-all}
+use lib.Dec.{ltb}
+use Rattle.book.specs.Choose.{choose}
+use Rattle.book.proofs.Choosing.{choose-map}
+use Rattle.book.proofs.Lists.{getD-mem}
+use Rattle.tree_layout.specs.Values.{Mark}
+use Rattle.search_rules.specs.Instance.{Instance, marks}
+use Rattle.search_rules.specs.Bounds.{apart, aggregate, greatestOf, leastOf, noMark, crewBound, sheetAt, lower, upper, markBound, bound, weight, bestOf, chosen}
+use Rattle.search_rules.specs.Facts.{WellFormed}
+use Rattle.search_rules.proofs.Turns.{greatest-take, least-first, least-take, best-first, best-take}
+use Rattle.search_rules.proofs.Equations.{greatest-none, aggregate-same, greatest-same, lower-is, upper-is, mark-bound-is, bound-is, weight-is, chosen-is}
+use Rattle.search_bounds.specs.Rows.{cell, rowsLower, rowsUpper}
+use Rattle.search_bounds.specs.Bounds.{rowsMark, rowsCrew, rowsBound, rowsWeight, markWeight, firstGreatest, rowsChosen}
+use Rattle.search_bounds.specs.Sheet.{Sheet}
+use Rattle.search_bounds.proofs.Cells.{lower-none, lower-suc, upper-one, upper-suc}
+use Rattle.search_bounds.proofs.Picking.{first-one, first-suc, first-below}
+
+-- ---- LB and UB
+
+module _ (i : Instance) (rows : ℕ) (sheet : List ℕ) (s : Sheet i rows sheet) (l q : ℕ) (hl : l < i .tree .junctions) (hq : q < i .tree .junctions) where
+  -- row r's words are those of the root's landmark r
+  difference : (r : ℕ) → r < rows → apart (cell sheet r l) (cell sheet r q) ≡ apart (sheetAt i (getD (marks i 0) r noMark) l) (sheetAt i (getD (marks i 0) r noMark) q)
+  difference r h = rw (s .filled r l h hl, s .filled r q h hq) refl
+
+  both : (r : ℕ) → r < rows → cell sheet r l + cell sheet r q ≡ sheetAt i (getD (marks i 0) r noMark) l + sheetAt i (getD (marks i 0) r noMark) q
+  both r h = rw (s .filled r l h hl, s .filled r q h hq) refl
+
+  lower-rows : (r : ℕ) → r ≤ rows → rowsLower sheet r l q ≡ greatestOf (λ m. apart (sheetAt i m l) (sheetAt i m q)) (take r (marks i 0))
+  lower-rows zero h = lower-none sheet l q ∙ sym (greatest-none (λ m. apart (sheetAt i m l) (sheetAt i m q)))
+  lower-rows (suc r) h =
+      let e = lower-rows r (omega arith) in
+      let d = difference r (omega arith) in
+      let t = greatest-take (λ m. apart (sheetAt i m l) (sheetAt i m q)) (marks i 0) r (omega (arith, s .count)) in
+      omega (arith, lower-suc sheet l q r)
+
+  pub lower-sheet : rowsLower sheet rows l q ≡ lower i l q
+  lower-sheet = lower-rows rows (omega arith) ∙ ap (greatestOf (λ m. apart (sheetAt i m l) (sheetAt i m q))) (take-all rows (marks i 0) (omega (arith, s .count))) ∙ sym (lower-is i l q)
+
+  upper-rows : (r : ℕ) → 0 < r → r ≤ rows → rowsUpper sheet r l q ≡ leastOf (λ m. sheetAt i m l + sheetAt i m q) (take r (marks i 0))
+  upper-rows zero h k = absurd (omega arith)
+  upper-rows (suc zero) h k = upper-one sheet l q ∙ both 0 (omega arith) ∙ sym (least-first (λ m. sheetAt i m l + sheetAt i m q) (marks i 0) (omega (arith, s .count)))
+  upper-rows (suc (suc r)) h k =
+      let e = upper-rows (suc r) (omega arith) (omega arith) in
+      let d = both (suc r) (omega arith) in
+      let t = least-take (λ m. sheetAt i m l + sheetAt i m q) (marks i 0) (suc r) (omega arith) (omega (arith, s .count)) in
+      omega (arith, upper-suc sheet l q (suc r) (omega arith))
+
+  pub upper-sheet : rowsUpper sheet rows l q ≡ upper i l q
+  upper-sheet = upper-rows rows (omega (arith, s .limits .some)) (omega arith) ∙ ap (leastOf (λ m. sheetAt i m l + sheetAt i m q)) (take-all rows (marks i 0) (omega (arith, s .count))) ∙ sym (upper-is i l q)
+
+-- ---- regions and leaves
+
+module _ (i : Instance) (well : WellFormed i) (rows : ℕ) (sheet : List ℕ) (s : Sheet i rows sheet) where
+  mark-sheet : (r q : ℕ) (k : Mark) → Mem k (marks i r) → Mem q (i .crews) → rowsMark sheet rows q k ≡ markBound i q k
+  unfolding rowsMark
+  mark-sheet r q k m c =
+      let hl = well .shape .places r k m in
+      let hq = well .shape .crews q c in
+      rw (lower-sheet i rows sheet s (k .place) q hl hq, upper-sheet i rows sheet s (k .place) q hl hq) (sym (mark-bound-is i q k))
+
+  crew-sheet : (r q : ℕ) → Mem q (i .crews) → rowsCrew sheet rows (marks i r) q ≡ greatestOf (markBound i q) (marks i r)
+  unfolding rowsCrew
+  crew-sheet r q c = greatest-same (rowsMark sheet rows q) (markBound i q) (marks i r) (λ k m. mark-sheet r q k m c)
+
+  -- a region's bound
+  pub bound-sheet : (r : ℕ) → rowsBound sheet rows (i .code) (i .crews) (marks i r) ≡ bound i r
+  unfolding rowsBound
+  bound-sheet r = aggregate-same (i .code) (rowsCrew sheet rows (marks i r)) (λ q. greatestOf (markBound i q) (marks i r)) (i .crews) (λ q c. crew-sheet r q c) ∙ sym (bound-is i r)
+
+  -- a landmark's sum of LB
+  pub weight-sheet : (r : ℕ) (k : Mark) → Mem k (marks i r) → rowsWeight sheet rows (i .crews) (k .place) ≡ weight i k
+  unfolding rowsWeight
+  weight-sheet r k m =
+      aggregate-same 0 (rowsLower sheet rows (k .place)) (lower i (k .place)) (i .crews) (λ q c. lower-sheet i rows sheet s (k .place) q (well .shape .places r k m) (well .shape .crews q c)) ∙ sym (weight-is i k)
+
+  module _ (r : ℕ) where
+    numbered : (j : ℕ) → j < length (marks i r) → markWeight sheet rows (i .crews) (marks i r) j ≡ weight i (getD (marks i r) j noMark)
+    unfolding markWeight
+    numbered j h = weight-sheet r (getD (marks i r) j noMark) (getD-mem (marks i r) j noMark h)
+
+    abbrev first : ℕ → ℕ
+    first = firstGreatest (markWeight sheet rows (i .crews) (marks i r))
+
+    chosen-rows : (j : ℕ) → 0 < j → j ≤ length (marks i r) → getD (marks i r) (first j) noMark ≡ bestOf i (take j (marks i r))
+    chosen-rows zero h k = absurd (omega arith)
+    chosen-rows (suc zero) h k = rw (first-one (markWeight sheet rows (i .crews) (marks i r))) (sym (best-first i (marks i r) k))
+    chosen-rows (suc (suc j)) h k =
+        let e = chosen-rows (suc j) (omega arith) (omega arith) in
+        let p = numbered (first (suc j)) (omega (arith, first-below (markWeight sheet rows (i .crews) (marks i r)) (suc j) (omega arith))) in
+        let n = numbered (suc j) (omega arith) in
+        rw (first-suc (markWeight sheet rows (i .crews) (marks i r)) (suc j), p, n, best-take i (marks i r) (suc j) (omega arith) (omega arith), ← e)
+        (choose-map (λ (x : ℕ). getD (marks i r) x noMark) (ltb (weight i (getD (marks i r) (first (suc j)) noMark)) (weight i (getD (marks i r) (suc j) noMark))) (suc j) (first (suc j)))
+
+    some : marks i r ≢ [] → 0 < length (marks i r)
+    some n = positive (marks i r) n
+      where
+        positive : (ms : List Mark) → ms ≢ [] → 0 < length ms
+        positive [] n = absurd (n refl)
+        positive (m ∷ ms) n = omega arith
+
+    -- the landmark that is picked
+    pub chosen-sheet : marks i r ≢ [] → getD (marks i r) (rowsChosen sheet rows (i .crews) (marks i r)) noMark ≡ chosen i r
+    unfolding rowsChosen
+    chosen-sheet n = chosen-rows (length (marks i r)) (some n) (omega arith) ∙ ap (bestOf i) (take-all (length (marks i r)) (marks i r) (omega arith)) ∙ sym (chosen-is i r)
+
+    -- and its number
+    pub chosen-below : marks i r ≢ [] → rowsChosen sheet rows (i .crews) (marks i r) < length (marks i r)
+    unfolding rowsChosen
+    chosen-below n = first-below (markWeight sheet rows (i .crews) (marks i r)) (length (marks i r)) (some n)

@@ -1,0 +1,63 @@
+use Prim.Native.Nat.{_-_}
+use lib.ListN.{length}
+use native.Mathlib.Omega.{arith}
+use Rattle.search_bounds.specs.Rows.{rowsLower}
+use Rattle.search_bounds.proofs.Folds.{Summed, summed-none, summed-room, summed-turn, summed-all}
+use Rattle.search_bounds.proofs.Bounding.{crew-there, weight-made}
+use borrow.Author.Needs.{needs}
+use Rattle.search_bounds.proofs.picks.weight.Statement.{statement}
+use Rattle.search_bounds.proofs.picks.weight.Tie as tie
+
+abbrev Inv-loop : tie.InvT-loop
+Inv-loop sheet rows crews l x₀ j₀ x j =
+    Summed 0 (rowsLower sheet rows l) crews j x
+
+abbrev μ-loop : tie.MeasureT-loop
+μ-loop sheet rows crews l x₀ j₀ x j = length crews - j
+
+loop-holds : tie.Need-loop-holds Inv-loop μ-loop
+loop-holds c = summed-none _ _ _
+
+mul-lower : tie.Need-mul-lower Inv-loop μ-loop
+mul-lower c = search needs
+
+shared-slice-read-lower : tie.Need-shared-slice-read-lower Inv-loop μ-loop
+shared-slice-read-lower c = search needs
+
+lower-requires : tie.Need-lower-requires Inv-loop μ-loop
+lower-requires c κs = (c .before .before .before .before .before .pre .0, c .before .before .before .before .before .pre .2, crew-there _ (c .before .before .before .before .before .pre .1) _ (c .before .loop-test .taken))
+
+cast-combine : tie.Need-cast-combine Inv-loop μ-loop
+cast-combine c = search needs
+
+combine-requires : tie.Need-combine-requires Inv-loop μ-loop
+combine-requires c κs = summed-room _ _ _ _ _ (c .before .before .before .loop .inv) (c .before .before .before .before .before .before .pre .1 .few) _ (omega arith)
+
+add-j : tie.Need-add-j Inv-loop μ-loop
+add-j c = search needs
+
+loop-less : tie.Need-loop-less Inv-loop μ-loop
+loop-less c = search needs
+
+loop-again : tie.Need-loop-again Inv-loop μ-loop
+loop-again c = summed-turn _ _ _ _ _ (c .before .before .before .before .loop .inv) (c .before .before .before .loop-test .taken) _ _ (omega arith) (c .before .lower .ensures) (c .combine .ensures)
+
+returns : tie.Need-returns Inv-loop μ-loop
+returns c = weight-made _ _ _ _ _ (summed-all _ _ _ _ _ (c .before .loop .inv) (c .loop-test .left))
+
+pub weight-spec : {M : Type 1} → statement M
+weight-spec =
+    tie.close
+    (tie.spec
+    Inv-loop
+    μ-loop
+    loop-holds
+    mul-lower
+    shared-slice-read-lower
+    lower-requires
+    cast-combine
+    combine-requires
+    add-j
+    loop-less
+    loop-again
+    returns)

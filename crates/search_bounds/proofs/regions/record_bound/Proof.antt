@@ -1,0 +1,64 @@
+use Prim.Native.Nat.{_-_}
+use lib.ListN.{length}
+use native.Mathlib.Omega.{arith}
+use Rattle.search_bounds.specs.Marks.{marksAt}
+use Rattle.search_bounds.specs.Bounds.{rowsCrew}
+use Rattle.search_bounds.proofs.Folds.{Summed, summed-none, summed-room, summed-turn, summed-all}
+use Rattle.search_bounds.proofs.Bounding.{crew-there, bound-made}
+use borrow.Author.Needs.{needs}
+use Rattle.search_bounds.proofs.regions.record_bound.Statement.{statement}
+use Rattle.search_bounds.proofs.regions.record_bound.Tie as tie
+
+abbrev Inv-loop : tie.InvT-loop
+Inv-loop tree at sheet rows code crews x₀ j₀ x j =
+    Summed code (rowsCrew sheet rows (marksAt tree at)) crews j x
+
+abbrev μ-loop : tie.MeasureT-loop
+μ-loop tree at sheet rows code crews x₀ j₀ x j = length crews - j
+
+loop-holds : tie.Need-loop-holds Inv-loop μ-loop
+loop-holds c = summed-none _ _ _
+
+mul-crew-region : tie.Need-mul-crew-region Inv-loop μ-loop
+mul-crew-region c = search needs
+
+shared-slice-read-crew-region : tie.Need-shared-slice-read-crew-region Inv-loop μ-loop
+shared-slice-read-crew-region c = search needs
+
+crew-region-requires : tie.Need-crew-region-requires Inv-loop μ-loop
+crew-region-requires c κs = (c .before .before .before .before .before .before .pre .0, c .before .before .before .before .before .before .pre .1, crew-there _ (c .before .before .before .before .before .before .pre .2) _ (c .before .loop-test .taken))
+
+cast-combine : tie.Need-cast-combine Inv-loop μ-loop
+cast-combine c = search needs
+
+combine-requires : tie.Need-combine-requires Inv-loop μ-loop
+combine-requires c κs = summed-room _ _ _ _ _ (c .before .before .before .loop .inv) (c .before .before .before .before .before .before .before .pre .2 .few) _ (omega arith)
+
+add-j : tie.Need-add-j Inv-loop μ-loop
+add-j c = search needs
+
+loop-less : tie.Need-loop-less Inv-loop μ-loop
+loop-less c = search needs
+
+loop-again : tie.Need-loop-again Inv-loop μ-loop
+loop-again c = summed-turn _ _ _ _ _ (c .before .before .before .before .loop .inv) (c .before .before .before .loop-test .taken) _ _ (omega arith) (c .before .crew-region .ensures) (c .combine .ensures)
+
+returns : tie.Need-returns Inv-loop μ-loop
+returns c = bound-made _ _ _ _ _ _ (summed-all _ _ _ _ _ (c .before .loop .inv) (c .loop-test .left))
+
+pub record-bound-spec : {M : Type 1} → statement M
+record-bound-spec =
+    tie.close
+    (tie.spec
+    Inv-loop
+    μ-loop
+    loop-holds
+    mul-crew-region
+    shared-slice-read-crew-region
+    crew-region-requires
+    cast-combine
+    combine-requires
+    add-j
+    loop-less
+    loop-again
+    returns)

@@ -1,0 +1,28 @@
+-- LB and UB by the rows of an array, 1,024 words to a row. Assumes nothing: these are definitions.
+use mathlib.Core.Path.{_≡_}
+use mathlib.Core.List.{List}
+use Prim.Native.Nat.{ℕ, zero, suc, _+_, _*_, _≤_, min, max}
+use lib.ListN.{length, getD}
+use lib.Dec.{eqb}
+use Rattle.book.specs.Choose.{choose}
+use Rattle.search_rules.specs.Bounds.{apart}
+
+-- row r's word for junction v
+unfoldable pub cell : List ℕ → ℕ → ℕ → ℕ
+cell sheet r v = getD sheet (r * 1024 + v) 0
+
+-- "LB(l, q) is the greatest difference .. of sheet values at l and q": of the first rows
+unfoldable pub rowsLower : List ℕ → ℕ → ℕ → ℕ → ℕ
+rowsLower sheet zero l q = 0
+rowsLower sheet (suc r) l q = max (rowsLower sheet r l q) (apart (cell sheet r l) (cell sheet r q))
+
+-- "UB(l, q) the least sum, of sheet values at l and q": of the first rows, at least one
+unfoldable pub rowsUpper : List ℕ → ℕ → ℕ → ℕ → ℕ
+rowsUpper sheet zero l q = 0
+rowsUpper sheet (suc r) l q = let s = cell sheet r l + cell sheet r q in choose (eqb r 0) s (min (rowsUpper sheet r l q) s)
+
+-- a sheet has four rows, of which from one to all are filled
+pub record Rows (sheet : List ℕ) (rows : ℕ) : Type 0 where
+  pub room : length sheet ≡ 4096
+  pub some : 1 ≤ rows
+  pub few : rows ≤ 4

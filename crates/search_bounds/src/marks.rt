@@ -1,0 +1,71 @@
+// A region's landmarks, read from the tree book.
+use crate::Landmark;
+ghost use mathlib.Core.Path.{_≡_};
+ghost use Prim.Native.Nat.{ℕ, _+_, _*_, _≤_, _<_};
+ghost use lib.ListN.{length, getD};
+ghost use Rattle.book.specs.Bytes.{u8At, u16At, u32At};
+ghost use Rattle.tree_layout.specs.Values.{leafMark, innerMark};
+ghost use Rattle.tree_layout.specs.Decode.{readList, markSize, landmarkCount};
+ghost use Rattle.search_rules.specs.Bounds.{noMark};
+ghost use Rattle.search_bounds.specs.Marks.{markPlace, marksAt, landmarkOf, RecordAt};
+
+// The bytes of one landmark of the record at a place.
+fn mark_size(tree: &[u8], at: usize) -> usize
+    requires { ⌜ at + 7 ≤ length (now tree) ⌝ }
+    ensures { λ r. ⌜ r ≡ markSize (u8At (now (tree .entry)) (at + 4)) (u16At (now (tree .entry)) (at + 5)) ⌝ }
+{
+    if book::u8_at(tree, at + 4) != 0 {
+        return 10;
+    }
+    2 + 6 * (book::u16_at(tree, at + 5) as usize)
+}
+
+// Where landmark j of the record at a place stands.
+pub fn mark_place(tree: &[u8], at: usize, j: usize) -> usize
+    requires { ⌜ RecordAt (now tree) at × (j < landmarkCount (now tree)) ⌝ }
+    ensures { λ r. ⌜ r ≡ markPlace (now (tree .entry)) at j ⌝ }
+{
+    let size = mark_size(tree, at);
+    at + 7 + j * size
+}
+
+// A leaf's landmark: "in a leaf, its list's first and last".
+fn of_list(place: u16, p: &[u8], n: usize) -> Landmark
+    requires { ⌜ (1 ≤ n) × (6 * n ≤ length (now p)) ⌝ }
+    ensures { λ r. ⌜ r ≡ landmarkOf (leafMark place (readList (now (p .entry)) n 0)) ⌝ }
+{
+    Landmark {
+        place: place,
+        least: book::u32_at(p, 0),
+        greatest: book::u32_at(p, 6 * (n - 1)),
+    }
+}
+
+// An inner region's landmark: "least and greatest distance to its yards".
+fn of_span(tree: &[u8], at: usize) -> Landmark
+    requires { ⌜ at + 10 ≤ length (now tree) ⌝ }
+    ensures { λ r. ⌜ r ≡ landmarkOf (innerMark (u16At (now (tree .entry)) at)
+        (u32At (now (tree .entry)) (at + 2)) (u32At (now (tree .entry)) (at + 6))) ⌝ }
+{
+    Landmark {
+        place: book::u16_at(tree, at),
+        least: book::u32_at(tree, at + 2),
+        greatest: book::u32_at(tree, at + 6),
+    }
+}
+
+// Landmark j of the record at a place.
+pub fn landmark(tree: &[u8], at: usize, j: usize) -> Landmark
+    requires { ⌜ RecordAt (now tree) at × (j < landmarkCount (now tree)) ⌝ }
+    ensures { λ r. ⌜ r ≡ landmarkOf (getD (marksAt (now (tree .entry)) at) j noMark) ⌝ }
+{
+    let p = mark_place(tree, at, j);
+    if book::u8_at(tree, at + 4) != 0 {
+        return of_span(tree, p);
+    }
+    let yards = book::u16_at(tree, at + 5) as usize;
+    let a = p + 2;
+    let e = a + 6 * yards;
+    let place = book::u16_at(tree, p);
+    of_list(place, &tree[a..e], yards)
+}

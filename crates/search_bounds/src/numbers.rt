@@ -1,0 +1,58 @@
+// The difference, the aggregate, the greater and the lesser of two numbers.
+ghost use mathlib.Core.Path.{_≡_};
+ghost use Prim.Native.Nat.{ℕ, _+_, _<_, min, max};
+ghost use Rattle.search_rules.specs.Bounds.{apart, combine};
+
+// The difference of two numbers.
+pub fn apart(a: u32, b: u32) -> u32
+    ensures { λ r. ⌜ r ≡ apart a b ⌝ }
+{
+    if a < b {
+        return b - a;
+    }
+    a - b
+}
+
+// The aggregate of two numbers: their sum for code 0, else the greater.
+pub fn combine(code: u8, a: u64, b: u64) -> u64
+    requires { ⌜ a + b < 18446744073709551616 ⌝ }
+    ensures { λ r. ⌜ r ≡ combine code a b ⌝ }
+{
+    if code == 0 {
+        return a + b;
+    }
+    if a < b {
+        return b;
+    }
+    a
+}
+
+// The greater of two numbers.
+pub fn greater(a: u32, b: u32) -> u32
+    ensures { λ r. ⌜ r ≡ max a b ⌝ }
+{
+    if a < b {
+        return b;
+    }
+    a
+}
+
+// The lesser of two numbers.
+pub fn lesser(a: u64, b: u64) -> u64
+    ensures { λ r. ⌜ r ≡ min a b ⌝ }
+{
+    if b < a {
+        return b;
+    }
+    a
+}
+
+// The greater of two numbers of 64 bits.
+pub fn greater64(a: u64, b: u64) -> u64
+    ensures { λ r. ⌜ r ≡ max a b ⌝ }
+{
+    if a < b {
+        return b;
+    }
+    a
+}

@@ -1,0 +1,76 @@
+// A region's bound.
+use crate::Landmark;
+use crate::marks;
+use crate::numbers;
+use crate::rows;
+use tree_layout::Region;
+ghost use mathlib.Core.Path.{_≡_};
+ghost use Prim.Native.Nat.{ℕ, _<_};
+ghost use lib.ListN.{length};
+ghost use Rattle.tree_layout.specs.Values.{regionAt};
+ghost use Rattle.tree_layout.specs.Decode.{decode};
+ghost use Rattle.tree.specs.Arrays.{Laid};
+ghost use Rattle.search_rules.specs.Bounds.{crewBound};
+ghost use Rattle.search_bounds.specs.Rows.{rowsLower, rowsUpper, Rows};
+ghost use Rattle.search_bounds.specs.Marks.{marksAt, RecordAt};
+ghost use Rattle.search_bounds.specs.Bounds.{rowsCrew, rowsBound, Crews};
+
+// "the crew's bound": of crew q for a landmark.
+fn mark_bound(sheet: &[u32], rows: usize, k: Landmark, q: u16) -> u32
+    requires { ⌜ Rows (now sheet) rows × (k .place < 1024) × (q < 1024) ⌝ }
+    ensures { λ x. ⌜ x ≡ crewBound (rowsLower (now (sheet .entry)) rows (k .place) q)
+        (rowsUpper (now (sheet .entry)) rows (k .place) q) (k .least) (k .greatest) ⌝ }
+{
+    let lb = rows::lower(sheet, rows, k.place, q);
+    let ub = rows::upper(sheet, rows, k.place, q);
+    rows::crew_bound(lb, ub, k.least, k.greatest)
+}
+
+// "The greatest over the region's landmarks is taken": for crew q, of the record at a place.
+fn crew_region(tree: &[u8], at: usize, sheet: &[u32], rows: usize, q: u16) -> u32
+    requires { ⌜ RecordAt (now tree) at × Rows (now sheet) rows × (q < 1024) ⌝ }
+    ensures { λ x. ⌜ x ≡ rowsCrew (now (sheet .entry)) rows (marksAt (now (tree .entry)) at) q ⌝ }
+{
+    let m = book::u8_at(tree, 11) as usize;
+    let mut x: u32 = 0;
+    let mut j: usize = 0;
+    while j < m {
+        let k = marks::landmark(tree, at, j);
+        x = numbers::greater(x, mark_bound(sheet, rows, k, q));
+        j += 1;
+    }
+    x
+}
+
+// "then the aggregate over crews": of the record at a place.
+fn record_bound(tree: &[u8], at: usize, sheet: &[u32], rows: usize, code: u8, crews: &[u16]) -> u64
+    requires { ⌜ RecordAt (now tree) at × Rows (now sheet) rows × Crews (now crews) ⌝ }
+    ensures { λ x. ⌜ x ≡ rowsBound (now (sheet .entry)) rows code (now (crews .entry)) (marksAt (now (tree .entry)) at) ⌝ }
+{
+    let mut x: u64 = 0;
+    let mut j: usize = 0;
+    while j < crews.len() {
+        let w = crew_region(tree, at, sheet, rows, crews[j]);
+        x = numbers::combine(code, x, w as u64);
+        j += 1;
+    }
+    x
+}
+
+// Region r's bound.
+pub fn region_bound(
+    tree: &[u8],
+    places: &[usize],
+    sheet: &[u32],
+    rows: usize,
+    code: u8,
+    crews: &[u16],
+    r: Region,
+) -> u64
+    requires { ⌜ Laid (now tree) (now places) × (r .number < length (now places)) × Rows (now sheet) rows × Crews (now crews) ⌝ }
+    ensures { λ x. ⌜ x ≡ rowsBound (now (sheet .entry)) rows code (now (crews .entry))
+        (regionAt (decode (now (tree .entry)) .regions) (r .number) .marks) ⌝ }
+{
+    let at = places[r.number as usize];
+    record_bound(tree, at, sheet, rows, code, crews)
+}

@@ -1,0 +1,85 @@
+// LB and UB by the sheet's rows, and a crew's bound.
+use crate::numbers;
+ghost use mathlib.Core.Path.{_≡_};
+ghost use Prim.Native.Nat.{ℕ, _+_, _-_, _<_};
+ghost use lib.ListN.{length};
+ghost use Rattle.search_rules.specs.Bounds.{apart, crewBound};
+ghost use Rattle.search_bounds.specs.Rows.{cell, rowsLower, rowsUpper, Rows};
+
+// Row r's word for junction v.
+pub fn cell(sheet: &[u32], r: usize, v: u16) -> u32
+    requires { ⌜ (length (now sheet) ≡ 4096) × (r < 4) × (v < 1024) ⌝ }
+    ensures { λ d. ⌜ d ≡ cell (now (sheet .entry)) r v ⌝ }
+{
+    sheet[r * 1024 + v as usize]
+}
+
+// The difference of row r's words for junctions l and q.
+fn row_apart(sheet: &[u32], r: usize, l: u16, q: u16) -> u32
+    requires { ⌜ (length (now sheet) ≡ 4096) × (r < 4) × (l < 1024) × (q < 1024) ⌝ }
+    ensures { λ x. ⌜ x ≡ apart (cell (now (sheet .entry)) r l) (cell (now (sheet .entry)) r q) ⌝ }
+{
+    numbers::apart(cell(sheet, r, l), cell(sheet, r, q))
+}
+
+fn wide(x: u32) -> u64
+    ensures { λ r. ⌜ (r ≡ x) × (r < 4294967296) ⌝ }
+{
+    x as u64
+}
+
+// The sum of row r's words for junctions l and q.
+fn row_sum(sheet: &[u32], r: usize, l: u16, q: u16) -> u64
+    requires { ⌜ (length (now sheet) ≡ 4096) × (r < 4) × (l < 1024) × (q < 1024) ⌝ }
+    ensures { λ x. ⌜ x ≡ cell (now (sheet .entry)) r l + cell (now (sheet .entry)) r q ⌝ }
+{
+    wide(cell(sheet, r, l)) + wide(cell(sheet, r, q))
+}
+
+// "LB(l, q) is the greatest difference .. of sheet values at l and q."
+pub fn lower(sheet: &[u32], rows: usize, l: u16, q: u16) -> u32
+    requires { ⌜ Rows (now sheet) rows × (l < 1024) × (q < 1024) ⌝ }
+    ensures { λ x. ⌜ x ≡ rowsLower (now (sheet .entry)) rows l q ⌝ }
+{
+    let mut x: u32 = 0;
+    let mut r: usize = 0;
+    while r < rows {
+        x = numbers::greater(x, row_apart(sheet, r, l, q));
+        r += 1;
+    }
+    x
+}
+
+// "UB(l, q) the least sum, of sheet values at l and q": of at least one row.
+pub fn upper(sheet: &[u32], rows: usize, l: u16, q: u16) -> u64
+    requires { ⌜ Rows (now sheet) rows × (l < 1024) × (q < 1024) ⌝ }
+    ensures { λ x. ⌜ x ≡ rowsUpper (now (sheet .entry)) rows l q ⌝ }
+{
+    let mut x = row_sum(sheet, 0, l, q);
+    let mut r: usize = 1;
+    while r < rows {
+        x = numbers::lesser(x, row_sum(sheet, r, l, q));
+        r += 1;
+    }
+    x
+}
+
+// How far a is beyond ub: 0 where it isn't.
+fn beyond(a: u32, ub: u64) -> u32
+    ensures { λ x. ⌜ x ≡ a - ub ⌝ }
+{
+    if ub <= a as u64 {
+        return (a as u64 - ub) as u32;
+    }
+    0
+}
+
+// "the crew's bound is LB − B if LB ≥ B, A − UB if UB ≤ A, else 0."
+pub fn crew_bound(lb: u32, ub: u64, a: u32, b: u32) -> u32
+    ensures { λ x. ⌜ x ≡ crewBound lb ub a b ⌝ }
+{
+    if b <= lb {
+        return lb - b;
+    }
+    beyond(a, ub)
+}

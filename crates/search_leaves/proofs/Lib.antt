@@ -1,0 +1,4 @@
+pub mod Filling
+pub mod Scanning
+pub mod Opening
+pub mod Vectors

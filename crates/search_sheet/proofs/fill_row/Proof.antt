@@ -1,0 +1,43 @@
+use mathlib.Core.Path.{_≡_, _∙_}
+use native.Mathlib.Omega.{arith}
+use Rattle.search_sheet.proofs.Rowing.{source-there, row-walked}
+use borrow.Author.Needs.{needs}
+use Rattle.search_sheet.proofs.fill_row.Statement.{statement}
+use Rattle.search_sheet.proofs.fill_row.Tie as tie
+
+landmark-requires : tie.Need-landmark-requires
+landmark-requires c κs = search needs
+
+distances-requires : tie.Need-distances-requires
+distances-requires c κs = (c .before .before .before .before .before .before .before .before .before .before .before .before .before .before .pre .0, c .before .before .before .before .before .before .before .before .before .before .before .before .before .before .pre .1, source-there _ (c .before .before .before .before .before .before .before .before .before .before .before .before .before .before .pre .3) _ (c .before .before .before .before .before .before .before .before .before .before .before .before .before .before .pre .4) _ (c .before .before .before .landmark .ensures) _ (c .before .before .before .before .before .before .before .before .before .before .before .before .before .before .pre .5))
+
+copy-row-requires : tie.Need-copy-row-requires
+copy-row-requires c κs = (c .before .before .before .before .before .before .before .before .distances .kept .1 .1 .1 .1 .1 .0 ∙ c .before .before .before .before .before .before .before .before .before .before .before .before .before .before .before .before .before .before .before .before .before .before .before .pre .1 .distances, c .before .before .before .before .before .before .before .before .before .before .before .before .before .before .before .before .before .before .before .before .before .before .before .pre .2, omega (arith, c .before .before .before .before .before .before .before .before .before .before .before .before .before .before .before .before .before .before .before .before .before .before .before .pre .3 .landmarks .1, c .before .before .before .before .before .before .before .before .before .before .before .before .before .before .before .before .before .before .before .before .before .before .before .pre .4))
+
+same-length : tie.Need-same-length
+same-length c = search needs
+
+same-length-2 : tie.Need-same-length-2
+same-length-2 c = search needs
+
+same-length-3 : tie.Need-same-length-3
+same-length-3 c = search needs
+
+same-length-4 : tie.Need-same-length-4
+same-length-4 c = search needs
+
+returns : tie.Need-returns
+returns c = row-walked _ (c .before .before .before .before .before .before .before .before .before .before .before .before .before .before .before .before .before .before .before .before .before .before .before .before .before .before .pre .3) _ (c .before .before .before .before .before .before .before .before .before .before .before .before .before .before .before .before .before .before .before .before .before .before .before .before .before .before .pre .4) _ (c .before .before .before .before .before .before .before .before .before .before .before .before .before .before .before .landmark .ensures) _ _ _ _ (c .before .before .before .before .before .before .before .before .before .before .before .distances .ensures) (c .before .before .copy-row .ensures)
+
+pub fill-row-spec : {M : Type 1} → statement M
+fill-row-spec =
+    tie.close
+    (tie.spec
+    landmark-requires
+    distances-requires
+    copy-row-requires
+    same-length
+    same-length-2
+    same-length-3
+    same-length-4
+    returns)

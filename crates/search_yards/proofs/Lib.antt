@@ -1,0 +1,3 @@
+pub mod Aggregating
+pub mod Searching
+pub mod Vectors

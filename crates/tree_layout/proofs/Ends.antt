@@ -1,0 +1,31 @@
+-- The fields of a landmark, and the first and last distance of a list as it is read. Assumes nothing.
+use mathlib.Core.Path.{_≡_, refl, _∙_}
+use mathlib.Core.List.{List, [], _∷_}
+use Prim.Native.Nat.{ℕ, zero, suc, _+_, _*_}
+use native.Mathlib.Omega.{arith}
+use Rattle.book.specs.Bytes.{u16At, u32At}
+use Rattle.tree_layout.specs.Values.{Element, Mark, firstDistance, lastFrom, leafMark, innerMark}
+use Rattle.tree_layout.specs.Decode.{elementAt, readList}
+
+pub leaf-is : (place : ℕ) (list : List Element) → leafMark place list ≡ record { place = place; least = firstDistance list; greatest = lastFrom 0 list; list = list }
+unfolding leafMark
+leaf-is place list = refl
+
+pub inner-is : (place least greatest : ℕ) → innerMark place least greatest ≡ record { place = place; least = least; greatest = greatest; list = [] }
+unfolding innerMark
+inner-is place least greatest = refl
+
+pub first-more : (e : Element) (es : List Element) → firstDistance (e ∷ es) ≡ e .distance
+unfolding firstDistance
+first-more e es = refl
+
+-- the first of n + 1 pairs from a place on
+pub first-read : (p : List ℕ) (n at : ℕ) → firstDistance (readList p (suc n) at) ≡ u32At p at
+unfolding firstDistance readList elementAt
+first-read p n at = refl
+
+-- the last of them
+pub last-read : (p : List ℕ) (n x at : ℕ) → lastFrom x (readList p (suc n) at) ≡ u32At p (at + 6 * n)
+unfolding lastFrom readList elementAt
+last-read p zero x at = let e : at ≡ at + 6 * 0 = omega arith in rw (← e) refl
+last-read p (suc n) x at = let e : (at + 6) + 6 * n ≡ at + 6 * suc n = omega arith in rw (← e) (last-read p n (u32At p at) (at + 6))
