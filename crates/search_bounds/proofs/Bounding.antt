@@ -1,6 +1,6 @@
 -- A region's bound and the landmark that is picked, as the code finds them. Assumes nothing.
-use mathlib.Core.Path.{_≡_, refl, sym, ap, _∙_}
-use mathlib.Core.List.{List, List·Memᴰ as Mem}
+use mathlib.Core.Path.{_≡_, sym, ap, _∙_}
+use mathlib.Core.List.{List}
 use Prim.Native.Nat.{ℕ, _<_}
 use native.Mathlib.Omega.{arith}
 use lib.ListN.{length, getD}
@@ -30,7 +30,8 @@ module _ (b : List ℕ) (at : ℕ) (r : RecordAt b at) (m : ℕ) (e : m ≡ u8At
   pub count-marks : length (marksAt b at) ≡ m
   count-marks = marks-count b at ∙ sym count-read
 
-module _ (b : List ℕ) (at : ℕ) (r : RecordAt b at) (j : ℕ) (h : j < landmarkCount b) (k : Landmark) (e : k ≡ landmarkOf (getD (marksAt b at) j noMark)) where
+module _ (b : List ℕ) (at : ℕ) (r : RecordAt b at) (j : ℕ) (h : j < landmarkCount b) (k : Landmark)
+    (e : k ≡ landmarkOf (getD (marksAt b at) j noMark)) where
   -- the junction of landmark j
   pub place-read : k .place ≡ getD (marksAt b at) j noMark .place
   unfolding landmarkOf
@@ -54,26 +55,32 @@ pub crew-made : (sheet : List ℕ) (rows : ℕ) (ks : List Mark) (q x : ℕ) →
 unfolding rowsCrew
 crew-made sheet rows ks q x e = e
 
-pub bound-made : (sheet : List ℕ) (rows code : ℕ) (crews : List ℕ) (ks : List Mark) (x : ℕ) → x ≡ aggregate code (rowsCrew sheet rows ks) crews → x ≡ rowsBound sheet rows code crews ks
+pub bound-made : (sheet : List ℕ) (rows code : ℕ) (crews : List ℕ) (ks : List Mark) (x : ℕ) → x ≡ aggregate code (rowsCrew sheet rows ks) crews
+    → x ≡ rowsBound sheet rows code crews ks
 unfolding rowsBound
 bound-made sheet rows code crews ks x e = e
 
-pub weight-made : (sheet : List ℕ) (rows : ℕ) (crews : List ℕ) (l x : ℕ) → x ≡ aggregate 0 (rowsLower sheet rows l) crews → x ≡ rowsWeight sheet rows crews l
+pub weight-made : (sheet : List ℕ) (rows : ℕ) (crews : List ℕ) (l x : ℕ) → x ≡ aggregate 0 (rowsLower sheet rows l) crews
+    → x ≡ rowsWeight sheet rows crews l
 unfolding rowsWeight
 weight-made sheet rows crews l x e = e
 
-pub weight-read : (sheet : List ℕ) (rows : ℕ) (crews : List ℕ) (ks : List Mark) (j u x : ℕ) → u ≡ getD ks j noMark .place → x ≡ rowsWeight sheet rows crews u → x ≡ markWeight sheet rows crews ks j
+pub weight-read : (sheet : List ℕ) (rows : ℕ) (crews : List ℕ) (ks : List Mark) (j u x : ℕ) → u ≡ getD ks j noMark .place
+    → x ≡ rowsWeight sheet rows crews u → x ≡ markWeight sheet rows crews ks j
 unfolding markWeight
 weight-read sheet rows crews ks j u x e f = rw (← e) f
 
-pub chosen-made : (sheet : List ℕ) (rows : ℕ) (crews : List ℕ) (ks : List Mark) (m p : ℕ) → length ks ≡ m → p ≡ firstGreatest (markWeight sheet rows crews ks) m → p ≡ rowsChosen sheet rows crews ks
+pub chosen-made : (sheet : List ℕ) (rows : ℕ) (crews : List ℕ) (ks : List Mark) (m p : ℕ) → length ks ≡ m
+    → p ≡ firstGreatest (markWeight sheet rows crews ks) m → p ≡ rowsChosen sheet rows crews ks
 unfolding rowsChosen
 chosen-made sheet rows crews ks m p e f = rw e f
 
 -- ---- a region by its number
 
-pub bound-moved : (sheet : List ℕ) (rows code : ℕ) (crews : List ℕ) (ks ms : List Mark) (x : ℕ) → ks ≡ ms → x ≡ rowsBound sheet rows code crews ks → x ≡ rowsBound sheet rows code crews ms
+pub bound-moved : (sheet : List ℕ) (rows code : ℕ) (crews : List ℕ) (ks ms : List Mark) (x : ℕ) → ks ≡ ms → x ≡ rowsBound sheet rows code crews ks
+    → x ≡ rowsBound sheet rows code crews ms
 bound-moved sheet rows code crews ks ms x e f = rw (← e) f
 
-pub chosen-moved : (sheet : List ℕ) (rows : ℕ) (crews : List ℕ) (ks ms : List Mark) (p : ℕ) → ks ≡ ms → p ≡ rowsChosen sheet rows crews ks → p ≡ rowsChosen sheet rows crews ms
+pub chosen-moved : (sheet : List ℕ) (rows : ℕ) (crews : List ℕ) (ks ms : List Mark) (p : ℕ) → ks ≡ ms → p ≡ rowsChosen sheet rows crews ks
+    → p ≡ rowsChosen sheet rows crews ms
 chosen-moved sheet rows crews ks ms p e f = rw (← e) f

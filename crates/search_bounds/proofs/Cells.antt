@@ -1,13 +1,13 @@
 -- LB and UB, one row further. Assumes nothing.
-use mathlib.Core.Path.{_≡_, refl, sym, ap, _∙_}
+use mathlib.Core.Path.{_≡_, refl, sym, _∙_}
 use mathlib.Core.List.{List}
-use Prim.Native.Nat.{ℕ, zero, suc, _+_, _*_, _≤_, _<_, min, max}
+use Prim.Native.Nat.{ℕ, suc, _+_, _*_, _≤_, _<_, min, max}
 use native.Mathlib.Numerals.{add-one}
 use native.Mathlib.Omega.{arith}
 use lib.ListN.{getD}
 use lib.Dec.{eqb}
 use Rattle.book.proofs.Choosing.{choose-yes, choose-no}
-use Rattle.book.proofs.Lists.{eq→eqb, ne→neqb}
+use Rattle.book.proofs.Lists.{ne→neqb}
 use Rattle.search_rules.specs.Bounds.{apart}
 use Rattle.search_bounds.specs.Rows.{cell, rowsLower, rowsUpper}
 
@@ -25,7 +25,8 @@ module _ (sheet : List ℕ) (l q : ℕ) where
   lower-suc r = refl
 
   -- a turn: x with row r's difference
-  pub lower-turn : (r x d y : ℕ) → x ≡ rowsLower sheet r l q → d ≡ apart (cell sheet r l) (cell sheet r q) → y ≡ max x d → y ≡ rowsLower sheet (r + 1) l q
+  pub lower-turn : (r x d y : ℕ) → x ≡ rowsLower sheet r l q → d ≡ apart (cell sheet r l) (cell sheet r q) → y ≡ max x d
+      → y ≡ rowsLower sheet (r + 1) l q
   lower-turn r x d y e f g = g ∙ rw (e, f, add-one r) (sym (lower-suc r))
 
   pub upper-one : rowsUpper sheet 1 l q ≡ cell sheet 0 l + cell sheet 0 q
@@ -37,7 +38,8 @@ module _ (sheet : List ℕ) (l q : ℕ) where
   upper-suc r h = choose-no (eqb r 0) _ _ (ne→neqb r 0 (omega arith))
 
   -- a turn: x with row r's sum
-  pub upper-turn : (r x s y : ℕ) → 0 < r → x ≡ rowsUpper sheet r l q → s ≡ cell sheet r l + cell sheet r q → y ≡ min x s → y ≡ rowsUpper sheet (r + 1) l q
+  pub upper-turn : (r x s y : ℕ) → 0 < r → x ≡ rowsUpper sheet r l q → s ≡ cell sheet r l + cell sheet r q → y ≡ min x s
+      → y ≡ rowsUpper sheet (r + 1) l q
   upper-turn r x s y h e f g = g ∙ rw (e, f, add-one r) (sym (upper-suc r h))
 
   -- all rows are done

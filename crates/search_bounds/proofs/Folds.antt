@@ -1,12 +1,11 @@
 -- The aggregate over crews and the greatest over landmarks, one further, as loops make them. Assumes nothing.
-use mathlib.Core.Path.{_≡_, refl, sym, ap, _∙_}
-use mathlib.Core.List.{List, List·Memᴰ as Mem}
-use Prim.Native.Nat.{ℕ, zero, suc, _+_, _*_, _≤_, _<_, max}
+use mathlib.Core.Path.{_≡_, sym, ap, _∙_}
+use mathlib.Core.List.{List}
+use Prim.Native.Nat.{ℕ, _+_, _*_, _≤_, _<_, max}
 use native.Mathlib.Numerals.{add-one}
 use native.Mathlib.Omega.{arith}
 use lib.ListN.{length, getD, take}
 use lib.Seq.{take-all}
-use Rattle.book.proofs.Lists.{getD-mem}
 use Rattle.tree_layout.specs.Values.{Mark}
 use Rattle.search_rules.specs.Bounds.{combine, aggregate, greatestOf, noMark}
 use Rattle.search_rules.proofs.Turns.{aggregate-take, greatest-take}

@@ -1,11 +1,9 @@
 -- The place of the greatest of some numbers, one further. Assumes nothing.
 use mathlib.Core.Path.{_≡_, refl, sym, ap, _∙_}
-use mathlib.Core.Bool.{Bool, not}
-use mathlib.Core.List.{List}
 use Prim.Native.Nat.{ℕ, zero, suc, _+_, _≤_, _<_, max}
 use native.Mathlib.Numerals.{add-one}
 use native.Mathlib.Omega.{arith}
-use lib.Dec.{T, ltb, lt→ltb, ltb→lt, nltb→le, not-T}
+use lib.Dec.{ltb, lt→ltb, ltb→lt, nltb→le, not-T}
 use Rattle.book.specs.Choose.{choose}
 use Rattle.book.proofs.Choosing.{choose-case, choose-yes, choose-no}
 use Rattle.search_bounds.specs.Bounds.{firstGreatest}
@@ -35,11 +33,13 @@ module _ (g : ℕ → ℕ) where
   first-below (suc zero) h = omega (arith, first-one)
   first-below (suc (suc n)) h =
       let r = first-below (suc n) (omega arith) in
-      rw (first-suc (suc n)) (choose-case (λ z. z < suc (suc n)) (ltb (g (firstGreatest g (suc n))) (g (suc n))) (λ t. omega arith) (λ t. omega arith))
+      rw (first-suc (suc n))
+      (choose-case (λ z. z < suc (suc n)) (ltb (g (firstGreatest g (suc n))) (g (suc n))) (λ t. omega arith) (λ t. omega arith))
 
   -- the greater of two numbers is that of the place picked of them
   chosen-greater : (best w j p : ℕ) → best ≡ g p → w ≡ g j → max best w ≡ g (choose (ltb best w) j p)
-  chosen-greater best w j p e f = choose-case (λ z. max best w ≡ g z) (ltb best w) (λ t. omega (arith, ltb→lt best w t)) (λ t. omega (arith, nltb→le best w t))
+  chosen-greater best w j p e f =
+      choose-case (λ z. max best w ≡ g z) (ltb best w) (λ t. omega (arith, ltb→lt best w t)) (λ t. omega (arith, nltb→le best w t))
 
 -- p is the place of the greatest of the first j numbers, of m, and best is that number
 pub record Picked (g : ℕ → ℕ) (m j p best : ℕ) : Type 0 where
@@ -52,7 +52,8 @@ module _ (g : ℕ → ℕ) (m : ℕ) where
   pub picked-first : 1 ≤ m → (best : ℕ) → best ≡ g 0 → Picked g m 1 0 best
   picked-first h best e = record { some = omega arith; done = h; place = sym (first-one g); value = e }
 
-  pub picked-turn : (j p best w q b : ℕ) → Picked g m j p best → j < m → w ≡ g j → q ≡ choose (ltb best w) j p → b ≡ max best w → Picked g m (j + 1) q b
+  pub picked-turn : (j p best w q b : ℕ) → Picked g m j p best → j < m → w ≡ g j → q ≡ choose (ltb best w) j p → b ≡ max best w
+      → Picked g m (j + 1) q b
   picked-turn j p best w q b s h k l n = record {
     some = omega arith;
     done = omega arith;

@@ -6,7 +6,7 @@ use native.Mathlib.Nat.{suc-mul, mul-le-mul-right}
 use native.Mathlib.Omega.{arith}
 use lib.ListN.{length, getD, take, drop}
 use Rattle.book.specs.Bytes.{u8At, u16At, u32At}
-use Rattle.tree_layout.specs.Values.{Mark, leafMark, innerMark, firstDistance, lastFrom}
+use Rattle.tree_layout.specs.Values.{leafMark, innerMark, firstDistance, lastFrom}
 use Rattle.tree_layout.specs.Decode.{markSize, sizeAt, readList, listPart, landmarkCount}
 use Rattle.tree_layout.proofs.Places.{mark-size-leaf, mark-size-inner, size-at, size-least}
 use Rattle.tree_layout.proofs.Reading.{list-part}
@@ -51,7 +51,8 @@ module _ (b : List ℕ) (at : ℕ) (r : RecordAt b at) where
 
       -- an inner region's landmark lies in the book
       pub span-inside : (children : ℕ) → children ≡ u8At b (at + 4) → (children ≡ 0 → ⊥) → p + 10 ≤ length b
-      span-inside children f z = omega (arith, place, mark-inside (markSize (u8At b (at + 4)) (u16At b (at + 5))) refl, size-inner b at children 0 f z)
+      span-inside children f z =
+          omega (arith, place, mark-inside (markSize (u8At b (at + 4)) (u16At b (at + 5))) refl, size-inner b at children 0 f z)
 
       pub span-is : (children : ℕ) → children ≡ u8At b (at + 4) → (children ≡ 0 → ⊥) → (l : Landmark)
           → l ≡ landmarkOf (innerMark (u16At b p) (u32At b (p + 2)) (u32At b (p + 6))) → l ≡ landmarkOf (getD (marksAt b at) j noMark)
@@ -67,7 +68,8 @@ module _ (b : List ℕ) (at : ℕ) (r : RecordAt b at) where
             → l ≡ landmarkOf (leafMark u (readList (take (n - a) (drop a b)) yards 0)) → l ≡ landmarkOf (getD (marksAt b at) j noMark)
         unfolding marksAt
         list-is a n u l ea en eu g =
-            let k : l ≡ landmarkOf (leafMark (u16At b p) (readList (listPart b yards (p + 2)) yards 0)) = rw (← eu, ← ea, ← list-part b yards a n en) g in
+            let k : l ≡ landmarkOf (leafMark (u16At b p) (readList (listPart b yards (p + 2)) yards 0)) = rw (← eu, ← ea, ← list-part b yards a n en)
+            g in
             k ∙ ap landmarkOf (rw y (sym (leaf-mark-at b (landmarkCount b) at j p noMark h place (sym f ∙ z))))
 
 -- ---- its fields
@@ -79,16 +81,20 @@ same-landmark : (u a z a′ z′ : ℕ) → a ≡ a′ → z ≡ z′ → landma
 same-landmark u a z a′ z′ e f = rw (e, f) refl
 
 -- of a list of n pairs
-pub list-ends : (p : List ℕ) (u n a z : ℕ) → 1 ≤ n → a ≡ u32At p 0 → z ≡ u32At p (6 * (n - 1)) → (l : Landmark) → l ≡ record { place = u; least = a; greatest = z } → l ≡ landmarkOf (leafMark u (readList p n 0))
+pub list-ends : (p : List ℕ) (u n a z : ℕ) → 1 ≤ n → a ≡ u32At p 0 → z ≡ u32At p (6 * (n - 1)) → (l : Landmark)
+    → l ≡ record { place = u; least = a; greatest = z } → l ≡ landmarkOf (leafMark u (readList p n 0))
 unfolding landmarkOf landmark
 list-ends p u zero a z h e f l g = absurd (omega arith)
 list-ends p u (suc n) a z h e f l g =
     let s : suc n - 1 ≡ n = omega arith in
     let t : 0 + 6 * n ≡ 6 * n = omega arith in
-    g ∙ rw (leaf-is u (readList p (suc n) 0)) (same-landmark u a z (firstDistance (readList p (suc n) 0)) (lastFrom 0 (readList p (suc n) 0)) (e ∙ sym (first-read p n 0)) (rw s at f ∙ sym (rw t at (last-read p n 0 0))))
+    let first : a ≡ firstDistance (readList p (suc n) 0) = e ∙ sym (first-read p n 0) in
+    let last : z ≡ lastFrom 0 (readList p (suc n) 0) = rw s at f ∙ sym (rw t at (last-read p n 0 0)) in
+    g ∙ rw (leaf-is u (readList p (suc n) 0)) (same-landmark u a z (firstDistance (readList p (suc n) 0)) (lastFrom 0 (readList p (suc n) 0)) first last)
 
 -- of a span
-pub span-ends : (b : List ℕ) (at u a z : ℕ) → u ≡ u16At b at → a ≡ u32At b (at + 2) → z ≡ u32At b (at + 6) → (l : Landmark) → l ≡ record { place = u; least = a; greatest = z }
+pub span-ends : (b : List ℕ) (at u a z : ℕ) → u ≡ u16At b at → a ≡ u32At b (at + 2) → z ≡ u32At b (at + 6) → (l : Landmark)
+    → l ≡ record { place = u; least = a; greatest = z }
     → l ≡ landmarkOf (innerMark (u16At b at) (u32At b (at + 2)) (u32At b (at + 6)))
 unfolding landmarkOf
 span-ends b at u a z eu ea ez l g = g ∙ rw (inner-is (u16At b at) (u32At b (at + 2)) (u32At b (at + 6)), eu, ea, ez) refl

@@ -2,7 +2,7 @@
 use mathlib.Core.Path.{_≡_, refl, sym, ap, _∙_}
 use mathlib.Core.Logic.{_≢_}
 use mathlib.Core.List.{List, []}
-use Prim.Native.Nat.{ℕ, _+_, _≤_, _<_}
+use Prim.Native.Nat.{ℕ, _<_}
 use native.Mathlib.Omega.{arith}
 use lib.ListN.{length, getD}
 use Rattle.road_layout.specs.Road.{junctions}
@@ -24,7 +24,8 @@ same-bound : (sheet : List ℕ) (rows code code′ : ℕ) (crews crews′ : List
     → rowsBound sheet rows code crews ks ≡ rowsBound sheet rows code′ crews′ ks′
 same-bound sheet rows code code′ crews crews′ ks ks′ e f g = rw (e, f, g) refl
 
-same-chosen : (sheet : List ℕ) (rows : ℕ) (crews crews′ : List ℕ) (ks ks′ : List Mark) → crews ≡ crews′ → ks ≡ ks′ → rowsChosen sheet rows crews ks ≡ rowsChosen sheet rows crews′ ks′
+same-chosen : (sheet : List ℕ) (rows : ℕ) (crews crews′ : List ℕ) (ks ks′ : List Mark) → crews ≡ crews′ → ks ≡ ks′
+    → rowsChosen sheet rows crews ks ≡ rowsChosen sheet rows crews′ ks′
 same-chosen sheet rows crews crews′ ks ks′ e f = rw (e, f) refl
 
 module _ (road tree : List ℕ) (code wanted : ℕ) (crews : List ℕ) where
@@ -47,7 +48,9 @@ module _ (road tree : List ℕ) (code wanted : ℕ) (crews : List ℕ) where
   module _ (p : Passed road tree crews) where
     -- the crews have their places in the sheet's rows
     pub crews-of : Crews crews
-    crews-of = record { few = p .few; there = λ q k. omega (arith, p .there q k, count road tree code wanted crews p, accepted-of road tree code wanted crews p .few-junctions, ap (λ t. t .junctions) tree-is) }
+    crews-of =
+        let a = accepted-of road tree code wanted crews p .few-junctions in
+        record { few = p .few; there = λ q k. omega (arith, p .there q k, count road tree code wanted crews p, a, ap (λ t. t .junctions) tree-is) }
 
     inside : (v : ℕ) → v < junctions road → v < i .tree .junctions
     inside v h = omega (arith, count road tree code wanted crews p, ap (λ t. t .junctions) tree-is)
@@ -59,22 +62,31 @@ module _ (road tree : List ℕ) (code wanted : ℕ) (crews : List ℕ) where
       module _ (r : ℕ) where
         pub bound-of : (x : ℕ) → x ≡ rowsBound sheet rows code crews (regionAt (decode tree .regions) r .marks) → x ≡ bound i r
         bound-of x e =
-            e ∙ same-bound sheet rows code (i .code) crews (i .crews) (regionAt (decode tree .regions) r .marks) (marks i r) (sym code-is) (sym crews-is) (sym (marks-book r))
+            e
+            ∙ same-bound sheet rows code (i .code) crews (i .crews) (regionAt (decode tree .regions) r .marks) (marks i r) (sym code-is)
+            (sym crews-is) (sym (marks-book r))
             ∙ bound-sheet i (well-of road tree code wanted crews p) rows sheet s r
 
-        module _ (h : r < length (decode tree .regions)) (j : ℕ) (e : j ≡ rowsChosen sheet rows crews (regionAt (decode tree .regions) r .marks)) where
+        module _ (h : r < length (decode tree .regions)) (j : ℕ)
+            (e : j ≡ rowsChosen sheet rows crews (regionAt (decode tree .regions) r .marks)) where
           chosen-is : j ≡ rowsChosen sheet rows (i .crews) (marks i r)
-          chosen-is = e ∙ same-chosen sheet rows crews (i .crews) (regionAt (decode tree .regions) r .marks) (marks i r) (sym crews-is) (sym (marks-book r))
+          chosen-is =
+              e ∙ same-chosen sheet rows crews (i .crews) (regionAt (decode tree .regions) r .marks) (marks i r) (sym crews-is) (sym (marks-book r))
 
           marks-length : length (regionAt (decode tree .regions) r .marks) ≡ landmarkCount tree
           marks-length = decode-formed tree (regionAt (decode tree .regions) r) (at-mem (decode tree .regions) r h) .count ∙ decode-landmarks tree
 
           marked : marks i r ≢ []
-          marked n = omega (arith, marks-length, ap length (sym (marks-book r) ∙ n), accepted-of road tree code wanted crews p .landmarks, ap (λ t. t .landmarks) tree-is, decode-landmarks tree)
+          marked n =
+              let a = accepted-of road tree code wanted crews p .landmarks in
+              let none = ap length (sym (marks-book r) ∙ n) in
+              omega (arith, marks-length, none, a, ap (λ t. t .landmarks) tree-is, decode-landmarks tree)
 
           -- the landmark that leaf r picks is its landmark j
           pub chosen-of : getD (regionAt (decode tree .regions) r .marks) j noMark ≡ chosen i r
           chosen-of = rw (← marks-book r, chosen-is) (chosen-sheet i (well-of road tree code wanted crews p) rows sheet s r marked)
 
           pub chosen-few : j < landmarkCount tree
-          chosen-few = omega (arith, chosen-is, chosen-below i (well-of road tree code wanted crews p) rows sheet s r marked, ap length (marks-book r), marks-length)
+          chosen-few =
+              omega
+              (arith, chosen-is, chosen-below i (well-of road tree code wanted crews p) rows sheet s r marked, ap length (marks-book r), marks-length)

@@ -2,17 +2,16 @@
 use mathlib.Core.Path.{_≡_, refl, sym, ap, _∙_}
 use mathlib.Core.Logic.{_≢_}
 use mathlib.Core.List.{List, [], _∷_, List·Memᴰ as Mem}
-use Prim.Native.Nat.{ℕ, zero, suc, _+_, _≤_, _<_, min, max}
+use Prim.Native.Nat.{ℕ, zero, suc, _+_, _≤_, _<_}
 use native.Mathlib.Omega.{arith}
 use lib.ListN.{length, getD, take}
 use lib.Seq.{take-all}
 use lib.Dec.{ltb}
-use Rattle.book.specs.Choose.{choose}
 use Rattle.book.proofs.Choosing.{choose-map}
 use Rattle.book.proofs.Lists.{getD-mem}
 use Rattle.tree_layout.specs.Values.{Mark}
 use Rattle.search_rules.specs.Instance.{Instance, marks}
-use Rattle.search_rules.specs.Bounds.{apart, aggregate, greatestOf, leastOf, noMark, crewBound, sheetAt, lower, upper, markBound, bound, weight, bestOf, chosen}
+use Rattle.search_rules.specs.Bounds.{apart, greatestOf, leastOf, noMark, sheetAt, lower, upper, markBound, bound, weight, bestOf, chosen}
 use Rattle.search_rules.specs.Facts.{WellFormed}
 use Rattle.search_rules.proofs.Turns.{greatest-take, least-first, least-take, best-first, best-take}
 use Rattle.search_rules.proofs.Equations.{greatest-none, aggregate-same, greatest-same, lower-is, upper-is, mark-bound-is, bound-is, weight-is, chosen-is}
@@ -24,9 +23,11 @@ use Rattle.search_bounds.proofs.Picking.{first-one, first-suc, first-be
 
 -- ---- LB and UB
 
-module _ (i : Instance) (rows : ℕ) (sheet : List ℕ) (s : Sheet i rows sheet) (l q : ℕ) (hl : l < i .tree .junctions) (hq : q < i .tree .junctions) where
+module _ (i : Instance) (rows : ℕ) (sheet : List ℕ) (s : Sheet i rows sheet) (l q : ℕ)
+    (hl : l < i .tree .junctions) (hq : q < i .tree .junctions) where
   -- row r's words are those of the root's landmark r
-  difference : (r : ℕ) → r < rows → apart (cell sheet r l) (cell sheet r q) ≡ apart (sheetAt i (getD (marks i 0) r noMark) l) (sheetAt i (getD (marks i 0) r noMark) q)
+  difference : (r : ℕ) → r < rows
+      → apart (cell sheet r l) (cell sheet r q) ≡ apart (sheetAt i (getD (marks i 0) r noMark) l) (sheetAt i (getD (marks i 0) r noMark) q)
   difference r h = rw (s .filled r l h hl, s .filled r q h hq) refl
 
   both : (r : ℕ) → r < rows → cell sheet r l + cell sheet r q ≡ sheetAt i (getD (marks i 0) r noMark) l + sheetAt i (getD (marks i 0) r noMark) q
@@ -41,11 +42,14 @@ module _ (i : Instance) (rows : ℕ) (sheet : List ℕ) (s : Sheet i rows sheet)
       omega (arith, lower-suc sheet l q r)
 
   pub lower-sheet : rowsLower sheet rows l q ≡ lower i l q
-  lower-sheet = lower-rows rows (omega arith) ∙ ap (greatestOf (λ m. apart (sheetAt i m l) (sheetAt i m q))) (take-all rows (marks i 0) (omega (arith, s .count))) ∙ sym (lower-is i l q)
+  lower-sheet =
+      lower-rows rows (omega arith)
+      ∙ ap (greatestOf (λ m. apart (sheetAt i m l) (sheetAt i m q))) (take-all rows (marks i 0) (omega (arith, s .count))) ∙ sym (lower-is i l q)
 
   upper-rows : (r : ℕ) → 0 < r → r ≤ rows → rowsUpper sheet r l q ≡ leastOf (λ m. sheetAt i m l + sheetAt i m q) (take r (marks i 0))
   upper-rows zero h k = absurd (omega arith)
-  upper-rows (suc zero) h k = upper-one sheet l q ∙ both 0 (omega arith) ∙ sym (least-first (λ m. sheetAt i m l + sheetAt i m q) (marks i 0) (omega (arith, s .count)))
+  upper-rows (suc zero) h k =
+      upper-one sheet l q ∙ both 0 (omega arith) ∙ sym (least-first (λ m. sheetAt i m l + sheetAt i m q) (marks i 0) (omega (arith, s .count)))
   upper-rows (suc (suc r)) h k =
       let e = upper-rows (suc r) (omega arith) (omega arith) in
       let d = both (suc r) (omega arith) in
@@ -53,7 +57,9 @@ module _ (i : Instance) (rows : ℕ) (sheet : List ℕ) (s : Sheet i rows sheet)
       omega (arith, upper-suc sheet l q (suc r) (omega arith))
 
   pub upper-sheet : rowsUpper sheet rows l q ≡ upper i l q
-  upper-sheet = upper-rows rows (omega (arith, s .limits .some)) (omega arith) ∙ ap (leastOf (λ m. sheetAt i m l + sheetAt i m q)) (take-all rows (marks i 0) (omega (arith, s .count))) ∙ sym (upper-is i l q)
+  upper-sheet =
+      upper-rows rows (omega (arith, s .limits .some)) (omega arith)
+      ∙ ap (leastOf (λ m. sheetAt i m l + sheetAt i m q)) (take-all rows (marks i 0) (omega (arith, s .count))) ∙ sym (upper-is i l q)
 
 -- ---- regions and leaves
 
@@ -72,13 +78,17 @@ module _ (i : Instance) (well : WellFormed i) (rows : ℕ) (sheet : List ℕ) (s
   -- a region's bound
   pub bound-sheet : (r : ℕ) → rowsBound sheet rows (i .code) (i .crews) (marks i r) ≡ bound i r
   unfolding rowsBound
-  bound-sheet r = aggregate-same (i .code) (rowsCrew sheet rows (marks i r)) (λ q. greatestOf (markBound i q) (marks i r)) (i .crews) (λ q c. crew-sheet r q c) ∙ sym (bound-is i r)
+  bound-sheet r =
+      aggregate-same (i .code) (rowsCrew sheet rows (marks i r)) (λ q. greatestOf (markBound i q) (marks i r)) (i .crews) (λ q c. crew-sheet r q c)
+      ∙ sym (bound-is i r)
 
   -- a landmark's sum of LB
   pub weight-sheet : (r : ℕ) (k : Mark) → Mem k (marks i r) → rowsWeight sheet rows (i .crews) (k .place) ≡ weight i k
   unfolding rowsWeight
   weight-sheet r k m =
-      aggregate-same 0 (rowsLower sheet rows (k .place)) (lower i (k .place)) (i .crews) (λ q c. lower-sheet i rows sheet s (k .place) q (well .shape .places r k m) (well .shape .crews q c)) ∙ sym (weight-is i k)
+      aggregate-same 0 (rowsLower sheet rows (k .place)) (lower i (k .place)) (i .crews)
+      (λ q c. lower-sheet i rows sheet s (k .place) q (well .shape .places r k m) (well .shape .crews q c))
+      ∙ sym (weight-is i k)
 
   module _ (r : ℕ) where
     numbered : (j : ℕ) → j < length (marks i r) → markWeight sheet rows (i .crews) (marks i r) j ≡ weight i (getD (marks i r) j noMark)
@@ -95,8 +105,9 @@ module _ (i : Instance) (well : WellFormed i) (rows : ℕ) (sheet : List ℕ) (s
         let e = chosen-rows (suc j) (omega arith) (omega arith) in
         let p = numbered (first (suc j)) (omega (arith, first-below (markWeight sheet rows (i .crews) (marks i r)) (suc j) (omega arith))) in
         let n = numbered (suc j) (omega arith) in
+        let later = ltb (weight i (getD (marks i r) (first (suc j)) noMark)) (weight i (getD (marks i r) (suc j) noMark)) in
         rw (first-suc (markWeight sheet rows (i .crews) (marks i r)) (suc j), p, n, best-take i (marks i r) (suc j) (omega arith) (omega arith), ← e)
-        (choose-map (λ (x : ℕ). getD (marks i r) x noMark) (ltb (weight i (getD (marks i r) (first (suc j)) noMark)) (weight i (getD (marks i r) (suc j) noMark))) (suc j) (first (suc j)))
+        (choose-map (λ (x : ℕ). getD (marks i r) x noMark) later (suc j) (first (suc j)))
 
     some : marks i r ≢ [] → 0 < length (marks i r)
     some n = positive (marks i r) n
@@ -108,7 +119,9 @@ module _ (i : Instance) (well : WellFormed i) (rows : ℕ) (sheet : List ℕ) (s
     -- the landmark that is picked
     pub chosen-sheet : marks i r ≢ [] → getD (marks i r) (rowsChosen sheet rows (i .crews) (marks i r)) noMark ≡ chosen i r
     unfolding rowsChosen
-    chosen-sheet n = chosen-rows (length (marks i r)) (some n) (omega arith) ∙ ap (bestOf i) (take-all (length (marks i r)) (marks i r) (omega arith)) ∙ sym (chosen-is i r)
+    chosen-sheet n =
+        chosen-rows (length (marks i r)) (some n) (omega arith) ∙ ap (bestOf i) (take-all (length (marks i r)) (marks i r) (omega arith))
+        ∙ sym (chosen-is i r)
 
     -- and its number
     pub chosen-below : marks i r ≢ [] → rowsChosen sheet rows (i .crews) (marks i r) < length (marks i r)

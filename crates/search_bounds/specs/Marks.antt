@@ -1,11 +1,10 @@
 -- A region's landmarks as they stand in a tree book's record. Assumes nothing: these are definitions.
 use mathlib.Core.List.{List, List·Memᴰ as Mem}
 use Prim.Native.Nat.{ℕ, _+_, _*_, _≤_, _<_}
-use lib.ListN.{length, getD}
+use lib.ListN.{length}
 use Rattle.book.specs.Bytes.{u8At, u16At}
 use Rattle.tree_layout.specs.Values.{Mark}
 use Rattle.tree_layout.specs.Decode.{markSize, sizeAt, readRegion, landmarkCount}
-use Rattle.search_rules.specs.Bounds.{noMark}
 use Rattle.search_bounds.specs.declared.Landmark.{Landmark}
 
 -- where landmark j of the record at a place stands

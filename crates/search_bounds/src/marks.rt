@@ -1,7 +1,7 @@
 // A region's landmarks, read from the tree book.
 use crate::Landmark;
 ghost use mathlib.Core.Path.{_≡_};
-ghost use Prim.Native.Nat.{ℕ, _+_, _*_, _≤_, _<_};
+ghost use Prim.Native.Nat.{_+_, _*_, _≤_, _<_};
 ghost use lib.ListN.{length, getD};
 ghost use Rattle.book.specs.Bytes.{u8At, u16At, u32At};
 ghost use Rattle.tree_layout.specs.Values.{leafMark, innerMark};

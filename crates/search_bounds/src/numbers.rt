@@ -1,6 +1,6 @@
 // The difference, the aggregate, the greater and the lesser of two numbers.
 ghost use mathlib.Core.Path.{_≡_};
-ghost use Prim.Native.Nat.{ℕ, _+_, _<_, min, max};
+ghost use Prim.Native.Nat.{_+_, _<_, min, max};
 ghost use Rattle.search_rules.specs.Bounds.{apart, combine};
 
 // The difference of two numbers.

@@ -4,7 +4,7 @@ use crate::numbers;
 use crate::rows;
 use tree_layout::Region;
 ghost use mathlib.Core.Path.{_≡_};
-ghost use Prim.Native.Nat.{ℕ, _<_};
+ghost use Prim.Native.Nat.{_<_};
 ghost use lib.ListN.{length};
 ghost use lib.Dec.{ltb};
 ghost use Rattle.book.specs.Choose.{choose};

@@ -5,7 +5,7 @@ use crate::numbers;
 use crate::rows;
 use tree_layout::Region;
 ghost use mathlib.Core.Path.{_≡_};
-ghost use Prim.Native.Nat.{ℕ, _<_};
+ghost use Prim.Native.Nat.{_<_};
 ghost use lib.ListN.{length};
 ghost use Rattle.tree_layout.specs.Values.{regionAt};
 ghost use Rattle.tree_layout.specs.Decode.{decode};

@@ -1,7 +1,7 @@
 // LB and UB by the sheet's rows, and a crew's bound.
 use crate::numbers;
 ghost use mathlib.Core.Path.{_≡_};
-ghost use Prim.Native.Nat.{ℕ, _+_, _-_, _<_};
+ghost use Prim.Native.Nat.{_+_, _-_, _<_};
 ghost use lib.ListN.{length};
 ghost use Rattle.search_rules.specs.Bounds.{apart, crewBound};
 ghost use Rattle.search_bounds.specs.Rows.{cell, rowsLower, rowsUpper, Rows};

@@ -28,7 +28,8 @@ module _ (sheet : List ℕ) (r : ℕ) (ds : List ℕ) where
   copied-suc n = refl
 
   -- a turn of the copy
-  pub copied-turn : (n at w : ℕ) (t : List ℕ) → t ≡ copied sheet r ds n → at ≡ r * 1024 → w ≡ getD ds n 0 → set t (at + n) w ≡ copied sheet r ds (n + 1)
+  pub copied-turn : (n at w : ℕ) (t : List ℕ) → t ≡ copied sheet r ds n → at ≡ r * 1024 → w ≡ getD ds n 0
+      → set t (at + n) w ≡ copied sheet r ds (n + 1)
   copied-turn n at w t e f g = rw (e, f, g, add-one n) (sym (copied-suc n))
 
   copied-length : (n : ℕ) → length (copied sheet r ds n) ≡ length sheet
@@ -55,7 +56,8 @@ module _ (sheet : List ℕ) (r : ℕ) (ds : List ℕ) where
   -- one that isn't
   copied-old : (n x : ℕ) → (x < r * 1024) ⊎ (r * 1024 + n ≤ x) → getD (copied sheet r ds n) x 0 ≡ getD sheet x 0
   copied-old zero x h = ap (λ (l : List ℕ). getD l x 0) copied-none
-  copied-old (suc n) x h = rw (copied-suc n) (getD-set-other (copied sheet r ds n) (r * 1024 + n) x (getD ds n 0) 0 (apart h) ∙ copied-old n x (less h))
+  copied-old (suc n) x h =
+      rw (copied-suc n) (getD-set-other (copied sheet r ds n) (r * 1024 + n) x (getD ds n 0) 0 (apart h) ∙ copied-old n x (less h))
     where
       apart : (x < r * 1024) ⊎ (r * 1024 + suc n ≤ x) → x ≢ r * 1024 + n
       apart (inl k) z = omega arith
@@ -106,10 +108,12 @@ module _ (road tree : List ℕ) (old : List ℕ) where
   rows-suc r = refl
 
   -- a turn
-  pub rows-turn : (r : ℕ) (t u : List ℕ) → t ≡ sheetRows road tree r old → u ≡ putRow t r (rootDistances road tree r) → u ≡ sheetRows road tree (r + 1) old
+  pub rows-turn : (r : ℕ) (t u : List ℕ) → t ≡ sheetRows road tree r old → u ≡ putRow t r (rootDistances road tree r)
+      → u ≡ sheetRows road tree (r + 1) old
   rows-turn r t u e f = f ∙ rw (e, add-one r) (sym (rows-suc r))
 
-  pub rows-end : (r m : ℕ) (t : List ℕ) → t ≡ sheetRows road tree r old → m ≡ u8At tree 11 → r ≤ m → m ≤ r → t ≡ sheetRows road tree (landmarkCount tree) old
+  pub rows-end : (r m : ℕ) (t : List ℕ) → t ≡ sheetRows road tree r old → m ≡ u8At tree 11 → r ≤ m → m ≤ r
+      → t ≡ sheetRows road tree (landmarkCount tree) old
   rows-end r m t e f h k = let z : r ≡ landmarkCount tree = omega (arith, landmark-count tree) in rw z at e
 
   pub rows-length : (n : ℕ) → length (sheetRows road tree n old) ≡ length old
@@ -120,7 +124,8 @@ module _ (road tree : List ℕ) (old : List ℕ) where
   rows-size n t e = ap length e ∙ rows-length n
 
   -- each of the first rows has its distances
-  pub rows-filled : length old ≡ 4096 → (n : ℕ) → n ≤ 4 → (r v : ℕ) → r < n → v < 1024 → cell (sheetRows road tree n old) r v ≡ getD (rootDistances road tree r) v 0
+  pub rows-filled : length old ≡ 4096 → (n : ℕ) → n ≤ 4 → (r v : ℕ) → r < n → v < 1024
+      → cell (sheetRows road tree n old) r v ≡ getD (rootDistances road tree r) v 0
   rows-filled room zero h r v k l = absurd (omega arith)
   rows-filled room (suc n) h r v k l = rw (rows-suc n) (go (ℕ-discrete r n) (λ m. rows-filled room n (omega arith) r v m l))
     where

@@ -1,7 +1,7 @@
 -- The filled rows are a search's sheet. Assumes nothing.
 use mathlib.Core.Path.{_≡_, refl, sym, ap, _∙_}
 use mathlib.Core.List.{List, List·Memᴰ as Mem}
-use Prim.Native.Nat.{ℕ, zero, suc, _+_, _*_, _≤_, _<_}
+use Prim.Native.Nat.{ℕ, _<_}
 use native.Mathlib.Omega.{arith}
 use lib.ListN.{length, getD}
 use Rattle.book.proofs.Lists.{getD-mem}
@@ -14,8 +14,8 @@ use Rattle.road.specs.Dijkstra.{width, distances, dist}
 use Rattle.road.proofs.Distances.{distances-length}
 use Rattle.road.proofs.Theorems.{net-sound}
 use Rattle.road.proofs.Reading.{dist-read}
-use Rattle.tree_layout.specs.Values.{Mark, regionAt}
-use Rattle.tree_layout.specs.Decode.{decode, junctionCount, landmarkCount}
+use Rattle.tree_layout.specs.Values.{Mark}
+use Rattle.tree_layout.specs.Decode.{junctionCount, landmarkCount}
 use Rattle.tree_layout.specs.Facts.{TreeLayout}
 use Rattle.tree_layout.proofs.Places.{place-first, decode-junctions}
 use Rattle.search_rules.specs.Instance.{Instance, marks}
@@ -44,12 +44,14 @@ module _ (road tree : List ℕ) (layout : TreeLayout tree) (counts : junctionCou
     roads = passing-layout road sound
 
     -- a row's words are the road book's distances
-    root-read : (r v : ℕ) → r < landmarkCount tree → v < 1024 → getD (rootDistances road tree r) v 0 ≡ dist road (getD (marksAt tree 12) r noMark .place) v
+    root-read : (r v : ℕ) → r < landmarkCount tree → v < 1024
+        → getD (rootDistances road tree r) v 0 ≡ dist road (getD (marksAt tree 12) r noMark .place) v
     unfolding rootDistances
     root-read r v h k =
         let l : ℕ = getD (marksAt tree 12) r noMark .place in
         let m : Mem (getD (marksAt tree 12) r noMark) (marksAt tree 12) = getD-mem (marksAt tree 12) r noMark (omega (arith, marks-count tree 12)) in
-        let n : length (distances (net road) (junctions road) l) ≡ width = distances-length (net road) (junctions road) (roads .few-junctions) (net-sound road roads) l (root-placed (getD (marksAt tree 12) r noMark) m) in
+        let n : length (distances (net road) (junctions road) l) ≡ width = distances-length (net road) (junctions road) (roads .few-junctions)
+        (net-sound road roads) l (root-placed (getD (marksAt tree 12) r noMark) m) in
         dist-read road (distances (net road) (junctions road) l) l v refl (omega arith)
 
     module _ (code wanted : ℕ) (crews : List ℕ) where
@@ -66,12 +68,20 @@ module _ (road tree : List ℕ) (layout : TreeLayout tree) (counts : junctionCou
       junctions-are = ap (λ (x : Instance). x .tree .junctions) (search-of road tree code wanted crews) ∙ decode-junctions tree
 
       -- "The sheet holds d from the root's landmarks r to every junction."
-      pub sheet-filled : (old sheet : List ℕ) → length old ≡ 4096 → sheet ≡ sheetRows road tree (landmarkCount tree) old → Sheet i (landmarkCount tree) sheet
+      pub sheet-filled : (old sheet : List ℕ) → length old ≡ 4096 → sheet ≡ sheetRows road tree (landmarkCount tree) old
+          → Sheet i (landmarkCount tree) sheet
       sheet-filled old sheet room e = record {
-        limits = record { room = ap length e ∙ rows-length road tree old (landmarkCount tree) ∙ room; some = layout .landmarks .0; few = layout .landmarks .1 };
+        limits = record {
+          room = ap length e ∙ rows-length road tree old (landmarkCount tree) ∙ room;
+          some = layout .landmarks .0;
+          few = layout .landmarks .1;
+        };
         count = sym (marks-count tree 12) ∙ ap length root-marks;
         filled = λ r v h k. rw e (words r v h (omega (arith, junctions-are, layout .junctions .1)));
       }
         where
-          words : (r v : ℕ) → r < landmarkCount tree → v < 1024 → cell (sheetRows road tree (landmarkCount tree) old) r v ≡ sheetAt i (getD (marks i 0) r noMark) v
-          words r v h k = rw (← root-marks) (rows-filled road tree old room (landmarkCount tree) (layout .landmarks .1) r v h k ∙ root-read r v h k ∙ distance-is (getD (marksAt tree 12) r noMark) v)
+          words : (r v : ℕ) → r < landmarkCount tree → v < 1024
+              → cell (sheetRows road tree (landmarkCount tree) old) r v ≡ sheetAt i (getD (marks i 0) r noMark) v
+          words r v h k =
+              let filled = rows-filled road tree old room (landmarkCount tree) (layout .landmarks .1) r v h k in
+              rw (← root-marks) (filled ∙ root-read r v h k ∙ distance-is (getD (marksAt tree 12) r noMark) v)

@@ -2,7 +2,7 @@
 use book::Junction;
 ghost use mathlib.Core.Path.{_≡_};
 ghost use mathlib.Core.List.{List·Memᴰ as Mem};
-ghost use Prim.Native.Nat.{ℕ, _<_};
+ghost use Prim.Native.Nat.{_<_};
 ghost use lib.ListN.{length};
 ghost use Rattle.road_layout.specs.Road.{junctions};
 ghost use Rattle.road.specs.Adjacency.{links, Adjacency};

@@ -1,13 +1,14 @@
 -- The fields of a landmark, and the first and last distance of a list as it is read. Assumes nothing.
-use mathlib.Core.Path.{_≡_, refl, _∙_}
+use mathlib.Core.Path.{_≡_, refl}
 use mathlib.Core.List.{List, [], _∷_}
 use Prim.Native.Nat.{ℕ, zero, suc, _+_, _*_}
 use native.Mathlib.Omega.{arith}
-use Rattle.book.specs.Bytes.{u16At, u32At}
-use Rattle.tree_layout.specs.Values.{Element, Mark, firstDistance, lastFrom, leafMark, innerMark}
+use Rattle.book.specs.Bytes.{u32At}
+use Rattle.tree_layout.specs.Values.{Element, firstDistance, lastFrom, leafMark, innerMark}
 use Rattle.tree_layout.specs.Decode.{elementAt, readList}
 
-pub leaf-is : (place : ℕ) (list : List Element) → leafMark place list ≡ record { place = place; least = firstDistance list; greatest = lastFrom 0 list; list = list }
+pub leaf-is : (place : ℕ) (list : List Element)
+    → leafMark place list ≡ record { place = place; least = firstDistance list; greatest = lastFrom 0 list; list = list }
 unfolding leafMark
 leaf-is place list = refl
 

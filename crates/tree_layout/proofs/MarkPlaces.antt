@@ -1,5 +1,5 @@
 -- Landmark j of a record, by the place where it stands. Assumes nothing.
-use mathlib.Core.Path.{_≡_, refl, sym, ap, _∙_}
+use mathlib.Core.Path.{_≡_, sym, ap, _∙_}
 use mathlib.Core.List.{List}
 use Prim.Native.Nat.{ℕ, zero, suc, _+_, _*_, _<_}
 use native.Mathlib.Nat.{suc-mul}
@@ -27,7 +27,8 @@ lists-at : (b : List ℕ) (yards n at j : ℕ) (d : Mark) → j < n → getD (re
 unfolding readLists
 lists-at b yards zero at j d h = absurd (omega arith)
 lists-at b yards (suc n) at zero d h = let e : at ≡ at + 0 * (2 + 6 * yards) = omega arith in ap (listMark b yards) e
-lists-at b yards (suc n) at (suc j) d h = lists-at b yards n (at + (2 + 6 * yards)) j d (omega arith) ∙ ap (listMark b yards) (further at j (2 + 6 * yards))
+lists-at b yards (suc n) at (suc j) d h =
+    lists-at b yards n (at + (2 + 6 * yards)) j d (omega arith) ∙ ap (listMark b yards) (further at j (2 + 6 * yards))
 
 spans-at : (b : List ℕ) (n at j : ℕ) (d : Mark) → j < n → getD (readSpans b n at) j d ≡ spanMark b (at + j * 10)
 unfolding readSpans

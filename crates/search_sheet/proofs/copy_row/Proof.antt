@@ -1,7 +1,6 @@
-use mathlib.Core.Path.{_≡_, refl, sym, ap, _∙_}
+use mathlib.Core.Path.{_≡_, refl, sym}
 use Prim.Native.Nat.{_-_, _≤_}
 use native.Mathlib.Omega.{arith}
-use lib.ListN.{length}
 use Rattle.search_sheet.specs.Filling.{copied}
 use Rattle.search_sheet.proofs.Copying.{copied-none, copied-turn, copied-size, copied-all}
 use borrow.Author.Needs.{needs}

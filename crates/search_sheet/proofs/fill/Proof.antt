@@ -29,7 +29,9 @@ loop-holds c = (omega arith, refl, refl, refl, sym (rows-none _ _ _))
 fill-row-requires : tie.Need-fill-row-requires Inv-loop μ-loop
 fill-row-requires c κs =
     let i = c .before .before .before .before .before .loop .inv in
-    let s = c .before .before .before .before .before .before .before .before .before .before .before .before .before .before .before .before .before .pre in (
+    let s =
+    c .before .before .before .before .before .before .before .before .before .before .before .before .before .before .before .before .before .pre
+    in (
       s .0,
       still-roomy _ _ _ _ _ _ (s .1) (i .1) (i .2) (i .3),
       rows-size _ _ _ _ _ (i .4) ∙ s .2,

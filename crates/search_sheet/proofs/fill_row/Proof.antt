@@ -1,4 +1,4 @@
-use mathlib.Core.Path.{_≡_, _∙_}
+use mathlib.Core.Path.{_∙_}
 use native.Mathlib.Omega.{arith}
 use Rattle.search_sheet.proofs.Rowing.{source-there, row-walked}
 use borrow.Author.Needs.{needs}
@@ -9,10 +9,15 @@ landmark-requires : tie.Need-landmark-requires
 landmark-requires c κs = search needs
 
 distances-requires : tie.Need-distances-requires
-distances-requires c κs = (c .before .before .before .before .before .before .before .before .before .before .before .before .before .before .pre .0, c .before .before .before .before .before .before .before .before .before .before .before .before .before .before .pre .1, source-there _ (c .before .before .before .before .before .before .before .before .before .before .before .before .before .before .pre .3) _ (c .before .before .before .before .before .before .before .before .before .before .before .before .before .before .pre .4) _ (c .before .before .before .landmark .ensures) _ (c .before .before .before .before .before .before .before .before .before .before .before .before .before .before .pre .5))
+distances-requires c κs =
+    let s = c .before .before .before .before .before .before .before .before .before .before .before .before .before .before in
+    (s .pre .0, s .pre .1, source-there _ (s .pre .3) _ (s .pre .4) _ (c .before .before .before .landmark .ensures) _ (s .pre .5))
 
 copy-row-requires : tie.Need-copy-row-requires
-copy-row-requires c κs = (c .before .before .before .before .before .before .before .before .distances .kept .1 .1 .1 .1 .1 .0 ∙ c .before .before .before .before .before .before .before .before .before .before .before .before .before .before .before .before .before .before .before .before .before .before .before .pre .1 .distances, c .before .before .before .before .before .before .before .before .before .before .before .before .before .before .before .before .before .before .before .before .before .before .before .pre .2, omega (arith, c .before .before .before .before .before .before .before .before .before .before .before .before .before .before .before .before .before .before .before .before .before .before .before .pre .3 .landmarks .1, c .before .before .before .before .before .before .before .before .before .before .before .before .before .before .before .before .before .before .before .before .before .before .before .pre .4))
+copy-row-requires c κs =
+    let w = c .before .before .before .before .before .before .before .before in
+    let s = w .before .before .before .before .before .before .before .before .before .before .before .before .before .before .before in
+    (w .distances .kept .1 .1 .1 .1 .1 .0 ∙ s .pre .1 .distances, s .pre .2, omega (arith, s .pre .3 .landmarks .1, s .pre .4))
 
 same-length : tie.Need-same-length
 same-length c = search needs
@@ -27,7 +32,11 @@ same-length-4 : tie.Need-same-length-4
 same-length-4 c = search needs
 
 returns : tie.Need-returns
-returns c = row-walked _ (c .before .before .before .before .before .before .before .before .before .before .before .before .before .before .before .before .before .before .before .before .before .before .before .before .before .before .pre .3) _ (c .before .before .before .before .before .before .before .before .before .before .before .before .before .before .before .before .before .before .before .before .before .before .before .before .before .before .pre .4) _ (c .before .before .before .before .before .before .before .before .before .before .before .before .before .before .before .landmark .ensures) _ _ _ _ (c .before .before .before .before .before .before .before .before .before .before .before .distances .ensures) (c .before .before .copy-row .ensures)
+returns c =
+    let w = c .before .before .before .before .before .before .before .before .before .before .before in
+    let k = w .before .before .before .before in
+    let s = k .before .before .before .before .before .before .before .before .before .before .before in
+    row-walked _ (s .pre .3) _ (s .pre .4) _ (k .landmark .ensures) _ _ _ _ (w .distances .ensures) (c .before .before .copy-row .ensures)
 
 pub fill-row-spec : {M : Type 1} → statement M
 fill-row-spec =

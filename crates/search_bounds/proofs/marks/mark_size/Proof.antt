@@ -1,4 +1,3 @@
-use native.Mathlib.Omega.{arith}
 use Rattle.search_bounds.proofs.Records.{size-inner, size-leaf}
 use borrow.Author.Needs.{needs}
 use Rattle.search_bounds.proofs.marks.mark_size.Statement.{statement}

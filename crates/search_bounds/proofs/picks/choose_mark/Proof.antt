@@ -15,10 +15,14 @@ shared-slice-read-at : tie.Need-shared-slice-read-at
 shared-slice-read-at c = search needs
 
 pick-at-requires : tie.Need-pick-at-requires
-pick-at-requires c κs = (record-of _ _ (c .before .before .before .before .before .before .pre .0) _ (c .before .before .before .before .before .before .pre .1) _ refl, c .before .before .before .before .before .before .pre .2, c .before .before .before .before .before .before .pre .3)
+pick-at-requires c κs =
+    let s = c .before .before .before .before .before .before in
+    (record-of _ _ (s .pre .0) _ (s .pre .1) _ refl, s .pre .2, s .pre .3)
 
 returns : tie.Need-returns
-returns c = chosen-moved _ _ _ _ _ _ (marks-of _ _ (c .before .before .before .before .before .before .before .pre .0) _ (c .before .before .before .before .before .before .before .pre .1) _ refl) (c .pick-at .ensures)
+returns c =
+    let s = c .before .before .before .before .before .before .before in
+    chosen-moved _ _ _ _ _ _ (marks-of _ _ (s .pre .0) _ (s .pre .1) _ refl) (c .pick-at .ensures)
 
 pub choose-mark-spec : {M : Type 1} → statement M
 choose-mark-spec =

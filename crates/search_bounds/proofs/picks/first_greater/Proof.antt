@@ -1,5 +1,4 @@
 use Rattle.search_bounds.proofs.Picking.{pick-later, pick-earlier}
-use borrow.Author.Needs.{needs}
 use Rattle.search_bounds.proofs.picks.first_greater.Statement.{statement}
 use Rattle.search_bounds.proofs.picks.first_greater.Tie as tie
 

@@ -7,10 +7,14 @@ landmark-requires : tie.Need-landmark-requires
 landmark-requires c κs = search needs
 
 weight-requires : tie.Need-weight-requires
-weight-requires c κs = (c .before .before .before .before .pre .2, c .before .before .before .before .pre .3, place-there _ _ (c .before .before .before .before .pre .0) _ (c .before .before .before .before .pre .1) _ (c .landmark .ensures))
+weight-requires c κs =
+    let s = c .before .before .before .before in
+    (s .pre .2, s .pre .3, place-there _ _ (s .pre .0) _ (s .pre .1) _ (c .landmark .ensures))
 
 returns : tie.Need-returns
-returns c = weight-read _ _ _ _ _ _ _ (place-read _ _ (c .before .before .before .before .before .pre .0) _ (c .before .before .before .before .before .pre .1) _ (c .before .landmark .ensures)) (c .weight .ensures)
+returns c =
+    let s = c .before .before .before .before .before in
+    weight-read _ _ _ _ _ _ _ (place-read _ _ (s .pre .0) _ (s .pre .1) _ (c .before .landmark .ensures)) (c .weight .ensures)
 
 pub mark-weight-spec : {M : Type 1} → statement M
 mark-weight-spec = tie.close (tie.spec landmark-requires weight-requires returns)

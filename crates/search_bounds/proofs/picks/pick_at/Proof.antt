@@ -22,13 +22,19 @@ cast-m : tie.Need-cast-m Inv-loop μ-loop
 cast-m c = search needs
 
 mark-weight-requires : tie.Need-mark-weight-requires Inv-loop μ-loop
-mark-weight-requires c κs = (c .before .before .before .before .pre .0, omega (arith, c .before .before .before .before .pre .0 .landmarks .0), c .before .before .before .before .pre .1, c .before .before .before .before .pre .2)
+mark-weight-requires c κs =
+    let s = c .before .before .before .before in
+    (s .pre .0, omega (arith, s .pre .0 .landmarks .0), s .pre .1, s .pre .2)
 
 loop-holds : tie.Need-loop-holds Inv-loop μ-loop
-loop-holds c = picked-first _ _ (omega (arith, count-read _ _ (c .before .before .before .before .before .pre .0) _ (c .before .u8-at .ensures), c .before .before .before .before .before .pre .0 .landmarks .0)) _ (c .mark-weight .ensures)
+loop-holds c =
+    let s = c .before .before .before .before .before in
+    picked-first _ _ (omega (arith, count-read _ _ (s .pre .0) _ (c .before .u8-at .ensures), s .pre .0 .landmarks .0)) _ (c .mark-weight .ensures)
 
 mark-weight-requires-2 : tie.Need-mark-weight-requires-2 Inv-loop μ-loop
-mark-weight-requires-2 c κs = (c .before .before .before .before .before .before .before .pre .0, omega (arith, count-read _ _ (c .before .before .before .before .before .before .before .pre .0) _ (c .before .before .before .u8-at .ensures)), c .before .before .before .before .before .before .before .pre .1, c .before .before .before .before .before .before .before .pre .2)
+mark-weight-requires-2 c κs =
+    let s = c .before .before .before .before .before .before .before in
+    (s .pre .0, omega (arith, count-read _ _ (s .pre .0) _ (c .before .before .before .u8-at .ensures)), s .pre .1, s .pre .2)
 
 first-greater-requires : tie.Need-first-greater-requires Inv-loop μ-loop
 first-greater-requires c κs = search needs
@@ -43,10 +49,15 @@ loop-less : tie.Need-loop-less Inv-loop μ-loop
 loop-less c = search needs
 
 loop-again : tie.Need-loop-again Inv-loop μ-loop
-loop-again c = picked-turn _ _ _ _ _ _ _ _ (c .before .before .before .before .loop .inv) (c .before .before .before .loop-test .taken) (c .before .before .mark-weight2 .ensures) (c .before .first-greater .ensures) (c .greater64 .ensures)
+loop-again c =
+    picked-turn _ _ _ _ _ _ _ _ (c .before .before .before .before .loop .inv) (c .before .before .before .loop-test .taken)
+    (c .before .before .mark-weight2 .ensures) (c .before .first-greater .ensures) (c .greater64 .ensures)
 
 returns : tie.Need-returns Inv-loop μ-loop
-returns c = chosen-made _ _ _ _ _ _ (count-marks _ _ (c .before .before .before .before .before .before .before .pre .0) _ (c .before .before .before .u8-at .ensures)) (picked-all _ _ _ _ _ (c .before .loop .inv) (c .loop-test .left))
+returns c =
+    let s = c .before .before .before .before .before .before .before in
+    chosen-made _ _ _ _ _ _ (count-marks _ _ (s .pre .0) _ (c .before .before .before .u8-at .ensures))
+    (picked-all _ _ _ _ _ (c .before .loop .inv) (c .loop-test .left))
 
 pub pick-at-spec : {M : Type 1} → statement M
 pick-at-spec =

@@ -25,10 +25,15 @@ loop-holds : tie.Need-loop-holds Inv-loop μ-loop
 loop-holds c = greatest-start _ _
 
 landmark-requires : tie.Need-landmark-requires Inv-loop μ-loop
-landmark-requires c κs = (c .before .before .before .before .before .pre .0, omega (arith, count-read _ _ (c .before .before .before .before .before .pre .0) _ (c .before .before .u8-at .ensures)))
+landmark-requires c κs =
+    let s = c .before .before .before .before .before in
+    (s .pre .0, omega (arith, count-read _ _ (s .pre .0) _ (c .before .before .u8-at .ensures)))
 
 mark-bound-requires : tie.Need-mark-bound-requires Inv-loop μ-loop
-mark-bound-requires c κs = (c .before .before .before .before .before .before .pre .1, place-there _ _ (c .before .before .before .before .before .before .pre .0) _ (omega (arith, count-read _ _ (c .before .before .before .before .before .before .pre .0) _ (c .before .before .before .u8-at .ensures))) _ (c .landmark .ensures), c .before .before .before .before .before .before .pre .2)
+mark-bound-requires c κs =
+    let w = c .before .before .before in
+    let s = w .before .before .before in
+    (s .pre .1, place-there _ _ (s .pre .0) _ (omega (arith, count-read _ _ (s .pre .0) _ (w .u8-at .ensures))) _ (c .landmark .ensures), s .pre .2)
 
 greater-requires : tie.Need-greater-requires Inv-loop μ-loop
 greater-requires c κs = search needs
@@ -40,10 +45,17 @@ loop-less : tie.Need-loop-less Inv-loop μ-loop
 loop-less c = search needs
 
 loop-again : tie.Need-loop-again Inv-loop μ-loop
-loop-again c = greatest-turn _ _ _ _ (c .before .before .before .before .loop .inv) (omega (arith, count-marks _ _ (c .before .before .before .before .before .before .before .before .pre .0) _ (c .before .before .before .before .before .u8-at .ensures))) _ _ (mark-read _ _ _ _ _ _ (c .before .before .landmark .ensures) (c .before .mark-bound .ensures)) (c .greater .ensures)
+loop-again c =
+    let s = c .before .before .before .before .before .before .before .before in
+    greatest-turn _ _ _ _ (c .before .before .before .before .loop .inv)
+    (omega (arith, count-marks _ _ (s .pre .0) _ (c .before .before .before .before .before .u8-at .ensures))) _ _
+    (mark-read _ _ _ _ _ _ (c .before .before .landmark .ensures) (c .before .mark-bound .ensures)) (c .greater .ensures)
 
 returns : tie.Need-returns Inv-loop μ-loop
-returns c = crew-made _ _ _ _ _ (greatest-all _ _ _ _ (c .before .loop .inv) (omega (arith, count-marks _ _ (c .before .before .before .before .before .pre .0) _ (c .before .before .u8-at .ensures))))
+returns c =
+    let s = c .before .before .before .before .before in
+    crew-made _ _ _ _ _
+    (greatest-all _ _ _ _ (c .before .loop .inv) (omega (arith, count-marks _ _ (s .pre .0) _ (c .before .before .u8-at .ensures))))
 
 pub crew-region-spec : {M : Type 1} → statement M
 crew-region-spec =

@@ -15,10 +15,14 @@ shared-slice-read-at : tie.Need-shared-slice-read-at
 shared-slice-read-at c = search needs
 
 record-bound-requires : tie.Need-record-bound-requires
-record-bound-requires c κs = (record-of _ _ (c .before .before .before .before .before .before .pre .0) _ (c .before .before .before .before .before .before .pre .1) _ refl, c .before .before .before .before .before .before .pre .2, c .before .before .before .before .before .before .pre .3)
+record-bound-requires c κs =
+    let s = c .before .before .before .before .before .before in
+    (record-of _ _ (s .pre .0) _ (s .pre .1) _ refl, s .pre .2, s .pre .3)
 
 returns : tie.Need-returns
-returns c = bound-moved _ _ _ _ _ _ _ (marks-of _ _ (c .before .before .before .before .before .before .before .pre .0) _ (c .before .before .before .before .before .before .before .pre .1) _ refl) (c .record-bound .ensures)
+returns c =
+    let s = c .before .before .before .before .before .before .before in
+    bound-moved _ _ _ _ _ _ _ (marks-of _ _ (s .pre .0) _ (s .pre .1) _ refl) (c .record-bound .ensures)
 
 pub region-bound-spec : {M : Type 1} → statement M
 region-bound-spec =
