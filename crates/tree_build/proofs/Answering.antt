@@ -42,7 +42,8 @@ module _ (m limit : ℕ) where
     module _ (b : m ≤ 4) where
       pub low-limit : limit < 1 → 11 ≡ rangeRefusal m limit
       unfolding rangeRefusal
-      low-limit h = sym (passes-if (leb 1 m) 11 _ (le-leb 1 m a) ∙ passes-if (leb m 4) 11 _ (le-leb m 4 b) ∙ fails-if (leb 1 limit) 11 _ (lt-leb 1 limit h))
+      low-limit h =
+          sym (passes-if (leb 1 m) 11 _ (le-leb 1 m a) ∙ passes-if (leb m 4) 11 _ (le-leb m 4 b) ∙ fails-if (leb 1 limit) 11 _ (lt-leb 1 limit h))
 
       module _ (c : 1 ≤ limit) where
         last : rangeRefusal m limit ≡ refuse (leb limit 256) 11 0
@@ -108,13 +109,15 @@ module _ (road yard : List ℕ) (m limit words room : ℕ) where
     area-tests e = call-tests ∙ first-later _ _ e
 
   pub facts-accepted : Accepted road yard m limit words room → buildAnswer road yard m limit words room ≡ 0
-  facts-accepted a = area-tests (a .roads) (a .yards) (facts-range m limit (a .range)) ∙ sym (long-enough words room (a .areas .work) (a .areas .tree))
+  facts-accepted a =
+      area-tests (a .roads) (a .yards) (facts-range m limit (a .range)) ∙ sym (long-enough words room (a .areas .work) (a .areas .tree))
 
   pub road-turned : 1 ≤ roadRefusal road → buildAnswer road yard m limit words room ≡ roadRefusal road
   unfolding buildAnswer
   road-turned h = first-earlier (roadRefusal road) _ h
 
-  pub yard-turned : roadRefusal road ≡ 0 → 1 ≤ yardRefusalIn yard (junctions road) → buildAnswer road yard m limit words room ≡ yardRefusalIn yard (junctions road)
+  pub yard-turned : roadRefusal road ≡ 0 → 1 ≤ yardRefusalIn yard (junctions road)
+      → buildAnswer road yard m limit words room ≡ yardRefusalIn yard (junctions road)
   unfolding buildAnswer
   yard-turned e h = first-later _ _ e ∙ first-earlier (yardRefusalIn yard (junctions road)) _ h
 
@@ -197,13 +200,16 @@ module _ (road yard : List ℕ) (m limit : ℕ) (work tree : List ℕ) (why : �
     unfolding builtLength
     taken-length n q = q ∙ sym (choose-yes (eqb answer 0) (length (encode (builtTree road yard m limit))) 0 (eq→eqb answer 0 taken))
 
-    pub taken-work : (after : List ℕ) → after ≡ zeroed workWords work → after ≡ workAfter (buildAnswer road yard m limit (length work) (length tree)) work
+    pub taken-work : (after : List ℕ) → after ≡ zeroed workWords work
+        → after ≡ workAfter (buildAnswer road yard m limit (length work) (length tree)) work
     taken-work after q = q ∙ sym (accepted-zeroed answer work taken)
 
-    pub taken-tree : (after : List ℕ) → after ≡ write tree 0 (encode (builtTree road yard m limit)) → after ≡ treeAfter road yard m limit (length work) tree
+    pub taken-tree : (after : List ℕ) → after ≡ write tree 0 (encode (builtTree road yard m limit))
+        → after ≡ treeAfter road yard m limit (length work) tree
     unfolding treeAfter
     taken-tree after q = q ∙ sym (choose-yes (eqb answer 0) (write tree 0 (encode (builtTree road yard m limit))) tree (eq→eqb answer 0 taken))
 
 -- a call is accepted whatever work area beyond the least it has
 pub other-work : (road yard : List ℕ) (m limit words room : ℕ) → Accepted road yard m limit words room → Accepted road yard m limit workWords room
-other-work road yard m limit words room a = record { roads = a .roads; yards = a .yards; range = a .range; areas = record { work = omega arith; tree = a .areas .tree } }
+other-work road yard m limit words room a =
+    record { roads = a .roads; yards = a .yards; range = a .range; areas = record { work = omega arith; tree = a .areas .tree } }

@@ -29,7 +29,17 @@ header-length count j r y m =
     let three = u16Bytes y ++ four in
     let two = u16Bytes r ++ three in
     let one = u16Bytes j ++ two in
-    omega (arith, length-append (u32Bytes count) (1 ∷ one), length-append (u16Bytes j) two, length-append (u16Bytes r) three, length-append (u16Bytes y) four, u32-length count, u16-length j, u16-length r, u16-length y)
+    omega (
+      arith,
+      length-append (u32Bytes count) (1 ∷ one),
+      length-append (u16Bytes j) two,
+      length-append (u16Bytes r) three,
+      length-append (u16Bytes y) four,
+      u32-length count,
+      u16-length j,
+      u16-length r,
+      u16-length y,
+    )
 
 -- the six fields
 pub header-written : (tree one two three four five out : List ℕ) (count j r y m : ℕ)
@@ -56,7 +66,8 @@ header-written tree one two three four five out count j r y m e1 e2 e3 e4 e5 e6 
 
 -- ---- what was written from place n on, and then n bytes before it
 
-pub write-before : (hs xs tree : List ℕ) (n : ℕ) → length hs ≡ n → n + length xs ≤ length tree → write (write tree n xs) 0 hs ≡ write tree 0 (hs ++ xs)
+pub write-before : (hs xs tree : List ℕ) (n : ℕ) → length hs ≡ n → n + length xs ≤ length tree
+    → write (write tree n xs) 0 hs ≡ write tree 0 (hs ++ xs)
 write-before hs xs tree n h fits =
     let rest = drop (n + length xs) tree in
     let inner : write tree n xs ≡ take n tree ++ (xs ++ rest) = write-is xs tree n fits ∙ append-assoc (take n tree) xs (drop (n + length xs) tree) in

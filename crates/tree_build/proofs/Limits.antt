@@ -78,11 +78,20 @@ module _ (road yard : List ℕ) (m limit words room : ℕ) (acc : Accepted road 
 
   -- all yards are in the range of all junctions, whose regions are the tree's
   all-yards : within 0 (0 + junctions road) (yardsOf yard) ≡ yardsOf yard
-  all-yards = within-all 0 (0 + junctions road) (yardsOf yard) (λ y k. let x = mem-getD (yardsOf yard) 0 y k in (omega arith, omega (arith, x .2, yards-inside yard (junctions road) (acc .yards) (x .0) (x .1))))
+  all-yards =
+      within-all 0 (0 + junctions road) (yardsOf yard) (λ y k. let x = mem-getD (yardsOf yard) 0 y k in (
+        omega arith,
+        omega (
+          arith,
+          x .2,
+          yards-inside yard (junctions road) (acc .yards) (x .0) (x .1),
+        ),
+      ))
 
   pub its-regions : rangeRegions road yard m limit 5 0 (junctions road) ≡ builtTree road yard m limit .regions
   unfolding builtTree
-  its-regions = range-cut road yard m limit 5 0 (junctions road) ∙ (rw all-yards refl ∙ sym (tree-regions (given road m limit) (junctions road) (yardsOf yard)))
+  its-regions =
+      range-cut road yard m limit 5 0 (junctions road) ∙ (rw all-yards refl ∙ sym (tree-regions (given road m limit) (junctions road) (yardsOf yard)))
 
   pub short : length (encode (builtTree road yard m limit)) ≤ treeBytes
   unfolding builtTree

@@ -21,16 +21,20 @@ use Rattle.tree_build.proofs.Heading.{header-length, write-before}
 use Rattle.tree_build.proofs.Limits.{few-junctions, some-junction, its-junctions, its-yards, its-landmarks, its-regions, its-length, short, few-regions, regions-fit}
 
 -- a tree's book is its header, then its regions
-header-then : (count j r y m : ℕ) (rest : List ℕ) → u32Bytes count ++ (1 ∷ (u16Bytes j ++ (u16Bytes r ++ (u16Bytes y ++ (m ∷ rest))))) ≡ treeHeader count j r y m ++ rest
+header-then : (count j r y m : ℕ) (rest : List ℕ)
+    → u32Bytes count ++ (1 ∷ (u16Bytes j ++ (u16Bytes r ++ (u16Bytes y ++ (m ∷ rest))))) ≡ treeHeader count j r y m ++ rest
 unfolding treeHeader
 header-then count j r y m rest = sym (simp append-assoc)
 
-book-is : (t : Tree) → encode t ≡ treeHeader (length (encode t) - 4) (t .junctions) (length (t .regions)) (t .yards) (t .landmarks) ++ encodeRegions (t .regions)
+book-is : (t : Tree) → encode t ≡ treeHeader (length (encode t) - 4) (t .junctions) (length (t .regions)) (t .yards) (t .landmarks)
+    ++ encodeRegions (t .regions)
 book-is t =
     let e : length (encodeBody t) ≡ length (encode t) - 4 = omega (arith, body-length t, encode-length t) in
-    encode-is t ∙ header-then (length (encodeBody t)) (t .junctions) (length (t .regions)) (t .yards) (t .landmarks) (encodeRegions (t .regions)) ∙ rw e refl
+    encode-is t ∙ header-then (length (encodeBody t)) (t .junctions) (length (t .regions)) (t .yards) (t .landmarks) (encodeRegions (t .regions))
+    ∙ rw e refl
 
-module _ (road yard : List ℕ) (m limit words : ℕ) (tree : List ℕ) (acc : Accepted road yard m limit words (length tree)) (n : ℕ) (en : n ≡ u16At road 5) where
+module _ (road yard : List ℕ) (m limit words : ℕ) (tree : List ℕ) (acc : Accepted road yard m limit words (length tree)) (n : ℕ)
+    (en : n ≡ u16At road 5) where
   abbrev t : Tree
   t = builtTree road yard m limit
 
@@ -69,14 +73,21 @@ module _ (road yard : List ℕ) (m limit words : ℕ) (tree : List ℕ) (acc : A
     pub header-room : (l : ℕ) → l ≡ length tree → 12 ≤ l
     header-room l e = omega (arith, acc .areas .tree)
 
-    pub book-done : (out : List ℕ) (y : ℕ) → y ≡ u16At yard 5 → out ≡ write mid 0 (treeHeader (p - 4) n c y m) → out ≡ write tree 0 (encode (builtTree road yard m limit))
+    pub book-done : (out : List ℕ) (y : ℕ) → y ≡ u16At yard 5 → out ≡ write mid 0 (treeHeader (p - 4) n c y m)
+        → out ≡ write tree 0 (encode (builtTree road yard m limit))
     book-done out y ey e =
         let rs = encodeRegions (builtTree road yard m limit .regions) in
         let header = treeHeader (p - 4) n c y m in
         let bytes : mid ≡ write tree 12 rs = w .bytes ∙ rw regions-are refl in
-        let fits : 12 + length rs ≤ length tree = omega (arith, its-length road yard m limit words (length tree) acc, short road yard m limit words (length tree) acc, acc .areas .tree) in
+        let fits : 12 + length rs ≤ length tree = omega (
+          arith,
+          its-length road yard m limit words (length tree) acc,
+          short road yard m limit words (length tree) acc,
+          acc .areas .tree,
+        ) in
         let j : t .junctions ≡ n = its-junctions road yard m limit words (length tree) acc ∙ sym n-is in
         let z : t .yards ≡ y = its-yards road yard m limit words (length tree) acc ∙ sym (ey ∙ read-count yard) in
         let k : t .landmarks ≡ m = its-landmarks road yard m limit words (length tree) acc in
         let same : encode t ≡ header ++ rs = book-is t ∙ rw (← end-is, ← count-is, j, z, k) refl in
-        e ∙ (ap (λ (l : List ℕ). write l 0 header) bytes ∙ (write-before header rs tree 12 (header-length (p - 4) n c y m) fits ∙ ap (write tree 0) (sym same)))
+        e ∙ (ap (λ (l : List ℕ). write l 0 header) bytes ∙ (write-before header rs tree 12 (header-length (p - 4) n c y m) fits ∙ ap (write tree 0)
+        (sym same)))

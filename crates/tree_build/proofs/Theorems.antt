@@ -127,10 +127,12 @@ module _ (road yard : List ℕ) (m limit : ℕ) (work tree : List ℕ) where
     t = builtTree road yard m limit
 
     length-is : builtLength road yard m limit (length work) (length tree) ≡ length (encode (builtTree road yard m limit))
-    length-is = sym (taken-length road yard m limit work tree (buildAnswer road yard m limit (length work) (length tree)) refl z (length (encode t)) refl)
+    length-is =
+        sym (taken-length road yard m limit work tree (buildAnswer road yard m limit (length work) (length tree)) refl z (length (encode t)) refl)
 
     tree-is : treeAfter road yard m limit (length work) tree ≡ write tree 0 (encode (builtTree road yard m limit))
-    tree-is = sym (taken-tree road yard m limit work tree (buildAnswer road yard m limit (length work) (length tree)) refl z (write tree 0 (encode t)) refl)
+    tree-is =
+        sym (taken-tree road yard m limit work tree (buildAnswer road yard m limit (length work) (length tree)) refl z (write tree 0 (encode t)) refl)
 
     fits : length (encode (builtTree road yard m limit)) ≤ length tree
     fits = omega (arith, short road yard m limit (length work) (length tree) acc, acc .areas .tree)
@@ -155,10 +157,12 @@ module _ (road yard : List ℕ) (m limit : ℕ) (work tree : List ℕ) where
     numbers-true = rw (back, ← given-d road m limit) (built-tree road yard m limit (length work) (length tree) acc .true-tree)
 
     counts : junctionCount (encode (builtTree road yard m limit)) ≡ junctions road
-    counts = sym (decode-junctions (encode t)) ∙ (ap (λ (x : Tree). x .junctions) back ∙ its-junctions road yard m limit (length work) (length tree) acc)
+    counts =
+        sym (decode-junctions (encode t)) ∙ (ap (λ (x : Tree). x .junctions) back ∙ its-junctions road yard m limit (length work) (length tree) acc)
 
     passes : (words : ℕ) → workWords ≤ words → checkAnswer road yard (encode (builtTree road yard m limit)) words ≡ 0
-    passes words h = true-passes road yard (encode t) words (record { roads = acc .roads; yards = acc .yards; shape = shape; counts = counts; full = h }) yards-same numbers-true
+    passes words h =
+        true-passes road yard (encode t) words (record { roads = acc .roads; yards = acc .yards; shape = shape; counts = counts; full = h }) yards-same numbers-true
 
     bytes : Bytes (encode (builtTree road yard m limit))
     unfolding builtTree

@@ -50,7 +50,8 @@ builtLength road yard m limit words room = choose (eqb (buildAnswer road yard m 
 
 -- the tree area after a build: the tree's book at its start, and "Bytes after a built tree stay."; a refusal "changes no lent byte or word"
 unfoldable pub treeAfter : (road yard : List ℕ) (m limit words : ℕ) (tree : List ℕ) → List ℕ
-treeAfter road yard m limit words tree = choose (eqb (buildAnswer road yard m limit words (length tree)) 0) (write tree 0 (encode (builtTree road yard m limit))) tree
+treeAfter road yard m limit words tree =
+    choose (eqb (buildAnswer road yard m limit words (length tree)) 0) (write tree 0 (encode (builtTree road yard m limit))) tree
 
 -- a tree book's header: "a 4-byte count of the bytes after it, a version byte (1)", "junctions u16 .., regions u16 .., yards u16 .., landmarks per region m u8"
 unfoldable pub treeHeader : (count junctions regions yards m : ℕ) → List ℕ

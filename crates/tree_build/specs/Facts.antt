@@ -42,10 +42,13 @@ pub record Refusals (road yard : List ℕ) (m limit words room : ℕ) : Type 0 w
   -- the road book's own first
   pub road-first : roadRefusal road ≢ 0 → buildAnswer road yard m limit words room ≡ roadRefusal road
   -- then the yard book's
-  pub yard-next : roadRefusal road ≡ 0 → yardRefusalIn yard (junctions road) ≢ 0 → buildAnswer road yard m limit words room ≡ yardRefusalIn yard (junctions road)
+  pub yard-next : roadRefusal road ≡ 0 → yardRefusalIn yard (junctions road) ≢ 0
+      → buildAnswer road yard m limit words room ≡ yardRefusalIn yard (junctions road)
   -- 11, then 12, of two sound books
-  pub eleven : roadRefusal road ≡ 0 → yardRefusalIn yard (junctions road) ≡ 0 → (buildAnswer road yard m limit words room ≡ 11) ↔ (InRange m limit → ⊥)
-  pub twelve : roadRefusal road ≡ 0 → yardRefusalIn yard (junctions road) ≡ 0 → InRange m limit → (buildAnswer road yard m limit words room ≡ 12) ↔ (Areas words room → ⊥)
+  pub eleven : roadRefusal road ≡ 0 → yardRefusalIn yard (junctions road) ≡ 0
+      → (buildAnswer road yard m limit words room ≡ 11) ↔ (InRange m limit → ⊥)
+  pub twelve : roadRefusal road ≡ 0 → yardRefusalIn yard (junctions road) ≡ 0 → InRange m limit
+      → (buildAnswer road yard m limit words room ≡ 12) ↔ (Areas words room → ⊥)
   -- and no other call is turned back
   pub none : (buildAnswer road yard m limit words room ≡ 0) ↔ Accepted road yard m limit words room
 
@@ -73,7 +76,8 @@ pub record Writes (road yard : List ℕ) (m limit : ℕ) (work tree : List ℕ) 
   pub sized : length (writtenBook road yard m limit (length work) tree) ≡ builtLength road yard m limit (length work) (length tree)
   pub short : builtLength road yard m limit (length work) (length tree) ≤ treeBytes
   -- "Bytes after a built tree stay."
-  pub rest : drop (builtLength road yard m limit (length work) (length tree)) (treeAfter road yard m limit (length work) tree) ≡ drop (builtLength road yard m limit (length work) (length tree)) tree
+  pub rest : drop (builtLength road yard m limit (length work) (length tree)) (treeAfter road yard m limit (length work) tree)
+      ≡ drop (builtLength road yard m limit (length work) (length tree)) tree
   -- at most 511 regions, and six levels
   pub few : length (builtTree road yard m limit .regions) ≤ 511
   pub six : Preorder (builtTree road yard m limit .regions) 6 0 (0 ∷ []) (length (builtTree road yard m limit .regions))

@@ -30,11 +30,18 @@ no-parts : (a s : ℕ) (ys : List ℕ) → Rising ys → (n i : ℕ) → n + i �
 no-parts a s ys r zero i e z = ap length (within-none (cutAt a s i) (a + s) ys (λ y k p q. omega (arith, cut-last a s i (omega arith))))
 no-parts a s ys r (suc n) i e z = go (ℕ-discrete (length (part a s ys i)) 0) (λ x. no-parts a s ys r n (suc i) (omega arith) x)
   where
-    go : Dec (length (part a s ys i) ≡ 0) → (partCount a s ys n (suc i) ≡ 0 → length (within (cutAt a s (suc i)) (a + s) ys) ≡ 0) → length (within (cutAt a s i) (a + s) ys) ≡ 0
+    go : Dec (length (part a s ys i) ≡ 0) → (partCount a s ys n (suc i) ≡ 0 → length (within (cutAt a s (suc i)) (a + s) ys) ≡ 0)
+        → length (within (cutAt a s i) (a + s) ys) ≡ 0
     go (yes p) rec =
         let rest = rec (sym (count-drop (λ x y l. []) a s ys n i p) ∙ z) in
         let split = within-split (cutAt a s i) (cutAt a s (suc i)) (a + s) (cut-rise a s i) (cut-top a s (suc i) n (omega arith)) ys r in
-        omega (arith, ap length split, length-append (within (cutAt a s i) (cutAt a s (suc i)) ys) (within (cutAt a s (suc i)) (a + s) ys), ap length (part-is a s ys i), rest)
+        omega (
+          arith,
+          ap length split,
+          length-append (within (cutAt a s i) (cutAt a s (suc i)) ys) (within (cutAt a s (suc i)) (a + s) ys),
+          ap length (part-is a s ys i),
+          rest,
+        )
     go (no p) rec = absurd (omega (arith, count-keep (λ x y l. []) a s ys n i (omega arith)))
 
 module _ (b yb : List ℕ) (m limit a s : ℕ) where
@@ -74,10 +81,13 @@ module _ (b yb : List ℕ) (m limit a s : ℕ) where
       some-level e = T-not (eqb levels 0 || leb (length ys) limit) (false-T t) (or-left (eqb levels 0) (leb (length ys) limit) (eq→eqb levels 0 e))
 
       pub many-yards : limit < length ys
-      many-yards = nleb→lt (length ys) limit (not-T (leb (length ys) limit) (λ x. T-not (eqb levels 0 || leb (length ys) limit) (false-T t) (or-right (eqb levels 0) (leb (length ys) limit) x)))
+      many-yards =
+          nleb→lt (length ys) limit (not-T (leb (length ys) limit) (λ x. T-not (eqb levels 0 || leb (length ys) limit) (false-T t)
+          (or-right (eqb levels 0) (leb (length ys) limit) x)))
 
       -- the parent, if it stays, then the parts
-      pub regions-cut : rangeRegions b yb m limit levels a s ≡ ownRegions b m limit a s (partCount a s ys 4 0) ys ++ partsFrom b yb m limit (levels - 1) a s 0
+      pub regions-cut : rangeRegions b yb m limit levels a s ≡ ownRegions b m limit a s (partCount a s ys 4 0) ys
+          ++ partsFrom b yb m limit (levels - 1) a s 0
       unfolding rangeRegions partsFrom
       regions-cut = go (ℕ-discrete (partCount a s ys 4 0) 1)
         where
@@ -114,13 +124,15 @@ module _ (b yb : List ℕ) (m limit a s : ℕ) where
         parts-drop z = rw first (regions-drop (cut g levels) a s ys (4 - (i + 1)) i z ∙ rw add-one refl)
 
         pub parts-keep : 0 < length (part a s ys i)
-            → partsFrom b yb m limit levels a s i ≡ rangeRegions b yb m limit levels (cutAt a s i) (cutAt a s (suc i) - cutAt a s i) ++ partsFrom b yb m limit levels a s (i + 1)
+            → partsFrom b yb m limit levels a s i ≡ rangeRegions b yb m limit levels (cutAt a s i)
+            (cutAt a s (suc i) - cutAt a s i) ++ partsFrom b yb m limit levels a s (i + 1)
         unfolding partsFrom rangeRegions
         parts-keep p =
             let end : cutAt a s i + (cutAt a s (suc i) - cutAt a s i) ≡ cutAt a s (suc i) = omega (arith, cut-rise a s i) in
             rw (first, end, ← part-within a s (yardsOf yb) i h) (regions-keep (cut g levels) a s ys (4 - (i + 1)) i p ∙ rw add-one refl)
 
 -- a range's regions, by the yards in it
-pub range-cut : (b yb : List ℕ) (m limit levels a s : ℕ) → rangeRegions b yb m limit levels a s ≡ cut (given b m limit) levels a s (within a (a + s) (yardsOf yb))
+pub range-cut : (b yb : List ℕ) (m limit levels a s : ℕ)
+    → rangeRegions b yb m limit levels a s ≡ cut (given b m limit) levels a s (within a (a + s) (yardsOf yb))
 unfolding rangeRegions
 range-cut b yb m limit levels a s = refl

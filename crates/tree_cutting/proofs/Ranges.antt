@@ -23,7 +23,8 @@ use Rattle.tree_cutting.proofs.Cases.{some-parts, regions-leaf, some-le
 
 -- ---- the yards between two junctions, by their numbers
 
-module _ (yb : List ℕ) (ok : yardRefusal yb ≡ 0) (low high from end : ℕ) (ef : from ≡ countBelow low (yardsOf yb)) (ee : end ≡ countBelow high (yardsOf yb)) (h : low ≤ high) where
+module _ (yb : List ℕ) (ok : yardRefusal yb ≡ 0) (low high from end : ℕ) (ef : from ≡ countBelow low (yardsOf yb))
+    (ee : end ≡ countBelow high (yardsOf yb)) (h : low ≤ high) where
   pub numbers-order : from ≤ end
   numbers-order = omega (arith, below-rise yb ok low high h)
 
@@ -31,7 +32,8 @@ module _ (yb : List ℕ) (ok : yardRefusal yb ≡ 0) (low high from end : ℕ) (
   numbers-few = omega (arith, below-few yb ok high)
 
   pub numbers-yards : YardsUpTo yb from end
-  numbers-yards = record { order = numbers-order; inside = omega (arith, below-inside yb ok high); below = λ k p. below-small yb ok high k (omega arith) }
+  numbers-yards =
+      record { order = numbers-order; inside = omega (arith, below-inside yb ok high); below = λ k p. below-small yb ok high k (omega arith) }
 
   pub yards-are : within low high (yardsOf yb) ≡ yardsFrom yb (end - from) from
   yards-are = rw (ef, ee) (within-yards yb ok low high h)
@@ -42,7 +44,8 @@ module _ (yb : List ℕ) (ok : yardRefusal yb ≡ 0) (low high from end : ℕ) (
 -- ---- a range
 
 -- the yards of the range from a with s junctions
-module _ (yb : List ℕ) (ok : yardRefusal yb ≡ 0) (a s from end : ℕ) (ef : from ≡ countBelow a (yardsOf yb)) (ee : end ≡ countBelow (a + s) (yardsOf yb)) where
+module _ (yb : List ℕ) (ok : yardRefusal yb ≡ 0) (a s from end : ℕ) (ef : from ≡ countBelow a (yardsOf yb))
+    (ee : end ≡ countBelow (a + s) (yardsOf yb)) where
   pub range-order : from ≤ end
   range-order = numbers-order yb ok a (a + s) from end ef ee (omega arith)
 
@@ -52,8 +55,10 @@ module _ (yb : List ℕ) (ok : yardRefusal yb ≡ 0) (a s from end : ℕ) (ef : 
   pub range-yards : YardsUpTo yb from end
   range-yards = numbers-yards yb ok a (a + s) from end ef ee (omega arith)
 
-module _ (b yb : List ℕ) (ok : yardRefusal yb ≡ 0) (levels a s limit m at room : ℕ) (fits : at + length (encodeRegions (rangeRegions b yb m limit levels a s)) ≤ room)
-    (from end : ℕ) (ef : from ≡ countBelow a (yardsOf yb)) (ee : end ≡ countBelow (a + s) (yardsOf yb)) (r : Bool) (er : r ≡ (eqb levels 0 || leb (end - from) limit)) where
+module _ (b yb : List ℕ) (ok : yardRefusal yb ≡ 0) (levels a s limit m at room : ℕ)
+    (fits : at + length (encodeRegions (rangeRegions b yb m limit levels a s)) ≤ room)
+    (from end : ℕ) (ef : from ≡ countBelow a (yardsOf yb)) (ee : end ≡ countBelow (a + s) (yardsOf yb))
+    (r : Bool) (er : r ≡ (eqb levels 0 || leb (end - from) limit)) where
   abbrev ys : List ℕ
   ys = yardsFrom yb (end - from) from
 
@@ -73,10 +78,11 @@ module _ (b yb : List ℕ) (ok : yardRefusal yb ≡ 0) (levels a s limit m at ro
     pub leaf-fits : at + (7 + m * (2 + 6 * (end - from))) ≤ room
     leaf-fits =
         let e : length (encodeRegions (rangeRegions b yb m limit levels a s)) ≡ 7 + m * (2 + 6 * (end - from)) =
-            rw only (leaf-room b m limit a s ys ∙ rw (from-length yb (end - from) from) refl) in
+        rw only (leaf-room b m limit a s ys ∙ rw (from-length yb (end - from) from) refl) in
         rw e at fits
 
-    pub leaf-done : (tree after : List ℕ) (p c : ℕ) → ((limit : ℕ) → Written tree at (leafOnly b m limit a s ys) after p c) → Written tree at (rangeRegions b yb m limit levels a s) after p c
+    pub leaf-done : (tree after : List ℕ) (p c : ℕ) → ((limit : ℕ) → Written tree at (leafOnly b m limit a s ys) after p c)
+        → Written tree at (rangeRegions b yb m limit levels a s) after p c
     leaf-done tree after p c w = written-same tree at (leafOnly b m limit a s ys) (rangeRegions b yb m limit levels a s) after p c only (w limit)
 
   module _ (t : r ≡ false) where
@@ -95,17 +101,29 @@ module _ (b yb : List ℕ) (ok : yardRefusal yb ≡ 0) (levels a s limit m at ro
 
       pub own-fits : q ≢ 1 → at + (7 + m * 10) ≤ room
       own-fits h =
-          let f = fits-first at room (rangeRegions b yb m limit levels a s) (ownRegions b m limit a s q ys) (partsFrom b yb m limit (levels - 1) a s 0) both fits in
+          let f = fits-first at room (rangeRegions b yb m limit levels a s) (ownRegions b m limit a s q ys)
+          (partsFrom b yb m limit (levels - 1) a s 0) both fits in
           rw (own-room b m limit a s q ys h children-there) at f
 
       module _ (tree mid : List ℕ) (p c : ℕ) (w : (limit : ℕ) → Written tree at (ownRegions b m limit a s q ys) mid p c) where
         pub parts-fit : p + length (encodeRegions (partsFrom b yb m limit (levels - 1) a s 0)) ≤ room
-        parts-fit = fits-rest at room (rangeRegions b yb m limit levels a s) (ownRegions b m limit a s q ys) (partsFrom b yb m limit (levels - 1) a s 0) both fits tree mid p c (w limit)
+        parts-fit =
+            fits-rest at room (rangeRegions b yb m limit levels a s) (ownRegions b m limit a s q ys)
+            (partsFrom b yb m limit (levels - 1) a s 0) both fits tree mid p c (w limit)
 
         module _ (after : List ℕ) (p′ d : ℕ) (v : Written mid p (partsFrom b yb m limit (levels - 1) a s 0) after p′ d) where
           -- there are no more regions than bytes
           pub cut-few : c + d ≤ room
-          cut-few = omega (arith, written-few tree at (ownRegions b m limit a s q ys) mid p c (w limit), written-few mid p (partsFrom b yb m limit (levels - 1) a s 0) after p′ d v, v .end, parts-fit)
+          cut-few =
+              omega (
+                arith,
+                written-few tree at (ownRegions b m limit a s q ys) mid p c (w limit),
+                written-few mid p (partsFrom b yb m limit (levels - 1) a s 0) after p′ d v,
+                v .end,
+                parts-fit,
+              )
 
           pub cut-done : Written tree at (rangeRegions b yb m limit levels a s) after p′ (c + d)
-          cut-done = written-same tree at _ (rangeRegions b yb m limit levels a s) after p′ (c + d) both (written-join tree at (ownRegions b m limit a s q ys) (partsFrom b yb m limit (levels - 1) a s 0) mid p c after p′ d (w limit) v)
+          cut-done =
+              written-same tree at _ (rangeRegions b yb m limit levels a s) after p′ (c + d) both
+              (written-join tree at (ownRegions b m limit a s q ys) (partsFrom b yb m limit (levels - 1) a s 0) mid p c after p′ d (w limit) v)

@@ -32,11 +32,14 @@ falls-next levels i t h n e = omega (arith, n)
 
 -- ---- its parts, from number i on
 
-module _ (b yb : List ℕ) (ok : yardRefusal yb ≡ 0) (levels i a s limit m at room : ℕ) (fits : at + length (encodeRegions (partsFrom b yb m limit levels a s i)) ≤ room) where
+module _ (b yb : List ℕ) (ok : yardRefusal yb ≡ 0) (levels i a s limit m at room : ℕ)
+    (fits : at + length (encodeRegions (partsFrom b yb m limit levels a s i)) ≤ room) where
   pub parts-over : (tree : List ℕ) → i ≡ 4 → Written tree at (partsFrom b yb m limit levels a s i) tree at 0
-  parts-over tree e = written-same tree at [] (partsFrom b yb m limit levels a s i) tree at 0 (parts-none b yb m limit a s levels i e) (written-none tree at)
+  parts-over tree e =
+      written-same tree at [] (partsFrom b yb m limit levels a s i) tree at 0 (parts-none b yb m limit a s levels i e) (written-none tree at)
 
-  module _ (h : i ≤ 4) (n : i ≢ 4) (low high : ℕ) (el : low ≡ cutAt a s i) (eh : high ≡ cutAt a s (i + 1)) (from end : ℕ) (ef : from ≡ countBelow low (yardsOf yb)) (ee : end ≡ countBelow high (yardsOf yb)) where
+  module _ (h : i ≤ 4) (n : i ≢ 4) (low high : ℕ) (el : low ≡ cutAt a s i) (eh : high ≡ cutAt a s (i + 1)) (from end : ℕ)
+      (ef : from ≡ countBelow low (yardsOf yb)) (ee : end ≡ countBelow high (yardsOf yb)) where
     left : i < 4
     left = omega (arith, n)
 
@@ -65,8 +68,10 @@ module _ (b yb : List ℕ) (ok : yardRefusal yb ≡ 0) (levels i a s limit m at 
       pub drop-fits : at + length (encodeRegions (partsFrom b yb m limit levels a s (i + 1))) ≤ room
       drop-fits = rw dropped at fits
 
-      pub drop-done : (tree after : List ℕ) (p c : ℕ) → Written tree at (partsFrom b yb m limit levels a s (i + 1)) after p c → Written tree at (partsFrom b yb m limit levels a s i) after p c
-      drop-done tree after p c w = written-same tree at (partsFrom b yb m limit levels a s (i + 1)) (partsFrom b yb m limit levels a s i) after p c dropped w
+      pub drop-done : (tree after : List ℕ) (p c : ℕ) → Written tree at (partsFrom b yb m limit levels a s (i + 1)) after p c
+          → Written tree at (partsFrom b yb m limit levels a s i) after p c
+      drop-done tree after p c w =
+          written-same tree at (partsFrom b yb m limit levels a s (i + 1)) (partsFrom b yb m limit levels a s i) after p c dropped w
 
     module _ (e : from ≢ end) where
       pub part-some : low < high
@@ -80,18 +85,37 @@ module _ (b yb : List ℕ) (ok : yardRefusal yb ≡ 0) (levels i a s limit m at 
       part-size = omega (arith, part-some)
 
       kept : partsFrom b yb m limit levels a s i ≡ rangeRegions b yb m limit levels low (high - low) ++ partsFrom b yb m limit levels a s (i + 1)
-      kept = rw (el, next) (parts-keep b yb m limit a s levels i left (omega (arith, part-count, numbers-order yb ok low high from end ef ee cuts-rise, e)))
+      kept =
+          rw (el, next) (parts-keep b yb m limit a s levels i left (omega (
+            arith,
+            part-count,
+            numbers-order yb ok low high from end ef ee cuts-rise,
+            e,
+          )))
 
       pub part-fits : at + length (encodeRegions (rangeRegions b yb m limit levels low (high - low))) ≤ room
-      part-fits = fits-first at room (partsFrom b yb m limit levels a s i) (rangeRegions b yb m limit levels low (high - low)) (partsFrom b yb m limit levels a s (i + 1)) kept fits
+      part-fits =
+          fits-first at room (partsFrom b yb m limit levels a s i) (rangeRegions b yb m limit levels low (high - low))
+          (partsFrom b yb m limit levels a s (i + 1)) kept fits
 
       module _ (tree mid : List ℕ) (p c : ℕ) (w : Written tree at (rangeRegions b yb m limit levels low (high - low)) mid p c) where
         pub rest-fits : p + length (encodeRegions (partsFrom b yb m limit levels a s (i + 1))) ≤ room
-        rest-fits = fits-rest at room (partsFrom b yb m limit levels a s i) (rangeRegions b yb m limit levels low (high - low)) (partsFrom b yb m limit levels a s (i + 1)) kept fits tree mid p c w
+        rest-fits =
+            fits-rest at room (partsFrom b yb m limit levels a s i) (rangeRegions b yb m limit levels low (high - low))
+            (partsFrom b yb m limit levels a s (i + 1)) kept fits tree mid p c w
 
         module _ (after : List ℕ) (p′ d : ℕ) (v : Written mid p (partsFrom b yb m limit levels a s (i + 1)) after p′ d) where
           pub rest-few : c + d ≤ room
-          rest-few = omega (arith, written-few tree at (rangeRegions b yb m limit levels low (high - low)) mid p c w, written-few mid p (partsFrom b yb m limit levels a s (i + 1)) after p′ d v, v .end, rest-fits)
+          rest-few =
+              omega (
+                arith,
+                written-few tree at (rangeRegions b yb m limit levels low (high - low)) mid p c w,
+                written-few mid p (partsFrom b yb m limit levels a s (i + 1)) after p′ d v,
+                v .end,
+                rest-fits,
+              )
 
           pub rest-done : Written tree at (partsFrom b yb m limit levels a s i) after p′ (c + d)
-          rest-done = written-same tree at _ (partsFrom b yb m limit levels a s i) after p′ (c + d) kept (written-join tree at (rangeRegions b yb m limit levels low (high - low)) (partsFrom b yb m limit levels a s (i + 1)) mid p c after p′ d w v)
+          rest-done =
+              written-same tree at _ (partsFrom b yb m limit levels a s i) after p′ (c + d) kept
+              (written-join tree at (rangeRegions b yb m limit levels low (high - low)) (partsFrom b yb m limit levels a s (i + 1)) mid p c after p′ d w v)

@@ -37,19 +37,22 @@ few (r ∷ rs) = omega (arith, ap length (encode-cons r rs), length-append (enco
 pub written-none : (tree : List ℕ) (at : ℕ) → Written tree at [] tree at 0
 written-none tree at = record { bytes = rw encode-none (sym (write-none tree at)); end = omega (arith, none-length); number = refl }
 
-pub written-one : (tree : List ℕ) (at : ℕ) (r : Region) (after : List ℕ) (n : ℕ) → after ≡ write tree at (encodeRegion r) → length (encodeRegion r) ≡ n → Written tree at (r ∷ []) after (at + n) 1
+pub written-one : (tree : List ℕ) (at : ℕ) (r : Region) (after : List ℕ) (n : ℕ) → after ≡ write tree at (encodeRegion r)
+    → length (encodeRegion r) ≡ n → Written tree at (r ∷ []) after (at + n) 1
 written-one tree at r after n e h = record { bytes = rw (one-bytes r) e; end = rw (one-bytes r) (omega arith); number = refl }
 
 pub written-join : (tree : List ℕ) (at : ℕ) (rs ss : List Region) (mid : List ℕ) (p c : ℕ) (after : List ℕ) (q d : ℕ)
     → Written tree at rs mid p c → Written mid p ss after q d → Written tree at (rs ++ ss) after q (c + d)
 written-join tree at rs ss mid p c after q d x y = record {
-  bytes = y .bytes ∙ rw (x .bytes, x .end) (sym (ap (write tree at) (encode-append rs ss) ∙ write-append (encodeRegions rs) (encodeRegions ss) tree at));
+  bytes = y .bytes ∙ rw (x .bytes, x .end) (sym (ap (write tree at) (encode-append rs ss) ∙ write-append (encodeRegions rs)
+      (encodeRegions ss) tree at));
   end = omega (arith, joined-length rs ss, x .end, y .end);
   number = omega (arith, length-append rs ss, x .number, y .number);
 }
 
 -- the same regions, named otherwise
-pub written-same : (tree : List ℕ) (at : ℕ) (rs ss : List Region) (after : List ℕ) (p c : ℕ) → ss ≡ rs → Written tree at rs after p c → Written tree at ss after p c
+pub written-same : (tree : List ℕ) (at : ℕ) (rs ss : List Region) (after : List ℕ) (p c : ℕ) → ss ≡ rs → Written tree at rs after p c
+    → Written tree at ss after p c
 written-same tree at rs ss after p c e x = rw e x
 
 -- as many regions as bytes at most

@@ -22,7 +22,8 @@ use Rattle.tree_parts.specs.Parts.{Ready, leafOnly, ownRegions, Written}
 use Rattle.tree_parts.proofs.Joining.{one-bytes, written-none, written-one, written-same}
 
 -- arrays of the same lengths serve as well
-pub ready-kept : (b yb : List ℕ) (l : Links) (ds : List ℕ) (done : List Bool) (queue list : List ℕ) (ds′ : List ℕ) (done′ : List Bool) (queue′ list′ : List ℕ)
+pub ready-kept : (b yb : List ℕ) (l : Links) (ds : List ℕ) (done : List Bool) (queue list : List ℕ) (ds′ : List ℕ) (done′ : List Bool)
+    (queue′ list′ : List ℕ)
     → Ready b yb l ds done queue list → length ds′ ≡ length ds → length done′ ≡ length done → length queue′ ≡ length queue → length list′ ≡ length list → Ready b yb l ds′ done′ queue′ list′
 ready-kept b yb l ds done queue list ds′ done′ queue′ list′ r e f g h = record {
   adjacency = r .adjacency;
@@ -60,17 +61,21 @@ own-room b m limit a s q ys h k =
 
 -- ---- one record
 
-pub leaf-written : (b tree after : List ℕ) (m a s at k : ℕ) (ys : List ℕ) → length ys ≡ k → ((limit : ℕ) → after ≡ write tree at (encodeRegion (leafRegion (given b m limit) a s ys)))
+pub leaf-written : (b tree after : List ℕ) (m a s at k : ℕ) (ys : List ℕ) → length ys ≡ k
+    → ((limit : ℕ) → after ≡ write tree at (encodeRegion (leafRegion (given b m limit) a s ys)))
     → (limit : ℕ) → Written tree at (leafOnly b m limit a s ys) after (at + (7 + m * (2 + 6 * k))) 1
 unfolding leafOnly
 leaf-written b tree after m a s at k ys h e limit =
     written-one tree at (leafRegion (given b m limit) a s ys) after (7 + m * (2 + 6 * k)) (e limit) (leaf-bytes b m limit a s ys ∙ rw h refl)
 
 pub own-kept : (b tree : List ℕ) (m a s q at : ℕ) (ys : List ℕ) → q ≡ 1 → (limit : ℕ) → Written tree at (ownRegions b m limit a s q ys) tree at 0
-own-kept b tree m a s q at ys e limit = written-same tree at [] (ownRegions b m limit a s q ys) tree at 0 (own-none b m limit a s q ys e) (written-none tree at)
+own-kept b tree m a s q at ys e limit =
+    written-same tree at [] (ownRegions b m limit a s q ys) tree at 0 (own-none b m limit a s q ys e) (written-none tree at)
 
-pub own-written : (b tree after : List ℕ) (m a s q at : ℕ) (ys : List ℕ) → q ≢ 1 → 0 < q → ((limit : ℕ) → after ≡ write tree at (encodeRegion (innerRegion (given b m limit) a s q ys)))
+pub own-written : (b tree after : List ℕ) (m a s q at : ℕ) (ys : List ℕ) → q ≢ 1 → 0 < q
+    → ((limit : ℕ) → after ≡ write tree at (encodeRegion (innerRegion (given b m limit) a s q ys)))
     → (limit : ℕ) → Written tree at (ownRegions b m limit a s q ys) after (at + (7 + m * 10)) 1
 own-written b tree after m a s q at ys h k e limit =
-    written-same tree at (innerRegion (given b m limit) a s q ys ∷ []) (ownRegions b m limit a s q ys) after (at + (7 + m * 10)) 1 (own-one b m limit a s q ys h)
+    written-same tree at (innerRegion (given b m limit) a s q ys ∷ []) (ownRegions b m limit a s q ys) after (at + (7 + m * 10)) 1
+    (own-one b m limit a s q ys h)
     (written-one tree at (innerRegion (given b m limit) a s q ys) after (7 + m * 10) (e limit) (inner-bytes b m limit a s q ys k))

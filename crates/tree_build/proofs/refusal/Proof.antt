@@ -23,7 +23,9 @@ returns : tie.Need-returns
 returns c = search needs
 
 returns-2 : tie.Need-returns-2
-returns-2 c = build-road _ _ _ _ _ _ _ (c .before .before .before .before .before .before .read .ensures) _ (c .before .before .before .before .r2 .given .1 ∙ c .before .r3 .given .1)
+returns-2 c =
+    build-road _ _ _ _ _ _ _ (c .before .before .before .before .before .before .read .ensures) _
+    (c .before .before .before .before .r2 .given .1 ∙ c .before .r3 .given .1)
 
 read-in-requires : tie.Need-read-in-requires
 read-in-requires c κs = search needs
@@ -38,22 +40,40 @@ number-requires : tie.Need-number-requires
 number-requires c κs = search needs
 
 returns-3 : tie.Need-returns-3
-returns-3 c = build-yard _ _ _ _ _ _ _ (c .before .before .before .before .before .before .before .read .ensures) _ _ (c .before .before .before .before .before .r .given .1) _ (c .before .before .before .read-in .ensures) _ _ (c .before .enum-told2 .given .1) (c .number .ensures)
+returns-3 c =
+    build-yard _ _ _ _ _ _ _ (c .before .before .before .before .before .before .before .read .ensures) _ _
+    (c .before .before .before .before .before .r .given .1) _ (c .before .before .before .read-in .ensures) _ _ (c .before .enum-told2 .given .1)
+    (c .number .ensures)
 
 range-refusal-requires : tie.Need-range-refusal-requires
 range-refusal-requires c κs = search needs
 
 returns-4 : tie.Need-returns-4
-returns-4 c = build-range _ _ _ _ _ _ _ (c .before .before .before .before .before .before .before .before .before .read .ensures) _ _ (c .before .before .before .before .before .before .before .r .given .1) _ (c .before .before .before .before .before .read-in .ensures) _ (c .before .before .before .y .given .1) _ (c .before .range-refusal .ensures) (c .if1 .taken)
+returns-4 c =
+    build-range _ _ _ _ _ _ _ (c .before .before .before .before .before .before .before .before .before .read .ensures) _ _
+    (c .before .before .before .before .before .before .before .r .given .1) _ (c .before .before .before .before .before .read-in .ensures) _
+    (c .before .before .before .y .given .1) _ (c .before .range-refusal .ensures) (c .if1 .taken)
 
 returns-5 : tie.Need-returns-5
-returns-5 c = build-work _ _ _ _ _ _ _ (c .before .before .before .before .before .before .before .before .before .before .read .ensures) _ _ (c .before .before .before .before .before .before .before .before .r .given .1) _ (c .before .before .before .before .before .before .read-in .ensures) _ (c .before .before .before .before .y .given .1) _ (c .before .before .range-refusal .ensures) (c .before .if1 .left) (c .if2 .taken)
+returns-5 c =
+    build-work _ _ _ _ _ _ _ (c .before .before .before .before .before .before .before .before .before .before .read .ensures) _ _
+    (c .before .before .before .before .before .before .before .before .r .given .1) _
+    (c .before .before .before .before .before .before .read-in .ensures) _ (c .before .before .before .before .y .given .1) _
+    (c .before .before .range-refusal .ensures) (c .before .if1 .left) (c .if2 .taken)
 
 returns-6 : tie.Need-returns-6
-returns-6 c = build-room _ _ _ _ _ _ _ (c .before .before .before .before .before .before .before .before .before .before .before .read .ensures) _ _ (c .before .before .before .before .before .before .before .before .before .r .given .1) _ (c .before .before .before .before .before .before .before .read-in .ensures) _ (c .before .before .before .before .before .y .given .1) _ (c .before .before .before .range-refusal .ensures) (c .before .before .if1 .left) (c .before .if2 .left) (c .if3 .taken)
+returns-6 c =
+    build-room _ _ _ _ _ _ _ (c .before .before .before .before .before .before .before .before .before .before .before .read .ensures) _ _
+    (c .before .before .before .before .before .before .before .before .before .r .given .1) _
+    (c .before .before .before .before .before .before .before .read-in .ensures) _ (c .before .before .before .before .before .y .given .1) _
+    (c .before .before .before .range-refusal .ensures) (c .before .before .if1 .left) (c .before .if2 .left) (c .if3 .taken)
 
 returns-7 : tie.Need-returns-7
-returns-7 c = build-passes _ _ _ _ _ _ _ (c .before .before .before .before .before .before .before .before .before .before .before .read .ensures) _ _ (c .before .before .before .before .before .before .before .before .before .r .given .1) _ (c .before .before .before .before .before .before .before .read-in .ensures) _ (c .before .before .before .before .before .y .given .1) _ (c .before .before .before .range-refusal .ensures) (c .before .before .if1 .left) (c .before .if2 .left) (c .if3 .left)
+returns-7 c =
+    build-passes _ _ _ _ _ _ _ (c .before .before .before .before .before .before .before .before .before .before .before .read .ensures) _ _
+    (c .before .before .before .before .before .before .before .before .before .r .given .1) _
+    (c .before .before .before .before .before .before .before .read-in .ensures) _ (c .before .before .before .before .before .y .given .1) _
+    (c .before .before .before .range-refusal .ensures) (c .before .before .if1 .left) (c .before .if2 .left) (c .if3 .left)
 
 pub refusal-spec : {M : Type 1} → statement M
 refusal-spec =
