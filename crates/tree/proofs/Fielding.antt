@@ -8,6 +8,7 @@ use Rattle.book.specs.Bytes.{u8At, u16At}
 use Rattle.tree_layout.specs.Values.{Region, regionAt}
 use Rattle.tree_layout.specs.Decode.{readRegion, sizeAt, placeOf, landmarkCount, regionCount, decode}
 use Rattle.tree_layout.proofs.Places.{size-least, region-at, record-inside, decode-length}
+use Rattle.tree_layout.proofs.Formed.{at-mem}
 use Rattle.tree_layout.proofs.Reading.{region-first, region-after, region-children, region-yards}
 use Rattle.tree.specs.Arrays.{Laid, fieldsOf}
 use Rattle.tree.specs.declared.Fields.{Fields}
@@ -43,6 +44,13 @@ module _ (b places : List ℕ) (laid : Laid b places) where
 
     pub laid-children : regionAt (decode b .regions) i .children ≡ u8At b (placeOf b i + 4)
     laid-children = ap (λ (r : Region). r .children) laid-region ∙ region-children b (landmarkCount b) (placeOf b i)
+
+    -- its range ends at or below 1,024
+    pub laid-end : u16At b (placeOf b i + 2) ≤ 1024
+    laid-end =
+        let v = laid .layout .values (regionAt (decode b .regions) i) (at-mem (decode b .regions) i (omega (arith, laid-length))) in
+        let e : regionAt (decode b .regions) i .after ≡ u16At b (placeOf b i + 2) = ap (λ (r : Region). r .after) laid-region ∙ region-after b (landmarkCount b) (placeOf b i) in
+        omega (arith, v .within, laid .layout .junctions .1)
 
     -- what is read at its place are its fields
     pub laid-fields : (at first after children yards : ℕ) → at ≡ getD places i 0 → first ≡ u16At b at → after ≡ u16At b (at + 2) → children ≡ u8At b (at + 4) → yards ≡ u16At b (at + 5)

@@ -17,7 +17,7 @@ use Rattle.tree_leaf.specs.Leaf.{leafOk}
 use Rattle.tree.specs.Shape.{childFits, siblings, subtree, shaped}
 use Rattle.tree.specs.Arrays.{Laid, fieldsOf}
 use Rattle.tree.specs.declared.Fields.{Fields}
-use Rattle.tree.proofs.Fielding.{laid-length, laid-header, laid-inside, laid-region, laid-children}
+use Rattle.tree.proofs.Fielding.{laid-length, laid-header, laid-inside, laid-region, laid-children, laid-end}
 use Rattle.tree.proofs.Descending.{fits-yards, no-levels, no-number, inner-end, leaf-bad, leaf-good, last-left, last-none, next-bad, next-none, next-good}
 
 -- the fields of region i, each
@@ -68,8 +68,8 @@ module _ (b places : List ℕ) (laid : Laid b places) where
           ∙ rw add-one refl)
 
       -- what the test of a leaf asks
-      pub at-leaf : f .children ≡ 0 → (12 ≤ length b) × (u8At b (f .at + 4) ≡ 0) × (f .at + sizeAt b (landmarkCount b) (f .at) ≤ length b)
-      at-leaf c = rw (at-is b i f e) (laid-header b places laid, sym (laid-children b places laid i h) ∙ (children-is b i f e ∙ c), laid-inside b places laid i h)
+      pub at-leaf : f .children ≡ 0 → (12 ≤ length b) × (u8At b (f .at + 4) ≡ 0) × (f .at + sizeAt b (landmarkCount b) (f .at) ≤ length b) × (u16At b (f .at + 2) ≤ 1024)
+      at-leaf c = rw (at-is b i f e) (laid-header b places laid, sym (laid-children b places laid i h) ∙ (children-is b i f e ∙ c), laid-inside b places laid i h, laid-end b places laid i h)
 
       region-is : regionAt rs i ≡ readRegion b (landmarkCount b) (f .at)
       region-is = laid-region b places laid i h ∙ ap (λ (p : ℕ). readRegion b (landmarkCount b) p) (sym (at-is b i f e))

@@ -43,7 +43,7 @@ add-lists-agree c = search needs
 lists-agree-requires : tie.Need-lists-agree-requires
 lists-agree-requires c κs =
     let s = c .before .before .before .before .before in
-    leaf-room _ _ _ 0 0 _ (c .before .before .before .u8-at .ensures) (s .pre .1) (c .u16-at3 .ensures) (s .pre .2)
+    (leaf-room _ _ _ 0 0 _ (c .before .before .before .u8-at .ensures) (s .pre .1) (c .u16-at3 .ensures) (s .pre .2), omega (arith, s .pre .3, c .before .u16-at2 .ensures))
 
 returns : tie.Need-returns
 returns c =

@@ -1,8 +1,12 @@
 use mathlib.Core.Path.{_∙_}
 use Rattle.tree_leaf.proofs.Listing.{parts-agree}
+use Rattle.tree_leaf.proofs.Table.{part-fits, part-table}
 use borrow.Author.Needs.{needs}
 use Rattle.tree_leaf.proofs.list_agrees.Statement.{statement}
 use Rattle.tree_leaf.proofs.list_agrees.Tie as tie
+use Rattle.tree_leaf.proofs.list_agrees.Reads as reads
+use Rattle.tree_leaf.proofs.list_agrees.Lts as lts
+use Rattle.tree_leaf.proofs.same_yards.Reads as same-yards-reads
 
 mul-f : tie.Need-mul-f
 mul-f c = search needs
@@ -35,10 +39,15 @@ part-same-yards-end-2 : tie.Need-part-same-yards-end-2
 part-same-yards-end-2 c = search needs
 
 same-yards-requires : tie.Need-same-yards-requires
-same-yards-requires c κs = search needs
+same-yards-requires c κs =
+    let s = c .before .before .before .before .before .before in
+    (search needs, search needs, search needs, search needs, part-fits _ _ _ _ _ (s .pre .4), part-table _ _ _ _ (s .pre .5))
+
+same-length : tie.Need-same-length
+same-length c = search needs
 
 returns : tie.Need-returns
-returns c = c .same-yards .ensures ∙ parts-agree _ _ _ _ _ _
+returns c = c .before .before .same-yards .ensures ∙ parts-agree _ _ _ _ _ _
 
 pub list-agrees-spec : {M : Type 1} → statement M
 list-agrees-spec =
@@ -55,4 +64,5 @@ list-agrees-spec =
     part-same-yards-start-2
     part-same-yards-end-2
     same-yards-requires
+    same-length
     returns)

@@ -1,95 +1,93 @@
-use Rattle.tree_layout.proofs.Turns.{room}
-use borrow.Author.Needs.{needs}
-use mathlib.Core.Path.{_≡_, sym, _∙_}
-use Prim.Native.Nat.{_+_, _*_, _-_, _≤_}
+use borrow.Author.Tests.{not-true, not-false}
+use mathlib.Core.Path.{refl, sym}
+use Prim.Native.Nat.{_+_, _*_, _<_}
 use native.Mathlib.Nat.{sub-zero}
 use native.Mathlib.Omega.{arith}
-use borrow.Author.Tests.{not-true, not-false}
 use lib.ListN.{length}
-use Rattle.tree_layout.specs.Decode.{readLists}
-use Rattle.tree_leaf.specs.Leaf.{firstList, agreeing}
-use Rattle.tree_leaf.proofs.Listing.{first-list, agree-stop, agree-next, agree-end}
+use Rattle.tree_layout.proofs.Turns.{room}
+use Rattle.tree_leaf.proofs.Table.{none-agree, first-fails, first-fits}
+use borrow.Author.Needs.{needs}
 use Rattle.tree_leaf.proofs.lists_agree.Statement.{statement}
 use Rattle.tree_leaf.proofs.lists_agree.Tie as tie
+use Rattle.tree_leaf.proofs.lists_agree.Reads as reads
+use Rattle.tree_leaf.proofs.lists_agree.Lts as lts
+use Rattle.tree_leaf.proofs.all_agree.Reads as all-agree-reads
+use Rattle.tree_leaf.proofs.fill_table.Reads as fill-table-reads
 
-abbrev Inv-loop : tie.InvT-loop
-Inv-loop b start m n low high at₀ k₀ at k =
-    (k ≤ m) × (start ≤ at) × (at + (m - k) * (2 + 6 * n) ≤ length b) × (agreeing low high (firstList (readLists b n m start)) (readLists b n (m - k) at) ≡ agreeing low high (firstList (readLists b n m start)) (readLists b n m start))
+returns : tie.Need-returns
+returns c = sym (none-agree _ _ _ _ _ _ (c .if1 .taken))
 
-abbrev μ-loop : tie.MeasureT-loop
-μ-loop b start m n low high at₀ k₀ at k = m - k
+add-f : tie.Need-add-f
+add-f c = search needs
 
-loop-holds : tie.Need-loop-holds Inv-loop μ-loop
-loop-holds c = (omega arith, omega arith, simp sub-zero (c .before .pre), simp sub-zero)
+mul-e : tie.Need-mul-e
+mul-e c =
+    let s = c .before .before in
+    omega (arith, room (s .args .m) 0 (s .args .start) (2 + 6 * s .args .n) (length (s .args .b .now)) (omega (arith, c .if1 .left)) (simp sub-zero (s .pre .0)) .0)
 
-add-list-agrees : tie.Need-add-list-agrees Inv-loop μ-loop
-add-list-agrees c = search needs
+add-e : tie.Need-add-e
+add-e c =
+    let s = c .before .before in
+    omega (arith, room (s .args .m) 0 (s .args .start) (2 + 6 * s .args .n) (length (s .args .b .now)) (omega (arith, c .if1 .left)) (simp sub-zero (s .pre .0)) .0)
 
-add-list-agrees-2 : tie.Need-add-list-agrees-2 Inv-loop μ-loop
-add-list-agrees-2 c = search needs
+sub-fill-table : tie.Need-sub-fill-table
+sub-fill-table c = search needs
 
-list-agrees-requires : tie.Need-list-agrees-requires Inv-loop μ-loop
-list-agrees-requires c κs =
-    let i = c .before .loop .inv in
-    let w = room _ _ _ _ _ (c .loop-test .taken) (i .2) in
-    (omega (arith, w .0), omega (arith, w .0))
+part-fill-table-start : tie.Need-part-fill-table-start
+part-fill-table-start c = search needs
 
-returns : tie.Need-returns Inv-loop μ-loop
-returns c =
-    let w = c .before in
-    let l = w .before in
-    sym (agree-stop _ _ _ _ _ _ _ _ _ (first-list _ _ _ _ (omega (arith, l .loop-test .taken))) (l .loop-test .taken) (sym (w .list-agrees .ensures) ∙ not-true _ (c .if1 .taken))) ∙ l .before .loop .inv .3
+part-fill-table-end : tie.Need-part-fill-table-end
+part-fill-table-end c =
+    let s = c .before .before in
+    omega (arith, room (s .args .m) 0 (s .args .start) (2 + 6 * s .args .n) (length (s .args .b .now)) (omega (arith, c .if1 .left)) (simp sub-zero (s .pre .0)) .0)
 
-mul-at : tie.Need-mul-at Inv-loop μ-loop
-mul-at c =
-    let l = c .before .before in
-    omega (arith, room _ _ _ _ _ (l .loop-test .taken) (l .before .loop .inv .2) .0)
+slice-aggregate-fill-table : tie.Need-slice-aggregate-fill-table
+slice-aggregate-fill-table c = search needs
 
-add-at : tie.Need-add-at Inv-loop μ-loop
-add-at c =
-    let l = c .before .before in
-    omega (arith, room _ _ _ _ _ (l .loop-test .taken) (l .before .loop .inv .2) .0)
+fill-table-requires : tie.Need-fill-table-requires
+fill-table-requires c κs = search needs
 
-add-at-2 : tie.Need-add-at-2 Inv-loop μ-loop
-add-at-2 c =
-    let l = c .before .before in
-    omega (arith, room _ _ _ _ _ (l .loop-test .taken) (l .before .loop .inv .2) .0)
+returns-2 : tie.Need-returns-2
+returns-2 c =
+    let t = c .before .before in
+    let e = t .before .before .before in
+    let z : 0 < e .before .before .args .m = omega (arith, e .if1 .left) in
+    sym (first-fails _ _ _ _ _ _ z _ _ _ _ refl refl (t .fill-table .ensures .0) (t .fill-table .ensures .1) (not-true _ (c .if2 .taken)))
 
-add-k : tie.Need-add-k Inv-loop μ-loop
-add-k c = search needs
+slice-aggregate-all-agree : tie.Need-slice-aggregate-all-agree
+slice-aggregate-all-agree c = search needs
 
-loop-less : tie.Need-loop-less Inv-loop μ-loop
-loop-less c = search needs
+slice-aggregate-all-agree-2 : tie.Need-slice-aggregate-all-agree-2
+slice-aggregate-all-agree-2 c = search needs
 
-loop-again : tie.Need-loop-again Inv-loop μ-loop
-loop-again c =
-    let w = c .before in
-    let l = w .before in
-    let i = l .before .loop .inv in (
-      omega arith,
-      omega arith,
-      room _ _ _ _ _ (l .loop-test .taken) (i .2) .1,
-      agree-next _ _ _ _ _ _ _ _ _ (first-list _ _ _ _ (omega (arith, l .loop-test .taken))) (l .loop-test .taken) (sym (w .list-agrees .ensures) ∙ not-false _ (c .if1 .left)) ∙ i .3,
-    )
+all-agree-requires : tie.Need-all-agree-requires
+all-agree-requires c κs =
+    let g = c .before .before in
+    let t = g .before .before in
+    let e = t .before .before .before in
+    let s = e .before .before in
+    let z : 0 < s .args .m = omega (arith, e .if1 .left) in
+    let w = first-fits _ _ (s .args .m) _ _ _ z _ _ _ _ refl refl (t .fill-table .ensures .0) (t .fill-table .ensures .1) (not-false _ (g .if2 .left)) in
+    (s .pre .0, s .pre .1, search needs, w .0, w .1)
 
-returns-2 : tie.Need-returns-2 Inv-loop μ-loop
-returns-2 c = sym (agree-end _ _ _ _ _ _ _ _ (c .loop-test .left)) ∙ c .before .loop .inv .3
+returns-3 : tie.Need-returns-3
+returns-3 c = search needs
 
 pub lists-agree-spec : {M : Type 1} → statement M
 lists-agree-spec =
     tie.close
     (tie.spec
-    Inv-loop
-    μ-loop
-    loop-holds
-    add-list-agrees
-    add-list-agrees-2
-    list-agrees-requires
     returns
-    mul-at
-    add-at
-    add-at-2
-    add-k
-    loop-less
-    loop-again
-    returns-2)
+    add-f
+    mul-e
+    add-e
+    sub-fill-table
+    part-fill-table-start
+    part-fill-table-end
+    slice-aggregate-fill-table
+    fill-table-requires
+    returns-2
+    slice-aggregate-all-agree
+    slice-aggregate-all-agree-2
+    all-agree-requires
+    returns-3)

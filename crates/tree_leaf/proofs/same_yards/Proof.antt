@@ -1,52 +1,65 @@
-use mathlib.Core.Path.{sym, _∙_}
 use borrow.Author.Tests.{not-true, not-false}
-use Rattle.tree_leaf.proofs.Listing.{same-once, same-range, same-to, same-from}
+use mathlib.Core.Path.{sym, _∙_}
+use Rattle.tree_leaf.proofs.Table.{list-fails, same-not-named, same-by-table}
 use borrow.Author.Needs.{needs}
 use Rattle.tree_leaf.proofs.same_yards.Statement.{statement}
 use Rattle.tree_leaf.proofs.same_yards.Tie as tie
+use Rattle.tree_leaf.proofs.same_yards.Reads as reads
+use Rattle.tree_leaf.proofs.same_yards.Lts as lts
+use Rattle.tree_leaf.proofs.all_in.Reads as all-in-reads
+use Rattle.tree_leaf.proofs.fill_table.Reads as fill-table-reads
 
-each-once-requires : tie.Need-each-once-requires
-each-once-requires c κs = search needs
+fill-table-requires : tie.Need-fill-table-requires
+fill-table-requires c κs = search needs
+
+same-length : tie.Need-same-length
+same-length c = search needs
 
 returns : tie.Need-returns
-returns c = sym (same-once _ _ _ _ (sym (c .before .each-once .ensures) ∙ not-true _ (c .if1 .taken)))
+returns c =
+    let t = c .before .before .before in
+    sym (list-fails _ _ _ _ (sym (t .fill-table .ensures .0) ∙ not-true _ (c .if1 .taken)))
 
-in-range-requires : tie.Need-in-range-requires
-in-range-requires c κs = search needs
+all-in-requires : tie.Need-all-in-requires
+all-in-requires c κs = search needs
+
+same-length-2 : tie.Need-same-length-2
+same-length-2 c = search needs
 
 returns-2 : tie.Need-returns-2
 returns-2 c =
-    let a = c .before .before in
-    sym (same-range _ _ _ _ (sym (a .before .each-once .ensures) ∙ not-false _ (a .if1 .left)) (sym (c .before .in-range .ensures) ∙ not-true _ (c .if2 .taken)))
+    let a = c .before in
+    let t = a .before .before .before .before in
+    let s = t .before .before .before .before .before .before in
+    let g = sym (t .fill-table .ensures .0) ∙ not-false _ (a .before .if1 .left) in
+    sym (same-not-named _ _ _ _ (s .pre .2) (s .pre .4) g _ (s .pre .5) (sym (a .all-in .ensures) ∙ not-true _ (c .if2 .taken)))
 
-named-by-requires : tie.Need-named-by-requires
-named-by-requires c κs = search needs
+all-in-requires-2 : tie.Need-all-in-requires-2
+all-in-requires-2 c κs = search needs
+
+same-length-3 : tie.Need-same-length-3
+same-length-3 c = search needs
 
 returns-3 : tie.Need-returns-3
 returns-3 c =
-    let b = c .before .before in
-    let a = b .before .before in
-    sym (same-to _ _ _ _ (sym (a .before .each-once .ensures) ∙ not-false _ (a .if1 .left)) (sym (b .before .in-range .ensures) ∙ not-false _ (b .if2 .left)) (sym (c .before .named-by .ensures) ∙ not-true _ (c .if3 .taken)))
-
-named-by-requires-2 : tie.Need-named-by-requires-2
-named-by-requires-2 c κs = search needs
-
-returns-4 : tie.Need-returns-4
-returns-4 c =
-    let d = c .before in
-    let b = d .before .before in
-    let a = b .before .before in
-    c .named-by2 .ensures ∙ sym (same-from _ _ _ _ (sym (a .before .each-once .ensures) ∙ not-false _ (a .if1 .left)) (sym (b .before .in-range .ensures) ∙ not-false _ (b .if2 .left)) (sym (d .before .named-by .ensures) ∙ not-false _ (d .if3 .left)))
+    let e = c .before .before in
+    let a = e .before in
+    let t = a .before .before .before .before in
+    let s = t .before .before .before .before .before .before in
+    let r = not-false _ (a .before .if1 .left) in
+    let g = sym (t .fill-table .ensures .0) ∙ r in
+    c .all-in2 .ensures ∙ sym (same-by-table _ _ _ _ (s .pre .2) (s .pre .4) g _ _ (s .pre .5) (sym (a .all-in .ensures) ∙ not-false _ (e .if2 .left)) (t .fill-table .ensures .1 r))
 
 pub same-yards-spec : {M : Type 1} → statement M
 same-yards-spec =
     tie.close
     (tie.spec
-    each-once-requires
+    fill-table-requires
+    same-length
     returns
-    in-range-requires
+    all-in-requires
+    same-length-2
     returns-2
-    named-by-requires
-    returns-3
-    named-by-requires-2
-    returns-4)
+    all-in-requires-2
+    same-length-3
+    returns-3)

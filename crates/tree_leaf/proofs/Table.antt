@@ -1,0 +1,235 @@
+-- The table of a list's yards, and the tests by it. Assumes nothing.
+use mathlib.Core.Path.{_≡_, refl, sym, ap, _∙_}
+use mathlib.Core.Logic.{_⊎_, inl, inr, _≢_}
+use mathlib.Core.Bool.{Bool, true, false, not, _&&_, _||_}
+use mathlib.Core.List.{List, [], _∷_}
+use Prim.Native.Nat.{ℕ, zero, suc, _+_, _-_, _*_, _≤_, _<_}
+use native.Mathlib.Nat.{sub-zero}
+use native.Mathlib.Numerals.{add-one}
+use native.Mathlib.Decide.{ℕ-discrete}
+use native.Mathlib.Omega.{arith}
+use borrow.Author.Tests.{eq-eqb, ne-eqb}
+use lib.ListN.{length, getD, set, take, drop, replicate, length-set, length-replicate}
+use lib.Seq.{getD-set-same, getD-set-other}
+use lib.Dec.{T, ltb, leb, eqb, ltb→lt}
+use Rattle.book.specs.Bytes.{u16At}
+use Rattle.book.proofs.Choosing.{and-left, and-right, true-T, T-true}
+use Rattle.tree_layout.specs.Values.{Element}
+use Rattle.tree_layout.specs.Decode.{elementAt, readList, listPart, readLists}
+use Rattle.tree_layout.specs.Refusal.{all}
+use Rattle.tree_layout.proofs.Reading.{all-none, all-next, element-yard, list-turn, list-none, list-part}
+use Rattle.tree_leaf.specs.Leaf.{names, once, inRange, namedBy, firstList, sameYards, agreeing}
+use Rattle.tree_leaf.specs.Table.{tableOf, inTable, fits}
+use Rattle.tree_leaf.proofs.Listing.{once-stop, once-next, range-low, range-high, range-next, same-to, same-from, first-list, agree-stop, agree-end}
+
+-- ---- what a table has
+
+pub table-length : (es : List Element) → length (tableOf es) ≡ 1024
+unfolding tableOf
+table-length [] = length-replicate 1024 false
+table-length (e ∷ es) = length-set (tableOf es) (e .yard) true ∙ table-length es
+
+none-in : (n y : ℕ) → getD (replicate n false) y false ≡ false
+none-in zero y = refl
+none-in (suc n) zero = refl
+none-in (suc n) (suc y) = none-in n y
+
+-- it has yard y exactly if the list names y
+pub table-names : (es : List Element) (y : ℕ) → y < 1024 → getD (tableOf es) y false ≡ names es y
+unfolding tableOf names
+table-names [] y h = none-in 1024 y
+table-names (e ∷ es) y h = go (ℕ-discrete y (e .yard)) (table-names es y h)
+  where
+    go : Dec (y ≡ e .yard) → getD (tableOf es) y false ≡ names es y → getD (set (tableOf es) (e .yard) true) y false ≡ (eqb (e .yard) y || names es y)
+    go (yes q) rec = rw q (getD-set-same (tableOf es) (e .yard) true false (omega (arith, table-length es)) ∙ sym (simp (eq-eqb (e .yard) (e .yard) refl)))
+    go (no q) rec = getD-set-other (tableOf es) (e .yard) y true false q ∙ rec ∙ sym (simp (ne-eqb (e .yard) y (λ z. q (sym z))))
+
+beyond : (table : List Bool) (i : ℕ) → length table ≤ i → getD table i false ≡ false
+beyond [] i h = refl
+beyond (x ∷ xs) zero h = absurd (omega arith)
+beyond (x ∷ xs) (suc i) h = beyond xs i (omega arith)
+
+-- ---- whether a table has a list's yards, with the pair at a place and the n - (k + 1) pairs after it
+
+module _ (table : List Bool) (p : List ℕ) (n k at v : ℕ) (h : k < n) (e : v ≡ u16At p (at + 4)) where
+  in-here : all (inTable table) (readList p (n - k) at) ≡ (getD table v false && all (inTable table) (readList p (n - (k + 1)) (at + 6)))
+  unfolding inTable
+  in-here = rw (list-turn p n k at h) (all-next (inTable table) (elementAt p at) (readList p (n - (k + 1)) (at + 6)) ∙ rw (element-yard p at, e) refl)
+
+  pub in-beyond : length table ≤ v → all (inTable table) (readList p (n - k) at) ≡ false
+  in-beyond l = in-here ∙ rw (beyond table v l) refl
+
+  pub in-absent : getD table v false ≡ false → all (inTable table) (readList p (n - k) at) ≡ false
+  in-absent t = in-here ∙ rw t refl
+
+  pub in-next : getD table v false ≡ true → all (inTable table) (readList p (n - (k + 1)) (at + 6)) ≡ all (inTable table) (readList p (n - k) at)
+  in-next t = sym (in-here ∙ rw t refl)
+
+-- ---- a list's own test, from its last pair on
+
+and-no : (a b : Bool) → b ≡ false → (a && b) ≡ false
+and-no true b e = e
+and-no false b e = refl
+
+-- a list fails if the pairs after one of it do
+fails-on : (low high : ℕ) (e : Element) (es : List Element) → fits low high es ≡ false → fits low high (e ∷ es) ≡ false
+unfolding fits once
+fails-on low high e es f = rw (all-next (inRange low high) e es) (go (not (names es (e .yard))) (once es) (inRange low high e) (all (inRange low high) es) f)
+  where
+    go : (a b c d : Bool) → (b && d) ≡ false → ((a && b) && (c && d)) ≡ false
+    go true true c d q = and-no c d q
+    go true false c d q = refl
+    go false b c d q = refl
+
+module _ (p : List ℕ) (n low high : ℕ) where
+  pub fails-all : (k : ℕ) → k ≤ n → fits low high (readList p (n - k) (6 * k)) ≡ false → fits low high (readList p n 0) ≡ false
+  fails-all zero h f = simp sub-zero at f
+  fails-all (suc k) h f =
+      fails-all k (omega arith)
+      (rw (list-turn p n k (6 * k) (omega arith)) (fails-on low high (elementAt p (6 * k)) (readList p (n - (k + 1)) (6 * k + 6)) (later f)))
+    where
+      later : fits low high (readList p (n - suc k) (6 * suc k)) ≡ false → fits low high (readList p (n - (k + 1)) (6 * k + 6)) ≡ false
+      later g =
+          let a : n - suc k ≡ n - (k + 1) = omega arith in
+          let b : 6 * suc k ≡ 6 * k + 6 = omega arith in
+          rw (← a, ← b) g
+
+  -- no pair is done
+  pub none-done : (k : ℕ) (table : List Bool) → k ≡ n → table ≡ replicate 1024 false → (table ≡ tableOf (readList p (n - k) (6 * k))) × (fits low high (readList p (n - k) (6 * k)) ≡ true)
+  unfolding tableOf fits once
+  none-done k table e f = rw (list-none p n k (6 * k) (omega arith)) (f, all-none (inRange low high))
+
+  -- all are
+  pub all-done : (k : ℕ) (table : List Bool) → k ≡ 0 → (table ≡ tableOf (readList p (n - k) (6 * k))) × (fits low high (readList p (n - k) (6 * k)) ≡ true)
+      → (true ≡ fits low high (readList p n 0)) × (_≡_ {A = Bool} true true → table ≡ tableOf (readList p n 0))
+  all-done k table e d =
+      let q : readList p (n - k) (6 * k) ≡ readList p n 0 = rw e (simp sub-zero) in
+      (sym (rw (← q) (d .1)), λ z. rw (← q) (d .0))
+
+  -- a failure, as the loop answers it
+  pub failed : (table : List Bool) → fits low high (readList p n 0) ≡ false → (false ≡ fits low high (readList p n 0)) × (false ≡ true → table ≡ tableOf (readList p n 0))
+  failed table f = (sym f, λ z. let y : _≡_ {A = ℕ} 0 1 = cc in absurd (omega arith))
+
+  -- the pair before the k of which those after are done
+  module _ (k v : ℕ) (z : 1 ≤ k) (h : k ≤ n) (e : v ≡ u16At p (6 * (k - 1) + 4)) where
+    earlier : k - 1 < n
+    earlier = omega arith
+
+    rest-is : readList p (n - (k - 1 + 1)) (6 * (k - 1) + 6) ≡ readList p (n - k) (6 * k)
+    rest-is =
+        let a : n - (k - 1 + 1) ≡ n - k = omega arith in
+        let b : 6 * (k - 1) + 6 ≡ 6 * k = omega arith in
+        rw (a, b) refl
+
+    whole-fails : fits low high (readList p (n - (k - 1)) (6 * (k - 1))) ≡ false → fits low high (readList p n 0) ≡ false
+    whole-fails f = fails-all (k - 1) (omega arith) f
+
+    pub fails-low : v < low → fits low high (readList p n 0) ≡ false
+    unfolding fits
+    fails-low q = whole-fails (and-no (once (readList p (n - (k - 1)) (6 * (k - 1)))) _ (range-low p n (k - 1) (6 * (k - 1)) low high v earlier e q))
+
+    pub fails-high : low ≤ v → high ≤ v → fits low high (readList p n 0) ≡ false
+    unfolding fits
+    fails-high q s = whole-fails (and-no (once (readList p (n - (k - 1)) (6 * (k - 1)))) _ (range-high p n (k - 1) (6 * (k - 1)) low high v earlier e q s))
+
+    module _ (table : List Bool) (d : (table ≡ tableOf (readList p (n - k) (6 * k))) × (fits low high (readList p (n - k) (6 * k)) ≡ true)) (w : v < 1024) where
+      named : getD table v false ≡ names (readList p (n - (k - 1 + 1)) (6 * (k - 1) + 6)) v
+      named = rw (d .0, rest-is) (table-names (readList p (n - k) (6 * k)) v w)
+
+      pub fails-twice : getD table v false ≡ true → fits low high (readList p n 0) ≡ false
+      unfolding fits
+      fails-twice t = whole-fails (rw (once-stop p n (k - 1) (6 * (k - 1)) v (n - (k - 1 + 1)) earlier e refl (sym named ∙ t)) refl)
+
+      pub one-more : getD table v false ≡ false → low ≤ v → v < high
+          → (set table v true ≡ tableOf (readList p (n - (k - 1)) (6 * (k - 1)))) × (fits low high (readList p (n - (k - 1)) (6 * (k - 1))) ≡ true)
+      unfolding fits tableOf
+      one-more t q s = (
+        rw (list-turn p n (k - 1) (6 * (k - 1)) earlier, element-yard p (6 * (k - 1)), ← e, rest-is, d .0) refl,
+        rw (sym (once-next p n (k - 1) (6 * (k - 1)) v (n - (k - 1 + 1)) earlier e refl (sym named ∙ t)), sym (range-next p n (k - 1) (6 * (k - 1)) low high v earlier e q s), rest-is) (d .1),
+      )
+
+-- ---- two lists by their tables
+
+range-below : (low high : ℕ) (e : Element) → T (inRange low high e) → e .yard < high
+unfolding inRange
+range-below low high e t = ltb→lt (e .yard) high (and-right (leb low (e .yard)) _ t)
+
+-- a list's yards are below 1,024
+small : (low high : ℕ) (es : List Element) → high ≤ 1024 → all (inRange low high) es ≡ true → (other : List Element) → all (inTable (tableOf other)) es ≡ namedBy other es
+unfolding inTable namedBy
+small low high [] h a other = all-none (inTable (tableOf other)) ∙ sym (all-none (λ (x : Element). names other (x .yard)))
+small low high (e ∷ es) h a other =
+    let b : T (inRange low high e && all (inRange low high) es) = true-T (sym (all-next (inRange low high) e es) ∙ a) in
+    let c : getD (tableOf other) (e .yard) false ≡ names other (e .yard) = table-names other (e .yard) (within (and-left (inRange low high e) _ b)) in
+    let d : all (inTable (tableOf other)) es ≡ namedBy other es = small low high es h (T-eq (and-right (inRange low high e) _ b)) other in
+    all-next (inTable (tableOf other)) e es ∙ joined c d ∙ sym (all-next (λ (x : Element). names other (x .yard)) e es)
+  where
+    within : T (inRange low high e) → e .yard < 1024
+    within t = omega (arith, range-below low high e t)
+
+    T-eq : {x : Bool} → T x → x ≡ true
+    T-eq {x} t = T-true x t
+
+    joined : {a b c d : Bool} → a ≡ c → b ≡ d → (a && b) ≡ (c && d)
+    joined p q = rw (p, q) refl
+
+-- a list that fails its own test
+pub list-fails : (low high : ℕ) (ref es : List Element) → fits low high es ≡ false → sameYards low high ref es ≡ false
+unfolding fits sameYards
+list-fails low high ref es q = go (once es) (all (inRange low high) es) _ q
+  where
+    go : (a b c : Bool) → (a && b) ≡ false → (a && (b && c)) ≡ false
+    go true true c z = let y : _≡_ {A = ℕ} 0 1 = cc in absurd (omega arith)
+    go true false c z = refl
+    go false b c z = refl
+
+module _ (low high : ℕ) (ref es : List Element) (h : high ≤ 1024) (f : fits low high ref ≡ true) where
+  ref-range : all (inRange low high) ref ≡ true
+  unfolding fits
+  ref-range = T-true _ (and-right (once ref) _ (true-T f))
+
+  module _ (g : fits low high es ≡ true) where
+    es-once : once es ≡ true
+    unfolding fits
+    es-once = T-true _ (and-left (once es) _ (true-T g))
+
+    es-range : all (inRange low high) es ≡ true
+    unfolding fits
+    es-range = T-true _ (and-right (once es) _ (true-T g))
+
+    pub same-not-named : (named : List Bool) → named ≡ tableOf ref → all (inTable named) es ≡ false → sameYards low high ref es ≡ false
+    same-not-named named e q = same-to low high ref es es-once es-range (sym (small low high es h es-range ref) ∙ rw (← e) q)
+
+    pub same-by-table : (named table : List Bool) → named ≡ tableOf ref → all (inTable named) es ≡ true → table ≡ tableOf es → sameYards low high ref es ≡ all (inTable table) ref
+    same-by-table named table e q t =
+        same-from low high ref es es-once es-range (sym (small low high es h es-range ref) ∙ rw (← e) q) ∙ rw t (sym (small low high ref h ref-range es))
+
+-- ---- a list as a part of a book, from a first byte up to an end
+
+module _ (b : List ℕ) (n first : ℕ) where
+  pub part-fits : (low high : ℕ) → fits low high (readList (listPart b n first) n 0) ≡ true → fits low high (readList (take ((first + 6 * n) - first) (drop first b)) n 0) ≡ true
+  part-fits low high f = rw (list-part b n first (first + 6 * n) refl) f
+
+  pub part-table : (named : List Bool) → named ≡ tableOf (readList (listPart b n first) n 0) → named ≡ tableOf (readList (take ((first + 6 * n) - first) (drop first b)) n 0)
+  part-table named e = rw (list-part b n first (first + 6 * n) refl) e
+
+-- the test of the first list, and what it leaves
+module _ (b : List ℕ) (n m start low high : ℕ) (some : 0 < m) (r : Bool) (named : List Bool) (f e : ℕ) (ef : f ≡ start + 2) (ee : e ≡ f + 6 * n)
+    (t : r ≡ fits low high (readList (take (e - f) (drop f b)) n 0)) (w : r ≡ true → named ≡ tableOf (readList (take (e - f) (drop f b)) n 0)) where
+  part-is : take (e - f) (drop f b) ≡ listPart b n (start + 2)
+  part-is = rw (ee, ef) (list-part b n (start + 2) (start + 2 + 6 * n) refl)
+
+  pub first-fails : r ≡ false → agreeing low high (firstList (readLists b n m start)) (readLists b n m start) ≡ false
+  first-fails q =
+      let g : fits low high (readList (listPart b n (start + 2)) n 0) ≡ false = rw (← part-is) (sym t ∙ q) in
+      let z : m - 0 ≡ m = omega arith in
+      rw (← z) (agree-stop b n m 0 start low high (firstList (readLists b n (m - 0) start)) (readList (listPart b n (start + 2)) n 0) (rw z (first-list b n m start some)) some (list-fails low high (readList (listPart b n (start + 2)) n 0) (readList (listPart b n (start + 2)) n 0) g))
+
+  pub first-fits : r ≡ true → (fits low high (readList (listPart b n (start + 2)) n 0) ≡ true) × (named ≡ tableOf (readList (listPart b n (start + 2)) n 0))
+  first-fits q = (rw (← part-is) (sym t ∙ q), rw (← part-is) (w q))
+
+-- no list
+pub none-agree : (b : List ℕ) (n m start low high : ℕ) → m ≡ 0 → agreeing low high (firstList (readLists b n m start)) (readLists b n m start) ≡ true
+none-agree b n m start low high z =
+    let q : m - 0 ≡ m = omega arith in
+    rw (← q) (agree-end b n m 0 start low high (firstList (readLists b n (m - 0) start)) (omega arith))

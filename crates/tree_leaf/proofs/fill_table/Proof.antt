@@ -1,0 +1,126 @@
+use borrow.Author.Needs.{needs}
+use mathlib.Core.Path.{_≡_, refl, ap, _∙_}
+use mathlib.Core.Bool.{true, false}
+use Prim.Native.Nat.{_*_, _-_, _≤_, _<_}
+use native.Mathlib.Omega.{arith}
+use lib.ListN.{length, length-set, length-replicate}
+use Rattle.tree_layout.specs.Decode.{readList}
+use Rattle.tree_leaf.specs.Table.{tableOf, fits}
+use Rattle.tree_leaf.proofs.Table.{none-done, all-done, failed, fails-low, fails-high, fails-twice, one-more}
+use Rattle.tree_leaf.proofs.fill_table.Statement.{statement}
+use Rattle.tree_leaf.proofs.fill_table.Tie as tie
+
+abbrev Inv-loop : tie.InvT-loop
+Inv-loop p n low high table₀ k₀ table k =
+    (k ≤ n) × (length table ≡ 1024) × ((table ≡ tableOf (readList p (n - k) (6 * k))) × (fits low high (readList p (n - k) (6 * k)) ≡ true))
+
+abbrev μ-loop : tie.MeasureT-loop
+μ-loop p n low high table₀ k₀ table k = k
+
+clear-requires : tie.Need-clear-requires Inv-loop μ-loop
+clear-requires c κs = search needs
+
+loop-holds : tie.Need-loop-holds Inv-loop μ-loop
+loop-holds c =
+    let e = c .before .before .clear .ensures in
+    (omega arith, ap length e ∙ length-replicate 1024 false, none-done _ _ _ _ _ _ refl e)
+
+sub-k : tie.Need-sub-k Inv-loop μ-loop
+sub-k c = search needs
+
+mul-u16-at : tie.Need-mul-u16-at Inv-loop μ-loop
+mul-u16-at c = search needs
+
+add-u16-at : tie.Need-add-u16-at Inv-loop μ-loop
+add-u16-at c = search needs
+
+u16-at-requires : tie.Need-u16-at-requires Inv-loop μ-loop
+u16-at-requires c κs = search needs
+
+same-length : tie.Need-same-length Inv-loop μ-loop
+same-length c = search needs
+
+returns : tie.Need-returns Inv-loop μ-loop
+returns c =
+    let w = c .before in
+    let l = w .before in
+    let z : 1 ≤ l .before .loop .k = omega (arith, l .loop-test .taken) in
+    failed _ _ _ _ _ (fails-low _ _ _ _ _ _ z (l .before .loop .inv .0) (w .u16-at .ensures) (c .if1 .taken))
+
+same-length-2 : tie.Need-same-length-2 Inv-loop μ-loop
+same-length-2 c = search needs
+
+returns-2 : tie.Need-returns-2 Inv-loop μ-loop
+returns-2 c =
+    let w = c .before .before in
+    let l = w .before in
+    let z : 1 ≤ l .before .loop .k = omega (arith, l .loop-test .taken) in
+    failed _ _ _ _ _ (fails-high _ _ _ _ _ _ z (l .before .loop .inv .0) (w .u16-at .ensures) (c .before .if1 .left) (c .if2 .taken))
+
+cast-i : tie.Need-cast-i Inv-loop μ-loop
+cast-i c = search needs
+
+slice-read-if3 : tie.Need-slice-read-if3 Inv-loop μ-loop
+slice-read-if3 c = search needs
+
+same-length-3 : tie.Need-same-length-3 Inv-loop μ-loop
+same-length-3 c = search needs
+
+returns-3 : tie.Need-returns-3 Inv-loop μ-loop
+returns-3 c =
+    let e = c .before .before in
+    let w = e .before .before in
+    let l = w .before in
+    let z : 1 ≤ l .before .loop .k = omega (arith, l .loop-test .taken) in
+    let v : w .u16-at .result < 1024 = omega (arith, e .if2 .left) in
+    failed _ _ _ _ _ (fails-twice _ _ _ _ _ _ z (l .before .loop .inv .0) (w .u16-at .ensures) _ (l .before .loop .inv .2) v (c .if3 .taken))
+
+slice-write-table : tie.Need-slice-write-table Inv-loop μ-loop
+slice-write-table c = search needs
+
+loop-less : tie.Need-loop-less Inv-loop μ-loop
+loop-less c = search needs
+
+loop-again : tie.Need-loop-again Inv-loop μ-loop
+loop-again c =
+    let e = c .before .before in
+    let w = e .before .before in
+    let l = w .before in
+    let z : 1 ≤ l .before .loop .k = omega (arith, l .loop-test .taken) in
+    let v : w .u16-at .result < 1024 = omega (arith, e .if2 .left) in (
+      omega arith,
+      simp length-set (omega arith),
+      one-more _ _ _ _ _ _ z (l .before .loop .inv .0) (w .u16-at .ensures) _ (l .before .loop .inv .2) v (c .if3 .left) (e .before .if1 .left) (e .if2 .left),
+    )
+
+same-length-4 : tie.Need-same-length-4 Inv-loop μ-loop
+same-length-4 c = search needs
+
+returns-4 : tie.Need-returns-4 Inv-loop μ-loop
+returns-4 c = all-done _ _ _ _ _ _ (c .loop-test .left) (c .before .loop .inv .2)
+
+pub fill-table-spec : {M : Type 1} → statement M
+fill-table-spec =
+    tie.close
+    (tie.spec
+    Inv-loop
+    μ-loop
+    clear-requires
+    loop-holds
+    sub-k
+    mul-u16-at
+    add-u16-at
+    u16-at-requires
+    same-length
+    returns
+    same-length-2
+    returns-2
+    cast-i
+    slice-read-if3
+    same-length-3
+    returns-3
+    slice-write-table
+    loop-less
+    loop-again
+    same-length-4
+    returns-4)
