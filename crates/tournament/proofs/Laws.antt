@@ -6,6 +6,8 @@ use native.Mathlib.Decide.{ℕ-discrete, decLt, decLe}
 use native.Mathlib.Omega.{arith}
 use lib.ListN.{length, getD, set, length-set, replicate, length-replicate, getD-replicate}
 use lib.Seq.{getD-set-same, getD-set-other}
+use lib.Dec.{eqb, eqb→eq}
+use Rattle.book.proofs.Choosing.{choose-case}
 use Rattle.tournament.specs.Tournament.{lesserOf, mend, repair, putLeaf, leaf, top, Tournament}
 
 -- word j of t is the lesser of its two
@@ -45,6 +47,14 @@ higher t i p e h g j a b n = go (ℕ-discrete j p)
     go (yes q) = rw q (mends t p (omega arith) (omega arith))
     go (no q) = still t p j (lesserOf t p) q (λ e. n (omega arith)) (λ e. n (omega arith)) (g j a b (λ r. q (omega arith)))
 
+-- the word above i is right already: all are
+all-least : (t : List ℕ) (i : ℕ) → LeastBut t i → Good t (i / 2) → Least t
+all-least t i g h j a b = go (ℕ-discrete j (i / 2))
+  where
+    go : Dec (j ≡ i / 2) → Good t j
+    go (yes e) = rw e h
+    go (no n) = g j a b n
+
 -- i, f times halved
 up : ℕ → ℕ → ℕ
 up zero i = i
@@ -54,7 +64,9 @@ repaired : (f : ℕ) (t : List ℕ) (i : ℕ) → length t ≡ 2048 → up f i <
 unfolding repair up
 repaired zero t i h u g = λ j a b. g j a b (λ e. omega arith)
 repaired (suc f) t i h u g =
-    repaired f (mend t (i / 2)) (i / 2) (simp length-set h) u (higher t i (i / 2) refl h g)
+    choose-case Least (eqb (getD t (i / 2) 0) (lesserOf t (i / 2)))
+    (λ e. all-least t i g (eqb→eq (getD t (i / 2) 0) (lesserOf t (i / 2)) e))
+    (λ _. repaired f (mend t (i / 2)) (i / 2) (simp length-set h) u (higher t i (i / 2) refl h g))
 
 put-least : (t : List ℕ) (v x : ℕ) → length t ≡ 2048 → v < 1024 → Least t → Least (putLeaf t v x)
 unfolding putLeaf up
@@ -130,7 +142,10 @@ cleared-leaf x v h = getD-replicate 2048 (1024 + v) x 0 (omega arith)
 length-repair : (f : ℕ) (t : List ℕ) (i : ℕ) → length (repair f t i) ≡ length t
 unfolding repair
 length-repair zero t i = refl
-length-repair (suc f) t i = length-repair f (mend t (i / 2)) (i / 2) ∙ length-set t (i / 2) (lesserOf t (i / 2))
+length-repair (suc f) t i =
+    choose-case (λ (l : List ℕ). length l ≡ length t) (eqb (getD t (i / 2) 0) (lesserOf t (i / 2)))
+    (λ _. refl)
+    (λ _. length-repair f (mend t (i / 2)) (i / 2) ∙ length-set t (i / 2) (lesserOf t (i / 2)))
 
 pub put-length : (t : List ℕ) (v x : ℕ) → length (putLeaf t v x) ≡ length t
 unfolding putLeaf
@@ -145,7 +160,9 @@ repair-leaf : (f : ℕ) (t : List ℕ) (i w : ℕ) → i < 2048 → getD (repair
 unfolding repair
 repair-leaf zero t i w h = refl
 repair-leaf (suc f) t i w h =
-    repair-leaf f (mend t (i / 2)) (i / 2) w (omega arith) ∙ getD-set-other t (i / 2) (1024 + w) (lesserOf t (i / 2)) 0 (λ e. omega arith)
+    choose-case (λ (l : List ℕ). getD l (1024 + w) 0 ≡ getD t (1024 + w) 0) (eqb (getD t (i / 2) 0) (lesserOf t (i / 2)))
+    (λ _. refl)
+    (λ _. repair-leaf f (mend t (i / 2)) (i / 2) w (omega arith) ∙ getD-set-other t (i / 2) (1024 + w) (lesserOf t (i / 2)) 0 (λ e. omega arith))
 
 -- the leaf that was put, and every other leaf
 pub put-same : (t : List ℕ) (v x : ℕ) → v < 1024 → length t ≡ 2048 → leaf (putLeaf t v x) v ≡ x

@@ -1,18 +1,31 @@
 -- `repair`, one word at a time, as a loop counts: `10 - k` words are left. Assumes nothing.
-use mathlib.Core.Path.{_≡_, ap, _∙_}
+use mathlib.Core.Path.{_≡_, sym, ap, _∙_}
+use mathlib.Core.Logic.{_≢_}
 use mathlib.Core.List.{List}
 use Prim.Native.Nat.{ℕ, suc, _+_, _-_, _*_, _/_, _≤_, _<_, min}
 use native.Mathlib.Omega.{arith}
 use native.Mathlib.Decide.{ℕ-discrete}
 use lib.ListN.{getD, set}
-use Rattle.tournament.specs.Tournament.{lesserOf, repair}
+use lib.Dec.{eqb}
+use Rattle.book.proofs.Choosing.{choose-yes, choose-no}
+use Rattle.book.proofs.Tests.{eq→eqb, ne→neqb}
+use Rattle.tournament.specs.Tournament.{lesserOf, mend, repair}
 
 module _ (n k : ℕ) (t : List ℕ) (i r : ℕ) where
-  pub mended : k < n → r ≡ lesserOf t (i / 2) → repair (n - (k + 1)) (set t (i / 2) r) (i / 2) ≡ repair (n - k) t i
+  -- the word above changes, and those above it are left
+  pub mended : k < n → r ≡ lesserOf t (i / 2) → getD t (i / 2) 0 ≢ r → repair (n - (k + 1)) (set t (i / 2) r) (i / 2) ≡ repair (n - k) t i
   unfolding repair
-  mended p e =
+  mended p e h =
       let s : n - k ≡ suc (n - (k + 1)) = omega arith in
-      simp (s, e)
+      let no = choose-no (eqb (getD t (i / 2) 0) (lesserOf t (i / 2))) t (repair (n - (k + 1)) (mend t (i / 2)) (i / 2)) (ne→neqb _ _ (λ q. h (q ∙ sym e))) in
+      rw (s, e) (sym no)
+
+  -- it stays, and so do those above it
+  pub unmended : k < n → r ≡ lesserOf t (i / 2) → getD t (i / 2) 0 ≡ r → repair (n - k) t i ≡ t
+  unfolding repair
+  unmended p e h =
+      let s : n - k ≡ suc (n - (k + 1)) = omega arith in
+      rw s (choose-yes (eqb (getD t (i / 2) 0) (lesserOf t (i / 2))) t (repair (n - (k + 1)) (mend t (i / 2)) (i / 2)) (eq→eqb _ _ (h ∙ e)))
 
   pub all-mended : n ≤ k → repair (n - k) t i ≡ t
   unfolding repair

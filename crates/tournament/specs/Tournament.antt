@@ -3,6 +3,8 @@ use mathlib.Core.Path.{_≡_}
 use Prim.Native.Nat.{ℕ, zero, suc, _+_, _*_, _/_, min, _≤_, _<_}
 use mathlib.Core.List.{List}
 use lib.ListN.{length, getD, set}
+use lib.Dec.{eqb}
+use Rattle.book.specs.Choose.{choose}
 
 -- leaf v's word
 unfoldable pub leaf : List ℕ → ℕ → ℕ
@@ -20,10 +22,10 @@ lesserOf t p = min (getD t (2 * p) 0) (getD t (2 * p + 1) 0)
 abbrev pub mend : List ℕ → ℕ → List ℕ
 mend t p = set t p (lesserOf t p)
 
--- t with f words above word i made so, from i up
+-- t with f words above word i made so, from i up, as far as they change
 unfoldable pub repair : ℕ → List ℕ → ℕ → List ℕ
 repair zero t i = t
-repair (suc f) t i = repair f (mend t (i / 2)) (i / 2)
+repair (suc f) t i = let on = repair f (mend t (i / 2)) (i / 2) in choose (eqb (getD t (i / 2) 0) (lesserOf t (i / 2))) t on
 
 -- t with x at leaf v
 unfoldable pub putLeaf : List ℕ → ℕ → ℕ → List ℕ

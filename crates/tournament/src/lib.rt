@@ -22,7 +22,7 @@ pub fn clear(tree: &mut [u64], x: u64)
     }
 }
 
-// Stores x at leaf v, and makes each word above it the lesser of its two again.
+// Stores x at leaf v, and makes each word above it the lesser of its two again, as far as they change.
 pub fn put(tree: &mut [u64], v: usize, x: u64)
     requires { ⌜ (length (now tree) ≡ 2048) × (v < 1024) ⌝ }
     ensures { λ _. ⌜ now (tree .exit) ≡ putLeaf (now (tree .entry)) v x ⌝ }
@@ -35,6 +35,9 @@ pub fn put(tree: &mut [u64], v: usize, x: u64)
         let p = i / 2;
         let beside = 4 * p + 1 - i;
         word = lesser(word, tree[beside]);
+        if tree[p] == word {
+            return;
+        }
         tree[p] = word;
         i = p;
         k += 1;

@@ -5,7 +5,7 @@ use native.Mathlib.Omega.{arith}
 use lib.ListN.{length, getD, length-set}
 use lib.Seq.{getD-set-same}
 use Rattle.tournament.specs.Tournament.{repair, putLeaf}
-use Rattle.tournament.proofs.Mending.{mended, all-mended, beside}
+use Rattle.tournament.proofs.Mending.{mended, unmended, all-mended, beside}
 use Rattle.tournament.proofs.put.Statement.{statement}
 use Rattle.tournament.proofs.put.Tie as tie
 
@@ -48,6 +48,24 @@ slice-read-lesser c = search needs
 lesser-requires : tie.Need-lesser-requires Inv-loop μ-loop
 lesser-requires c κs = search needs
 
+mul-if1 : tie.Need-mul-if1 Inv-loop μ-loop
+mul-if1 c = search needs
+
+slice-read-if1 : tie.Need-slice-read-if1 Inv-loop μ-loop
+slice-read-if1 c = search needs
+
+same-length : tie.Need-same-length Inv-loop μ-loop
+same-length c = search needs
+
+returns : tie.Need-returns Inv-loop μ-loop
+unfolding putLeaf
+returns c =
+    let l = c .before .before .before .before .before .loop in
+    let r = c .before .before .lesser .result in
+    sym (unmended 10 (l .k) (l .tree) (l .i) r (omega arith)
+    (beside (l .tree) (l .i) _ _ _ _ r refl refl (l .inv .3) refl (c .before .before .lesser .ensures)) (c .if1 .taken))
+    ∙ l .inv .4
+
 mul-tree-2 : tie.Need-mul-tree-2 Inv-loop μ-loop
 mul-tree-2 c = search needs
 
@@ -62,21 +80,22 @@ loop-less c = search needs
 
 loop-again : tie.Need-loop-again Inv-loop μ-loop
 loop-again c =
-    let l = c .before .before .before .loop in (
+    let l = c .before .before .before .before .before .loop in
+    let r = c .before .before .lesser .result in (
       omega arith,
       omega arith,
       simp length-set (omega arith),
-      sym (getD-set-same (l .tree) (l .i / 2) (c .lesser .result) 0 (omega arith)),
-      mended 10 (l .k) (l .tree) (l .i) (c .lesser .result) (omega arith)
-          (beside (l .tree) (l .i) _ _ _ _ (c .lesser .result) refl refl (l .inv .3) refl (c .lesser .ensures)) ∙ l .inv .4,
+      sym (getD-set-same (l .tree) (l .i / 2) r 0 (omega arith)),
+      mended 10 (l .k) (l .tree) (l .i) r (omega arith)
+          (beside (l .tree) (l .i) _ _ _ _ r refl refl (l .inv .3) refl (c .before .before .lesser .ensures)) (c .if1 .left) ∙ l .inv .4,
     )
 
-same-length : tie.Need-same-length Inv-loop μ-loop
-same-length c = search needs
+same-length-2 : tie.Need-same-length-2 Inv-loop μ-loop
+same-length-2 c = search needs
 
-returns : tie.Need-returns Inv-loop μ-loop
+returns-2 : tie.Need-returns-2 Inv-loop μ-loop
 unfolding putLeaf
-returns c =
+returns-2 c =
     let l = c .before .loop in
     sym (all-mended 10 (l .k) (l .tree) (l .i) 0 (omega arith)) ∙ l .inv .4
 
@@ -96,10 +115,14 @@ put-spec =
     mul-lesser
     slice-read-lesser
     lesser-requires
+    mul-if1
+    slice-read-if1
+    same-length
+    returns
     mul-tree-2
     slice-write-tree-2
     add-k
     loop-less
     loop-again
-    same-length
-    returns)
+    same-length-2
+    returns-2)
