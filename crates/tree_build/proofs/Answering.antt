@@ -1,13 +1,13 @@
 -- What a build answers for what its steps found, and the areas after it. Assumes nothing.
-use mathlib.Core.Path.{_≡_, refl, sym, ap, _∙_}
+use mathlib.Core.Path.{_≡_, sym, ap, _∙_}
 use mathlib.Core.Logic.{_≢_}
 use mathlib.Core.List.{List}
-use Prim.Native.Nat.{ℕ, zero, suc, _≤_, _<_}
+use Prim.Native.Nat.{ℕ, _≤_, _<_}
 use native.Mathlib.Omega.{arith}
 use lib.ListN.{length}
 use lib.Dec.{leb, eqb, leb→le}
 use borrow.Author.Tests.{le-leb, lt-leb}
-use Rattle.book.specs.Choose.{choose, refuse, firstOf}
+use Rattle.book.specs.Choose.{refuse, firstOf}
 use Rattle.book.specs.Writing.{write}
 use Rattle.book.proofs.Choosing.{passes-if, fails-if, passed, first-earlier, first-later, first-none, choose-yes, choose-no}
 use Rattle.book.proofs.Lists.{eq→eqb, ne→neqb}

@@ -1,18 +1,15 @@
 -- An accepted call is in the limits of building, so that what is proved of a cut tree holds of its tree. Assumes nothing.
-use mathlib.Core.Path.{_≡_, refl, sym, ap, _∙_}
-use mathlib.Core.List.{List, List·Memᴰ as Mem}
-use Prim.Native.Nat.{ℕ, _+_, _*_, _≤_, _<_}
+use mathlib.Core.Path.{_≡_, refl, sym, _∙_}
+use mathlib.Core.List.{List}
+use Prim.Native.Nat.{ℕ, _+_, _≤_, _<_}
 use native.Mathlib.Omega.{arith}
-use lib.ListN.{length, getD}
+use lib.ListN.{length}
 use Rattle.book.proofs.Lists.{mem-getD}
 use Rattle.road_layout.specs.Road.{junctions}
-use Rattle.road.specs.Dijkstra.{dist}
 use Rattle.road.proofs.Theorems.{passing, metric}
 use Rattle.yard.specs.Yards.{yardCount, yardsOf, yardRefusal}
 use Rattle.yard.proofs.YardLayout.{layout, passes-alone, rising-yards, count-small, yards-inside}
-use Rattle.tree_layout.specs.Values.{Region, Tree}
 use Rattle.tree_truth.specs.Truth.{within}
-use Rattle.cut_tree.specs.Cut.{Given, cut, cutTree}
 use Rattle.cut_tree.specs.Facts.{InLimits, Built}
 use Rattle.cut_tree.proofs.Parts.{within-all}
 use Rattle.cut_tree.proofs.Steps.{tree-junctions, tree-yards, tree-landmarks, tree-regions}
@@ -24,7 +21,7 @@ use Rattle.tree_records.proofs.Fields.{given-d, given-landmarks, given-limit}
 use Rattle.tree_cutting.specs.Cutting.{rangeRegions}
 use Rattle.tree_cutting.proofs.Cases.{range-cut}
 use Rattle.tree_build.specs.Build.{treeBytes, builtTree}
-use Rattle.tree_build.specs.Facts.{InRange, Accepted}
+use Rattle.tree_build.specs.Facts.{Accepted}
 
 module _ (road yard : List ℕ) (m limit words room : ℕ) (acc : Accepted road yard m limit words room) where
   alone : yardRefusal yard ≡ 0

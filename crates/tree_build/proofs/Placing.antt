@@ -1,24 +1,23 @@
 -- The regions written after the place of the header, and the header before them, are the tree's book. Assumes nothing.
 use mathlib.Core.Path.{_≡_, refl, sym, ap, _∙_}
-use mathlib.Core.List.{List, [], _∷_, _++_, append-assoc}
-use Prim.Native.Nat.{ℕ, _+_, _-_, _*_, _≤_, _<_}
+use mathlib.Core.List.{List, _∷_, _++_, append-assoc}
+use Prim.Native.Nat.{ℕ, _+_, _-_, _≤_, _<_}
 use native.Mathlib.Omega.{arith}
 use lib.ListN.{length}
 use Rattle.book.specs.Bytes.{u16At}
 use Rattle.book.specs.Writing.{u16Bytes, u32Bytes, write}
 use Rattle.road_layout.specs.Road.{junctions}
 use Rattle.road_layout.proofs.Roads.{read-junctions}
-use Rattle.yard.specs.Yards.{yardCount}
 use Rattle.yard.proofs.YardLayout.{read-count}
 use Rattle.tree_layout.specs.Values.{Tree}
 use Rattle.tree_encode.specs.Encode.{encodeRegions, encodeBody, encode}
 use Rattle.tree_encode.proofs.Sizes.{body-length, encode-length, encode-is}
 use Rattle.tree_parts.specs.Parts.{Written}
 use Rattle.tree_cutting.specs.Cutting.{rangeRegions}
-use Rattle.tree_build.specs.Build.{treeBytes, builtTree, treeHeader}
+use Rattle.tree_build.specs.Build.{builtTree, treeHeader}
 use Rattle.tree_build.specs.Facts.{Accepted}
 use Rattle.tree_build.proofs.Heading.{header-length, write-before}
-use Rattle.tree_build.proofs.Limits.{few-junctions, some-junction, its-junctions, its-yards, its-landmarks, its-regions, its-length, short, few-regions, regions-fit}
+use Rattle.tree_build.proofs.Limits.{some-junction, its-junctions, its-yards, its-landmarks, its-regions, its-length, short, few-regions, regions-fit}
 
 -- a tree's book is its header, then its regions
 header-then : (count j r y m : ℕ) (rest : List ℕ)

@@ -3,14 +3,13 @@ use mathlib.Core.Path.{_≡_, refl, sym, ap, _∙_}
 use mathlib.Core.Logic.{_⊎_, inl, inr, _≢_, _↔_}
 use mathlib.Core.Bool.{true}
 use mathlib.Core.List.{List, [], _∷_, List·Memᴰ as Mem}
-use Prim.Native.Nat.{ℕ, zero, suc, _≤_, _<_}
+use Prim.Native.Nat.{ℕ, _≤_, _<_}
 use native.Mathlib.Omega.{arith}
-use lib.ListN.{length, take, drop}
-use Rattle.book.specs.Choose.{refuse, firstOf}
+use lib.ListN.{length}
 use Rattle.book.specs.Writing.{write}
 use Rattle.book.specs.Bytes.{Bytes}
-use Rattle.book.proofs.Choosing.{refuse-case, first-case, first-earlier, first-later, lt-or-ge}
-use Rattle.work_area.specs.Work.{workWords, workRefusal, zeroed, workAfter}
+use Rattle.book.proofs.Choosing.{refuse-case, first-case, first-earlier, lt-or-ge}
+use Rattle.work_area.specs.Work.{workWords, workRefusal}
 use Rattle.work_area.proofs.Zeroing.{work-short, work-enough, accepted-zeroed}
 use Rattle.road_layout.specs.Road.{junctions}
 use Rattle.road.specs.Dijkstra.{dist}
@@ -25,18 +24,16 @@ use Rattle.tree.specs.Facts.{Preorder}
 use Rattle.tree_truth.specs.Truth.{trueTree}
 use Rattle.tree_truth.specs.Facts.{Same}
 use Rattle.tree_encode.specs.Encode.{encode}
-use Rattle.cut_tree.specs.Facts.{Rule}
 use Rattle.cut_tree.proofs.Theorems.{building-rule}
 use Rattle.tree_records.specs.Given.{given}
 use Rattle.tree_records.proofs.Fields.{given-d, given-limit}
 use Rattle.tree_check.specs.Check.{checkAnswer}
-use Rattle.tree_check.specs.Facts.{Laid}
 use Rattle.tree_check.proofs.Theorems.{true-passes}
-use Rattle.tree_build.specs.Build.{treeBytes, rangeRefusal, roomRefusal, buildAnswer, builtTree, builtLength, treeAfter}
+use Rattle.tree_build.specs.Build.{rangeRefusal, roomRefusal, buildAnswer, builtTree, builtLength, treeAfter}
 use Rattle.tree_build.specs.Facts.{InRange, Areas, Accepted, Refusals, Kept, writtenBook, Writes, BuildExact}
 use Rattle.tree_build.proofs.Heading.{written-front, written-rest, written-whole}
 use Rattle.tree_build.proofs.Limits.{built-tree, its-junctions, short}
-use Rattle.tree_build.proofs.Answering.{range-facts, facts-range, room-facts, long-enough, accepted-facts, facts-accepted, call-tests, area-tests, road-turned, yard-turned, turned-length, turned-work, turned-tree, taken-length, taken-work, taken-tree}
+use Rattle.tree_build.proofs.Answering.{range-facts, facts-range, room-facts, long-enough, accepted-facts, facts-accepted, call-tests, area-tests, road-turned, yard-turned, turned-length, turned-work, turned-tree, taken-length, taken-tree}
 
 -- ---- which calls are turned back
 

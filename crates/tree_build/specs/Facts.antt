@@ -2,17 +2,15 @@
 use mathlib.Core.Path.{_≡_}
 use mathlib.Core.Logic.{_↔_, _≢_}
 use mathlib.Core.List.{List, [], _∷_, _++_, List·Memᴰ as Mem}
-use Prim.Native.Nat.{ℕ, _≤_, _<_}
+use Prim.Native.Nat.{ℕ, _≤_}
 use lib.ListN.{length, take, drop}
 use Rattle.book.specs.Bytes.{Bytes}
 use Rattle.work_area.specs.Work.{workWords, zeroed, workAfter}
 use Rattle.road_layout.specs.Road.{junctions}
-use Rattle.road.specs.Facts.{Passing}
 use Rattle.road.specs.Refusal.{roadRefusal}
-use Rattle.yard.specs.Yards.{yardsOf, yardRefusalIn}
+use Rattle.yard.specs.Yards.{yardRefusalIn}
 use Rattle.tree_layout.specs.Values.{Region}
 use Rattle.tree_layout.specs.Decode.{decode}
-use Rattle.tree.specs.Shape.{treeRefusal}
 use Rattle.tree.specs.Facts.{Preorder}
 use Rattle.tree_encode.specs.Encode.{encode}
 use Rattle.cut_tree.specs.Facts.{Rule}

@@ -1,9 +1,9 @@
 -- The cases of cutting a range of a yard book: a leaf, or a parent and parts; a part without yards, or with some. Assumes nothing.
 use mathlib.Core.Path.{_≡_, refl, sym, ap, _∙_}
 use mathlib.Core.Logic.{_⊎_, inl, inr, _≢_}
-use mathlib.Core.Bool.{Bool, true, false, not, _||_}
+use mathlib.Core.Bool.{true, false, _||_}
 use mathlib.Core.List.{List, [], _∷_, _++_}
-use Prim.Native.Nat.{ℕ, zero, suc, _+_, _-_, _*_, _≤_, _<_}
+use Prim.Native.Nat.{ℕ, zero, suc, _+_, _-_, _<_}
 use native.Mathlib.Decide.{ℕ-discrete}
 use native.Mathlib.Numerals.{add-one}
 use native.Mathlib.Omega.{arith}
@@ -14,7 +14,7 @@ use Rattle.book.proofs.Lists.{or-left, or-right, or-cases, eq→eqb}
 use Rattle.yard.specs.Yards.{yardsOf, yardRefusal}
 use Rattle.tree_layout.specs.Values.{Region}
 use Rattle.tree_truth.specs.Truth.{within}
-use Rattle.cut_tree.specs.Cut.{Given, leafRegion, innerRegion, cutAt, part, partCount, partRegions, cut}
+use Rattle.cut_tree.specs.Cut.{Given, leafRegion, cutAt, part, partCount, partRegions, cut}
 use Rattle.cut_tree.proofs.Parts.{Rising, within-rising, within-none, within-split, cut-first, cut-last, cut-rise, cut-top, part-is, count-drop, count-keep, regions-drop, regions-keep, regions-none}
 use Rattle.cut_tree.proofs.Steps.{within-nested, part-within, cut-none, cut-leaf, cut-one, cut-many}
 use Rattle.tree_records.specs.Given.{given}

@@ -1,5 +1,5 @@
 -- A leaf alone, or the record of a range that is cut: its bytes and its room. Assumes nothing.
-use mathlib.Core.Path.{_≡_, refl, sym, ap, _∙_}
+use mathlib.Core.Path.{_≡_, refl, _∙_}
 use mathlib.Core.Logic.{_≢_}
 use mathlib.Core.Bool.{Bool}
 use mathlib.Core.List.{List, [], _∷_}
@@ -7,13 +7,10 @@ use Prim.Native.Nat.{ℕ, _+_, _*_, _≤_, _<_}
 use native.Mathlib.Omega.{arith}
 use lib.ListN.{length}
 use lib.Dec.{eqb}
-use Rattle.book.specs.Choose.{choose}
 use Rattle.book.specs.Writing.{write}
 use Rattle.book.proofs.Choosing.{choose-yes, choose-no}
 use Rattle.book.proofs.Lists.{eq→eqb, ne→neqb}
 use Rattle.road.specs.Adjacency.{Links}
-use Rattle.road.specs.Queue.{Roomy}
-use Rattle.tree_layout.specs.Values.{Region}
 use Rattle.tree_encode.specs.Encode.{encodeRegion, encodeRegions}
 use Rattle.cut_tree.specs.Cut.{leafRegion, innerRegion}
 use Rattle.tree_records.specs.Given.{given}
@@ -24,7 +21,8 @@ use Rattle.tree_parts.proofs.Joining.{one-bytes, written-none, written-
 -- arrays of the same lengths serve as well
 pub ready-kept : (b yb : List ℕ) (l : Links) (ds : List ℕ) (done : List Bool) (queue list : List ℕ) (ds′ : List ℕ) (done′ : List Bool)
     (queue′ list′ : List ℕ)
-    → Ready b yb l ds done queue list → length ds′ ≡ length ds → length done′ ≡ length done → length queue′ ≡ length queue → length list′ ≡ length list → Ready b yb l ds′ done′ queue′ list′
+    → Ready b yb l ds done queue list → length ds′ ≡ length ds → length done′ ≡ length done → length queue′ ≡ length queue
+    → length list′ ≡ length list → Ready b yb l ds′ done′ queue′ list′
 ready-kept b yb l ds done queue list ds′ done′ queue′ list′ r e f g h = record {
   adjacency = r .adjacency;
   few = r .few;

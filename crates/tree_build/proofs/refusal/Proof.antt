@@ -1,4 +1,4 @@
-use mathlib.Core.Path.{_≡_, sym, _∙_}
+use mathlib.Core.Path.{_∙_}
 use Rattle.tree_build.proofs.Answering.{build-road, build-yard, build-range, build-work, build-room, build-passes}
 use borrow.Author.Needs.{needs}
 use Rattle.tree_build.proofs.refusal.Statement.{statement}
