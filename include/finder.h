@@ -1,14 +1,14 @@
 /* The meeting-yard finder, for C. Link with libfinder.a, which `rt staticlib finder` writes to target/staticlib.
  *
- * What is lent. A call is lent byte areas (books) and word areas as a pointer and a count: of bytes for a book or a tree that is built,
- * of 32-bit words for the work area. No pointer is NULL, also where the count is 0, and each is aligned for its type. An area that the
- * call may write overlaps no other area of the call. All is lent for the time of the call only: nothing is kept, nothing is allocated, and nothing outside
- * the lent areas is read or written. Books are only read; they may hold any bytes. Calls may run at the same time if no area that
- * one of them writes is lent to another.
+ * What is lent. A call is lent byte areas (books, and the area that a tree is built into) and word areas as a pointer and a count: of
+ * bytes, or of 32-bit words for the work area. No pointer is NULL, also where the count is 0, and each is aligned for its type. An
+ * area that a call writes (work, a built tree's) overlaps no other area of the call. All is lent for the time of the call only:
+ * nothing is kept, nothing is allocated, and nothing outside the lent areas is read or written. Books are only read; they may hold
+ * any bytes. Calls may run at the same time if no area that one of them writes is lent to another.
  *
  * What comes back. The refusal is 0 if the call is accepted. Otherwise it is the number below of the first test that failed, every
- * other field that is returned is 0, and no lent byte or word has changed. Books are tested in the order road, yard, tree, each through all of its tests; then the
- * call's numbers and areas.
+ * other field is 0, and no lent byte or word has changed. Books are tested in the order road, yard, tree, each through all of its
+ * tests; then the call's numbers, then the areas.
  *
  *    1  fewer than five bytes, or the length is not the count of the bytes after it
  *    2  the version is not 1
@@ -50,8 +50,8 @@ struct finder_built {
     uint32_t length; /* of the tree, in bytes */
 };
 
-/* Builds the tree of a road book and a yard book into the area, with m landmarks for each region and at most leaf_limit yards in a leaf,
- * and returns its length. The tree passes the check beside the two books; the bytes of the area after it stay as they were. */
+/* Writes the tree book of the roads and yards, with m landmarks for each region and leaves of at most leaf_limit yards. The tree passes
+ * the check; the bytes of the area after it stay as they were. */
 struct finder_built finder_build(const uint8_t *road, size_t road_len, const uint8_t *yard, size_t yard_len,
                                  uint32_t m, uint32_t leaf_limit, uint32_t *work, size_t work_len,
                                  uint8_t *tree, size_t tree_len);

@@ -1,8 +1,9 @@
 -- The demands are kept. Assumes nothing.
-use mathlib.Core.Path.{_≡_}
-use mathlib.Core.Logic.{_↔_}
+use mathlib.Core.Path.{_≡_, refl, _∙_}
+use mathlib.Core.Logic.{_↔_, _≢_}
 use mathlib.Core.List.{List}
-use Prim.Native.Nat.{ℕ, _≤_}
+use Prim.Native.Nat.{ℕ, zero, suc, _*_, _≤_, _<_}
+use native.Mathlib.Decide.{decLe}
 use native.Mathlib.Omega.{arith}
 use lib.ListN.{length}
 use Rattle.work_area.specs.Work.{workWords}
@@ -20,7 +21,14 @@ use Rattle.tree_check.proofs.Theorems.{check-exact}
 use Rattle.tree_check.proofs.Turning.{road-first, yard-next, tree-next, counts-next, yards-next, numbers-next, work-next, none-turned}
 use Rattle.tree_build.specs.Build.{buildAnswer}
 use Rattle.tree_build.proofs.Theorems.{build-refusals, build-exact}
-use Rattle.finder.specs.Promises.{SoundBooks, SoundTree, FirstRefusal, Accepted, CheckSafe, CheckTrue, FirstBuildRefusal, BuildAccepted, BuildSafe, BuildTrue}
+use Rattle.query.specs.Query.{wantedOf, queryRefusal, QueryLayout}
+use Rattle.query.proofs.Reading.{query-exact}
+use Rattle.search_call.specs.Call.{Call, Areas, treeRefusalIn, areasRefusal, foundOn}
+use Rattle.search_call.proofs.Refusing.{tree-turned-back, counts-differ, counts-agree, short-work, short-results, long-enough, by-road, by-tree, by-query, by-areas}
+use Rattle.search_call.proofs.Calls.{on-number, on-refused, on-tests, work-zeroed, areas-kept}
+use Rattle.search_call.proofs.Demand.{demand-3, any-tree}
+use Rattle.search_call.proofs.Lists.{work-unread}
+use Rattle.finder.specs.Promises.{SoundBooks, SoundTree, FirstRefusal, Accepted, CheckSafe, CheckTrue, FirstBuildRefusal, BuildAccepted, BuildSafe, BuildTrue, SearchAreas, FirstSearchRefusal, SearchAccepted, SearchSafe, SearchesTrue, SearchesDecided}
 
 -- ---- sound books are those that no test turns back
 
@@ -119,3 +127,85 @@ build-true road yard m limit work tree b i a =
     let z = build-accepted road yard m limit (length work) (length tree) .1 (record { books = b; range = i; areas = a }) in
     let w = build-exact road yard m limit work tree .accepted z in
     record { one = w .one; cuts = w .rule; size = w .size; short = omega (arith, w .size, w .short); passes = w .passes; back = w .back }
+
+-- ---- demand 1, of search
+
+some : (n : ℕ) → n ≢ 0 → 1 ≤ n
+some zero h = absurd (h refl)
+some (suc n) h = omega arith
+
+module _ (c : Call) (a : Areas) where
+  abbrev road : List ℕ
+  road = c .road
+
+  abbrev tree : List ℕ
+  tree = c .tree
+
+  abbrev query : List ℕ
+  query = c .query
+
+  abbrev words : ℕ
+  words = length (a .work)
+
+  abbrev room : ℕ
+  room = length (a .results)
+
+  agree : SoundTree (c .road) (c .tree) → treeRefusalIn (c .tree) (junctions (c .road)) ≡ 0
+  agree s = counts-agree tree (junctions road) (sound-tree road tree s) (s .counts)
+
+  -- 12, unless both areas are long enough
+  short : (SearchAreas (c .query) (length (a .work)) (length (a .results)) → ⊥) → areasRefusal (wantedOf (c .query)) (length (a .work)) (length (a .results)) ≡ 12
+  short h = go (decLe workWords words) (decLe (2 * wantedOf query) room)
+    where
+      go : Dec (workWords ≤ words) → Dec (2 * wantedOf query ≤ room) → areasRefusal (wantedOf query) words room ≡ 12
+      go (no p) q = short-work (wantedOf query) words room (omega arith)
+      go (yes p) (no q) = short-results (wantedOf query) words room p (omega arith)
+      go (yes p) (yes q) = absurd (h (record { work = p; results = q }))
+
+  first-search-refusal : FirstSearchRefusal (c .road) (c .tree) (c .query) (length (a .work)) (length (a .results)) (foundOn c a .refusal)
+  first-search-refusal = record {
+    by-road = λ h. on-number c a ∙ by-road road tree query words room (some _ h);
+    by-tree = λ p h.
+        let e = tree-turned-back tree (junctions road) (some _ h) in
+        on-number c a ∙ (by-tree road tree query words room (passing-exact road .1 p) (omega (arith, e, some _ h)) ∙ e);
+    by-counts = λ p f h.
+        let e = counts-differ tree (junctions road) (accepted-iff tree .1 f) h in
+        on-number c a ∙ (by-tree road tree query words room (passing-exact road .1 p) (omega (arith, e)) ∙ e);
+    by-query = λ p s h. on-number c a ∙ by-query road tree query words room (passing-exact road .1 p) (agree s) (some _ h);
+    by-areas = λ p s q h.
+        on-number c a ∙ (by-areas road tree query words room (passing-exact road .1 p) (agree s) (query-exact query (junctions road) .1 q) ∙ short h);
+  }
+
+  search-accepted : (foundOn c a .refusal ≡ 0) ↔ SearchAccepted (c .road) (c .tree) (c .query) (length (a .work)) (length (a .results))
+  search-accepted = (there, back)
+    where
+      there : foundOn c a .refusal ≡ 0 → SearchAccepted road tree query words room
+      there e =
+          let t = on-tests c a e in
+          record {
+            roads = passing-exact road .0 (t .roads);
+            tree-sound = record { facts = accepted-iff tree .0 (t .shape); counts = t .counts };
+            asked = t .asked;
+            areas = record { work = t .work-full; results = t .results-full };
+          }
+
+      back : SearchAccepted road tree query words room → foundOn c a .refusal ≡ 0
+      back s =
+          on-number c a ∙ (by-areas road tree query words room (passing-exact road .1 (s .roads)) (agree (s .tree-sound)) (query-exact query (junctions road) .1 (s .asked))
+          ∙ long-enough (wantedOf query) words room (s .areas .work) (s .areas .results))
+
+pub search-safe : SearchSafe
+search-safe c a = record {
+  refused = first-search-refusal c a;
+  accepted = search-accepted c a;
+  kept = λ h. (on-refused c a h, areas-kept c a h);
+  emptied = work-zeroed c a;
+}
+
+-- ---- demand 3
+
+pub searches-true : SearchesTrue
+searches-true = demand-3
+
+pub searches-decided : SearchesDecided
+searches-decided = (any-tree, work-unread)

@@ -1,12 +1,13 @@
 -- What the calls promise, to be held against the mission's words and the paper's. Assumes nothing: these are statements.
 --
--- A call is lent books, lists of bytes, and a work area, a list of words; a build also the area of its tree. The contracts in src/lib.rt say that a check
--- answers `checkAnswer` of them, that a build answers `buildAnswer` and `builtLength` and leaves `treeAfter` in the tree's area, and that both leave `workAfter`
--- in the work area; the statements here are about these, for all lists.
+-- A call is lent books, lists of bytes, and a work area, a list of words; a build also the area of its tree, and a search a result area of words. The contracts in
+-- src/lib.rt say that a check answers `checkAnswer` of them, that a build answers `buildAnswer` and `builtLength` and leaves `treeAfter` in the tree's area, that a
+-- search answers `searchFound` and leaves `resultsAfter` in the result area, and that each leaves `workAfter` in the work area; the statements here are about these,
+-- for all lists.
 use mathlib.Core.Path.{_≡_}
 use mathlib.Core.Logic.{_≢_, _↔_}
 use mathlib.Core.List.{List, _++_}
-use Prim.Native.Nat.{ℕ, _≤_, _<_}
+use Prim.Native.Nat.{ℕ, _*_, _≤_, _<_}
 use lib.ListN.{length, drop}
 use Rattle.work_area.specs.Work.{workWords, zeroed, workAfter}
 use Rattle.road_layout.specs.Road.{junctions}
@@ -24,6 +25,9 @@ use Rattle.tree_check.specs.Facts.{HoldsEach, TrueTotals}
 use Rattle.tree_records.specs.Given.{given}
 use Rattle.tree_build.specs.Build.{treeBytes, buildAnswer, builtTree, builtLength, treeAfter}
 use Rattle.tree_build.specs.Facts.{InRange, Areas, writtenBook}
+use Rattle.query.specs.Query.{wantedOf, queryRefusal, QueryLayout}
+use Rattle.search_call.specs.Call.{Call, Found, foundOn, callOn, Areas as Lent, refused as refusedWith}
+use Rattle.search_call.specs.Demand.{Promised, OfBytes, AnyTree, WorkUnread}
 
 -- ---- sound books
 
@@ -154,3 +158,55 @@ pub record BuildWrites (road yard : List ℕ) (m limit : ℕ) (work tree : List 
 abbrev pub BuildTrue : Type 0
 BuildTrue = (road yard : List ℕ) (m limit : ℕ) (work tree : List ℕ) → SoundBooks road yard → InRange m limit → Areas (length work) (length tree)
     → BuildWrites road yard m limit work tree
+
+-- ---- demand 1, of search
+
+-- "work below 16,384 words, results below 2 × k words": both areas are long enough
+pub record SearchAreas (query : List ℕ) (words room : ℕ) : Type 0 where
+  pub work : workWords ≤ words
+  pub results : 2 * wantedOf query ≤ room
+
+-- "Turned back, in this order": the refusal of a search is the number of the first test that fails
+pub record FirstSearchRefusal (road tree query : List ℕ) (words room answer : ℕ) : Type 0 where
+  -- "Books are tested in the order road, .., tree, query": 1 to 6, of the road book
+  pub by-road : roadRefusal road ≢ 0 → answer ≡ roadRefusal road
+  -- of the tree book 1 to 5, and 7
+  pub by-tree : Passing road → treeRefusal tree ≢ 0 → answer ≡ treeRefusal tree
+  -- 8: "Junction counts .. disagree between books"
+  pub by-counts : Passing road → TreeFacts tree → junctionCount tree ≢ junctions road → answer ≡ 8
+  -- of the query book 1 to 4, 10 and 11
+  pub by-query : Passing road → SoundTree road tree → queryRefusal query (junctions road) ≢ 0 → answer ≡ queryRefusal query (junctions road)
+  -- 12: "A lent area is too short"
+  pub by-areas : Passing road → SoundTree road tree → QueryLayout query (junctions road) → (SearchAreas query words room → ⊥) → answer ≡ 12
+
+-- what holds whenever a search's refusal is 0
+pub record SearchAccepted (road tree query : List ℕ) (words room : ℕ) : Type 0 where
+  pub roads : Passing road
+  pub tree-sound : SoundTree road tree
+  pub asked : QueryLayout query (junctions road)
+  pub areas : SearchAreas query words room
+
+-- a search's answer, and both areas before and after
+pub record SearchKept (c : Call) (a : Lent) (found : Found) (after : Lent) : Type 0 where
+  pub refused : FirstSearchRefusal (c .road) (c .tree) (c .query) (length (a .work)) (length (a .results)) (found .refusal)
+  pub accepted : (found .refusal ≡ 0) ↔ SearchAccepted (c .road) (c .tree) (c .query) (length (a .work)) (length (a .results))
+  -- "A refusal returns its number, with every other returned field 0, and changes no lent byte or word."
+  pub kept : found .refusal ≢ 0 → (found ≡ refusedWith (found .refusal)) × (after ≡ a)
+  -- "zero the first 16,384 words of the work area and leave any after them"
+  pub emptied : found .refusal ≡ 0 → after .work ≡ zeroed workWords (a .work)
+
+abbrev pub SearchSafe : Type 0
+SearchSafe = (c : Call) (a : Lent) → SearchKept c a (foundOn c a) (callOn c a)
+
+-- ---- demand 3
+--
+-- Any list of searches on one work area and one result area, which hold anything at first: each is given both areas as the one before left them, and brings its own
+-- books. `Promised` (crates/search_call/specs/Demand.antt) has the demand's four sentences: a settled search on a tree that passes lists exactly the first k yards;
+-- none of these measured a yard whose bound exceeds the last listed distance of a full list; enough steps always settle; at the end the result area is what it held
+-- at first with all the settled lists written over its start in turn. A tree book is asked to be of bytes, which a lent book is.
+abbrev pub SearchesTrue : Type 0
+SearchesTrue = (calls : List Call) → OfBytes calls → (first : Lent) → Promised calls first
+
+-- Beside it: what holds of every search, on a tree that "check would refuse by 9" too, and that the work area's contents never matter.
+abbrev pub SearchesDecided : Type 0
+SearchesDecided = AnyTree × WorkUnread
