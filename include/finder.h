@@ -23,7 +23,7 @@
  *   12  a lent area is too short: work below FINDER_WORK_WORDS words, a built tree's area below FINDER_TREE_BYTES bytes
  *
  * The work area may hold anything. An accepted call leaves its first FINDER_WORK_WORDS words 0 and the rest as they were.
- * A call needs at most FINDER_STACK_BYTES bytes of stack. Measured on x86-64: 84,744 for a check.
+ * A call needs at most FINDER_STACK_BYTES bytes of stack. Measured on x86-64: 154,200 for a check, 150,136 for a build.
  */
 #ifndef FINDER_H
 #define FINDER_H
