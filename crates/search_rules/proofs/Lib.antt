@@ -12,11 +12,14 @@ pub mod Level
 pub mod Fitting
 pub mod Trees
 pub mod Books
+pub mod Few
 pub mod Theorems
 pub mod Asked
 pub mod Walks
 pub mod Turns
 pub mod Equations
+pub mod Steps
+pub mod Taking
 pub mod Measures
 pub mod Vectors
 pub mod Example

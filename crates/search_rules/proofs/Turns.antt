@@ -10,12 +10,12 @@ use lib.Seq.{take-suc, ext-getD, getD-set-same, getD-set-other}
 use lib.Dec.{T, ltb, ltb→lt}
 use Rattle.book.specs.Choose.{choose}
 use Rattle.book.proofs.Choosing.{choose-case, choose-yes, choose-no}
-use Rattle.tree_layout.specs.Values.{Element, Mark}
+use Rattle.tree_layout.specs.Values.{Element, Mark, lastFrom}
 use Rattle.tree_layout.specs.Refusal.{comes}
 use Rattle.search_rules.specs.Instance.{Instance}
 use Rattle.search_rules.specs.Bounds.{combine, aggregate, greatestOf, leastFrom, leastOf, noMark, weight, best, bestOf, f}
 use Rattle.search_rules.specs.Queue.{unqueued, wordAt, pick}
-use Rattle.search_rules.specs.Held.{insert}
+use Rattle.search_rules.specs.Held.{insert, hold, greatestHeld}
 use Rattle.search_rules.specs.Step.{left, noElement, waiting, step, settled, start}
 use Rattle.search_rules.specs.Run.{Outcome, words, advance, run}
 use Rattle.search_rules.proofs.Choices.{choose-two}
@@ -85,6 +85,22 @@ module _ (i : Instance) where
 
 -- ---- held yards
 
+pub insert-none : (e : Element) → insert e [] ≡ e ∷ []
+unfolding insert
+insert-none e = refl
+
+pub insert-more : (e h : Element) (hs : List Element) → insert e (h ∷ hs) ≡ choose (comes e h) (e ∷ h ∷ hs) (h ∷ insert e hs)
+unfolding insert
+insert-more e h hs = refl
+
+pub hold-is : (k : ℕ) (e : Element) (held : List Element) → hold k e held ≡ take k (insert e held)
+unfolding hold
+hold-is k e held = refl
+
+pub greatest-is : (held : List Element) → greatestHeld held ≡ lastFrom 0 held
+unfolding greatestHeld
+greatest-is held = refl
+
 -- an insertion as one pass that carries an element: from where it belongs on, each place takes what is carried and its own is carried on
 unfoldable pub carried : Bool → Element → List Element → List Element
 carried placed c [] = c ∷ []
@@ -109,6 +125,12 @@ unfolding wordAt
 word-at [] j d h = absurd (omega arith)
 word-at (w ∷ ws) zero d h = refl
 word-at (w ∷ ws) (suc j) d h = word-at ws j d (omega arith)
+
+pub word-past : (ws : List ℕ) (j : ℕ) → length ws ≤ j → wordAt ws j ≡ unqueued
+unfolding wordAt
+word-past [] j h = refl
+word-past (w ∷ ws) zero h = absurd (omega arith)
+word-past (w ∷ ws) (suc j) h = word-past ws j (omega arith)
 
 pub pick-none : (ws : List ℕ) → pick ws 0 ≡ 0
 unfolding pick

@@ -15,3 +15,4 @@ pub mod Members
 pub mod Sums
 pub mod Descent
 pub mod Ranges
+pub mod Siblings

@@ -85,7 +85,7 @@ fn records_ok(b: &[u8], m: usize, n: usize) -> bool
 }
 
 // Whether the pair (distance, yard) comes after the pair (d, y).
-fn after(d: u32, y: u16, distance: u32, yard: u16) -> bool
+pub fn after(d: u32, y: u16, distance: u32, yard: u16) -> bool
     ensures { λ r. ⌜ r ≡ comes (element d y) (element distance yard) ⌝ }
 {
     if d < distance {

@@ -1,0 +1,61 @@
+-- What stays the same during a search, and what is kept of the leaves that were taken. Assumes nothing: these are statements.
+use mathlib.Core.Path.{_≡_}
+use mathlib.Core.Logic.{_≢_}
+use mathlib.Core.Bool.{Bool}
+use mathlib.Core.List.{List}
+use Prim.Native.Nat.{ℕ, _<_}
+use lib.ListN.{length, getD}
+use lib.Dec.{T}
+use Rattle.road.specs.Adjacency.{links, Adjacency}
+use Rattle.tree.specs.Arrays.{Laid}
+use Rattle.search_rules.specs.Instance.{Instance, size, marks, leaf}
+use Rattle.search_rules.specs.Books.{searchOf}
+use Rattle.search_rules.specs.Bounds.{noMark, chosen}
+use Rattle.search_rules.specs.Queue.{unqueued}
+use Rattle.search_rules.specs.Step.{nextF}
+use Rattle.search_rules.proofs.Books.{Passed}
+use Rattle.search_bounds.specs.Sheet.{Sheet}
+use Rattle.search_leaves.specs.Leaves.{Opened}
+
+-- number p is that of the landmark that region r picks, among its own
+pub record IsPick (i : Instance) (r p : ℕ) : Type 0 where
+  pub inside : p < length (marks i r)
+  pub is : getD (marks i r) p noMark ≡ chosen i r
+
+-- the books and the crews are accepted, the arrays are the road book's and the tree book's, and the sheet is filled
+pub record Ready (road tree : List ℕ) (code wanted : ℕ) (crews head next to cost places sheet : List ℕ) (rows : ℕ) : Type 0 where
+  pub passed : Passed road tree crews
+  pub adjacency : Adjacency road (links head next to cost)
+  pub laid : Laid tree places
+  pub sheeted : Sheet (searchOf road tree code wanted crews) rows sheet
+
+-- the mark of a leaf that was never taken
+abbrev pub unopened : ℕ
+unopened = 255
+
+-- for each leaf that was taken the number of its landmark, and at its yards' junctions their f and their bounds
+pub record Cached (i : Instance) (picks fs bounds : List ℕ) : Type 0 where
+  pub picks-count : length picks ≡ size i
+  pub fs-count : length fs ≡ i .tree .junctions
+  pub bounds-count : length bounds ≡ i .tree .junctions
+  pub picked : (r : ℕ) → r < size i → T (leaf i r) → getD picks r 0 ≢ unopened → IsPick i r (getD picks r 0)
+  pub opened : (r : ℕ) → r < size i → T (leaf i r) → getD picks r 0 ≢ unopened → Opened i (chosen i r) fs bounds
+
+-- region r is a leaf
+pub record IsLeaf (i : Instance) (r : ℕ) : Type 0 where
+  pub inside : r < size i
+  pub is : T (leaf i r)
+
+-- leaf r is open: p is the number of its landmark, and its yards have their f and their bounds
+pub record OpenLeaf (i : Instance) (picks fs bounds : List ℕ) (r p : ℕ) : Type 0 where
+  pub cached : Cached i picks fs bounds
+  pub pick : IsPick i r p
+  pub opened : Opened i (chosen i r) fs bounds
+
+-- of leaf r some yard remains, and there is a word for each region and for each junction
+pub record Waiting (i : Instance) (keys yards firsts : List ℕ) (gone : List Bool) (r : ℕ) : Type 0 where
+  pub keys-count : length keys ≡ size i
+  pub firsts-count : length firsts ≡ size i
+  pub yards-count : length yards ≡ i .tree .junctions
+  pub gone-count : length gone ≡ i .tree .junctions
+  pub waits : nextF i gone (chosen i r) < unqueued

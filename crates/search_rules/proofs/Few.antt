@@ -1,0 +1,44 @@
+-- At most k yards are held and listed, whatever the tree and the query say. Assumes nothing.
+use mathlib.Core.List.{List, []}
+use Prim.Native.Nat.{ℕ, zero, suc, min, _≤_}
+use native.Mathlib.Omega.{arith}
+use lib.ListN.{length, length-take}
+use lib.Dec.{ltb}
+use Rattle.book.proofs.Choosing.{choose-case}
+use Rattle.tree_layout.specs.Values.{Element}
+use Rattle.search_rules.specs.Instance.{Instance, leaf}
+use Rattle.search_rules.specs.Bounds.{chosen}
+use Rattle.search_rules.specs.Queue.{queued, wordAt}
+use Rattle.search_rules.specs.Held.{insert, hold, entry}
+use Rattle.search_rules.specs.Step.{State, nextF, openInner, queueNext, closeLeaf, openLeaf, takeRegion, takeYard, nextRegion, nextYard, step, settled, start}
+use Rattle.search_rules.specs.Run.{Outcome, advance, run, report, answer}
+
+module _ (i : Instance) where
+  Few : State → Type 0
+  Few st = length (st .held) ≤ i .wanted
+
+  -- a region that is taken leaves the held yards
+  region-few : (st : State) (r a : ℕ) → Few st → Few (takeRegion i st r a)
+  unfolding Few takeRegion openLeaf openInner queueNext closeLeaf
+  region-few st r a h = choose-case Few (leaf i r) (λ l. choose-case Few (queued (nextF i (st .gone) (chosen i r))) (λ t. h) (λ t. h)) (λ l. h)
+
+  yard-few : (st : State) (y : ℕ) → Few (takeYard i st y)
+  unfolding Few takeYard hold
+  yard-few st y = omega (arith, length-take (i .wanted) (insert (entry i y) (st .held)))
+
+  step-few : (st : State) → Few st → Few (step i st)
+  unfolding step
+  step-few st h =
+      let a = wordAt (st .regionKeys) (nextRegion i st) in
+      let b = wordAt (st .yardKeys) (nextYard i st) in
+      choose-case Few (queued (min a b)) (λ q. choose-case Few (ltb b a) (λ t. yard-few st (nextYard i st)) (λ t. region-few st (nextRegion i st) a h)) (λ q. h)
+
+  run-few : (limit : ℕ) → Few (run i limit .state)
+  unfolding Few run start advance
+  run-few zero = omega arith
+  run-few (suc limit) =
+      choose-case (λ (o : Outcome). Few (o .state)) (settled i (run i limit .state)) (λ t. run-few limit) (λ t. step-few (run i limit .state) (run-few limit))
+
+  pub answer-few : (limit : ℕ) → length (answer i limit .listed) ≤ i .wanted
+  unfolding Few answer report
+  answer-few limit = choose-case (λ (l : List Element). length l ≤ i .wanted) (settled i (run i limit .state)) (λ t. run-few limit) (λ t. omega arith)

@@ -1,0 +1,63 @@
+-- What holds of a state that a search comes to, for those who take its next step. Assumes nothing.
+use mathlib.Core.Path.{_≡_, refl, sym, ap, _∙_}
+use mathlib.Core.Bool.{Bool, true, false, not, _||_}
+use mathlib.Core.List.{List, [], _∷_, List·Memᴰ as Mem}
+use mathlib.Core.Option.{Option, none, some}
+use Prim.Native.Nat.{ℕ, suc, _≤_, _<_}
+use native.Mathlib.Omega.{arith}
+use lib.ListN.{length}
+use lib.Dec.{T, T-not}
+use Rattle.tree_layout.specs.Values.{Element, Mark}
+use Rattle.search_rules.specs.Instance.{Instance, size, marks, leaf}
+use Rattle.search_rules.specs.Bounds.{chosen, f}
+use Rattle.search_rules.specs.Queue.{unqueued, queued, wordAt}
+use Rattle.search_rules.specs.Step.{State, left, nextF, takeYard, leastKey, step, settled}
+use Rattle.search_rules.specs.Run.{run}
+use Rattle.search_rules.specs.Facts.{WellFormed}
+use Rattle.search_rules.specs.Theorems.{TreeYards}
+use Rattle.search_rules.proofs.Bounds.{chosen-mem}
+use Rattle.search_rules.proofs.Limits.{f-most}
+use Rattle.search_rules.proofs.Queue.{word-key, queued-small, Next, no-more, one-more, next-is}
+use Rattle.search_rules.proofs.Stepping.{Sizes}
+use Rattle.search_rules.proofs.Kept.{Kept, OneLeft, run-kept}
+use Rattle.search_rules.proofs.Theorems.{decided}
+use Rattle.search_rules.proofs.Turns.{run-on}
+use Rattle.search_rules.proofs.Steps.{settled-is, take-yard-is}
+
+-- a search that isn't settled has a queued key
+pub unsettled-key : (i : Instance) (st : State) → T (not (settled i st)) → leastKey i st < unqueued
+unsettled-key i st t = go (queued (leastKey i st)) _ (queued-small (leastKey i st)) (rw (settled-is i st) at t)
+  where
+    go : (a b : Bool) → (T a → leastKey i st < unqueued) → T (not (not a || b)) → leastKey i st < unqueued
+    go true b h t = h tt
+    go false b h t = absurd t
+
+-- a leaf's landmark is one of its own
+pub chosen-in : (i : Instance) → WellFormed i → (r : ℕ) → r < size i → Mem (chosen i r) (marks i r)
+chosen-in i well r h = chosen-mem i r (well .shape .marked r h)
+
+module _ (i : Instance) (well : WellFormed i) (st : State) (steps : ℕ) (is : st ≡ run i steps .state) where
+  was : Kept i st
+  was = rw is (run-kept i well steps)
+
+  -- it has an entry for each region and for each junction
+  pub run-sizes : Sizes i st
+  run-sizes = was .sizes
+
+  -- of a queued leaf some yard remains
+  pub leaf-waits : (r : ℕ) → T (leaf i r) → r < size i → wordAt (st .regionKeys) r < unqueued → nextF i (st .gone) (chosen i r) < unqueued
+  leaf-waits r t h w = go (next-is i (st .gone) (chosen i r) (λ e k. omega (arith, f-most i well r (chosen i r) e t (chosen-in i well r h) k)))
+    where
+      some-left : OneLeft (st .gone) (chosen i r)
+      some-left = was .leaf-open r (wordAt (st .regionKeys) r) t (word-key (st .regionKeys) r (wordAt (st .regionKeys) r) refl w)
+
+      go : Next i (st .gone) (chosen i r) → nextF i (st .gone) (chosen i r) < unqueued
+      go (no-more x l) = absurd (T-not (left (st .gone) (some-left .element .yard)) (some-left .stays) (l (some-left .element) (some-left .mem)))
+      go (one-more e p x s k n l) = omega arith
+
+  -- before a yard is taken, fewer than all of the tree's yards are measured
+  pub measured-room : T (not (settled i st)) → (y : ℕ) → step i st ≡ takeYard i st y → (ys : List ℕ) → TreeYards i ys → length (st .measured) < length ys
+  measured-room t y e ys all =
+      let q : run i (suc steps) .state ≡ takeYard i st y = ap (λ o. o .state) (run-on i steps (rw is at t)) ∙ (ap (step i) (sym is) ∙ e) in
+      let m : length (run i (suc steps) .state .measured) ≡ suc (length (st .measured)) = ap (λ (s : State). length (s .measured)) (q ∙ take-yard-is i st y) in
+      omega (arith, decided i well (suc steps) .measured-few ys all)
