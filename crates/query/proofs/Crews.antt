@@ -7,7 +7,7 @@ use Prim.Native.Nat.{ℕ, zero, suc, _+_, _-_, _*_, _≤_, _<_}
 use native.Mathlib.Decide.{ℕ-discrete}
 use native.Mathlib.Omega.{arith}
 use borrow.Author.Tests.{lt-ltb, le-ltb}
-use lib.ListN.{length}
+use lib.ListN.{length, getD}
 use lib.Dec.{T, ltb, ltb→lt, lt→ltb}
 use Rattle.book.specs.Bytes.{u16At}
 use Rattle.book.proofs.Choosing.{and-left, and-right, and-both}
@@ -82,3 +82,14 @@ module _ (b : List ℕ) where
   pub crews-below : (n : ℕ) → ((i : ℕ) → i < crewCount b → crewAt b i < n) → (q : ℕ) → Mem q (crewsOf b) → q < n
   unfolding crewsOf
   crews-below n f q m = from-below n (crewCount b) 0 q (λ i p r. f i (omega arith)) m
+
+  at-from : (n k j : ℕ) → j < n → getD (crewsFrom b n k) j 0 ≡ crewAt b (k + j)
+  unfolding crewsFrom
+  at-from zero k j h = absurd (omega arith)
+  at-from (suc n) k zero h = let e : k ≡ k + 0 = omega arith in ap (crewAt b) e
+  at-from (suc n) k (suc j) h = let e : (k + 1) + j ≡ k + suc j = omega arith in at-from n (k + 1) j (omega arith) ∙ ap (crewAt b) e
+
+  -- crew number j stands where the book says
+  pub crews-at : (j : ℕ) → j < crewCount b → getD (crewsOf b) j 0 ≡ crewAt b j
+  unfolding crewsOf
+  crews-at j h = let e : 0 + j ≡ j = omega arith in at-from (crewCount b) 0 j h ∙ ap (crewAt b) e

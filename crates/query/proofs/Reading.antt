@@ -105,7 +105,13 @@ read-refused (suc x) q why e =
     let f : suc x ≡ why = cc in
     (f, omega arith)
 
--- what is asked, by the book's fields
+-- what is asked, by what stands in the fields' places
+pub asked-is : (b : List ℕ) (a w l c : ℕ) → a ≡ u8At b 5 → w ≡ u8At b 6 → l ≡ u32At b 7 → c ≡ u8At b 11
+    → _≡_ {A = Query} (record { aggregate = a; wanted = w; limit = l; crews = c }) (queryOf b)
+unfolding queryOf aggregateOf wantedOf limitOf crewCount
+asked-is b a w l c e f g h = rw (e, f, g, h) refl
+
+-- by the book's fields
 module _ (b : List ℕ) where
   pub asked-aggregate : queryOf b .aggregate ≡ aggregateOf b
   unfolding queryOf

@@ -104,6 +104,19 @@ pub fn read(b: &[u8], n: u16) -> QueryBook
     })
 }
 
+// What a book asks that no test turns back.
+pub fn asked(b: &[u8]) -> Query
+    requires { ⌜ 12 ≤ length (now b) ⌝ }
+    ensures { λ r. ⌜ r ≡ queryOf (now (b .entry)) ⌝ }
+{
+    Query {
+        aggregate: book::u8_at(b, 5),
+        wanted: book::u8_at(b, 6),
+        limit: book::u32_at(b, 7),
+        crews: book::u8_at(b, 11),
+    }
+}
+
 // The junction of crew number i of a book that is read.
 pub fn crew_at(b: &[u8], i: usize) -> Junction
     requires { ⌜ (i < crewCount (now b)) × (length (now b) ≡ 12 + 2 * crewCount (now b)) ⌝ }

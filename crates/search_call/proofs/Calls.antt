@@ -108,6 +108,15 @@ module _ (road tree query : List ℕ) (work : ℕ) (results : List ℕ) where
   unfolding resultsAfter
   refused-keeps h = choose-no (eqb refusal 0) _ results (ne→neqb refusal 0 h)
 
+-- both returns, field by field
+pub accepted-is : (a : Answer) → accepted a ≡ record { refusal = 0; settled = choose (a .settled) 1 0; listed = length (a .listed); taken = a .taken; measured = a .measured }
+unfolding accepted
+accepted-is a = refl
+
+pub refused-is : (n : ℕ) → refused n ≡ record { refusal = n; settled = 0; listed = 0; taken = 0; measured = 0 }
+unfolding refused
+refused-is n = refl
+
 settled-one : (b : Bool) → _≡_ {A = ℕ} (choose b 1 0) 1 → T b
 settled-one b e = choose-positive b 1 (omega arith) .0
 

@@ -3,3 +3,4 @@ pub mod Refusing
 pub mod Bounded
 pub mod Lists
 pub mod Demand
+pub mod Room
