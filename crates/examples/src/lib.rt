@@ -1,1 +1,0 @@
-// The worked examples of the paper that are proved, as the rows of one result (specs/Starred.antt).

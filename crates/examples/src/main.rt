@@ -1,0 +1,133 @@
+// The paper's examples that are not starred, executed: a line for each, with what a search by its books answers. The starred ones are proved, as the rows of
+// one result (specs/Starred.antt).
+use libc::STDOUT_FILENO;
+ghost use mathlib.Core.Path.{_≡_};
+ghost use mathlib.Core.List.{_∷_, []};
+ghost use Prim.Native.Nat.{_+_, _*_, _≤_, _<_};
+ghost use lib.ListN.{length};
+ghost use Rattle.examples.specs.Books.{roadN, treeN, asking};
+
+// Net N's road book.
+fn road_n() -> [u8; 33]
+    ensures { λ r. ⌜ r ≡ roadN ⌝ }
+{
+    *b"\0\0\0\x1d\x01\0\x05\0\x04\0\0\0\x01\0\x02\0\x01\0\x02\0\x03\0\x02\0\x03\0\x04\0\x03\0\x04\0\x01"
+}
+
+// Its tree book.
+fn tree_n() -> [u8; 39]
+    ensures { λ r. ⌜ r ≡ treeN ⌝ }
+{
+    *b"\0\0\0\x23\x01\0\x05\0\x01\0\x03\x01\0\0\0\x05\0\0\x03\0\0\0\0\0\x02\0\x01\0\0\0\x09\0\x03\0\0\0\x0a\0\x04"
+}
+
+// The listing's query, with limit 6.
+fn query_n() -> [u8; 16]
+    ensures { λ r. ⌜ r ≡ asking 0 2 6 (0 ∷ 2 ∷ []) ⌝ }
+{
+    *b"\0\0\0\x0c\x01\0\x02\0\0\0\x06\x02\0\0\0\x02"
+}
+
+// Writes an example's name, and that a search by its books is accepted or by which number it is refused.
+fn answer(name: &[u8], road: &[u8], tree: &[u8], query: &[u8]) {
+    let mut work = [0u32; 16384];
+    let mut results = [0u32; 128];
+    let found = search::search(road, tree, query, &mut work, &mut results);
+    io::write_all(STDOUT_FILENO, name);
+    if found.refusal == 0 {
+        io::write_all(STDOUT_FILENO, b": accepted\n");
+        return;
+    }
+    io::write_all(STDOUT_FILENO, b": refused ");
+    io::print_decimal(STDOUT_FILENO, found.refusal as u64);
+    io::write_all(STDOUT_FILENO, b"\n");
+}
+
+// Net N with its first road of so many seconds.
+fn seconds(name: &[u8], s: u16) {
+    let mut road = road_n();
+    book::put_u16(&mut road, 13, s);
+    let tree = tree_n();
+    let query = query_n();
+    answer(name, &road, &tree, &query);
+}
+
+// A road book of n junctions and no road.
+fn no_road(name: &[u8], n: u16) {
+    let mut road = *b"\0\0\0\x05\x01\0\0\0\0";
+    book::put_u16(&mut road, 5, n);
+    let tree = tree_n();
+    let query = query_n();
+    answer(name, &road, &tree, &query);
+}
+
+// Puts road number i of a chain, from junction i to the next, into a road book.
+fn put_road(b: &mut [u8], i: u16, s: u16)
+    requires { ⌜ (i < 1024) × (15 + 6 * i ≤ length (now b)) ⌝ }
+{
+    let at = 9 + 6 * (i as usize);
+    book::put_u16(b, at, i);
+    book::put_u16(b, at + 2, i + 1);
+    book::put_u16(b, at + 4, s);
+}
+
+// Puts a chain's roads into a road book: net N's seconds, then 1 for each further road.
+fn put_roads(b: &mut [u8], roads: u16)
+    requires { ⌜ (roads ≤ 1024) × (6153 ≤ length (now b)) ⌝ }
+{
+    let mut i: u16 = 0;
+    while i < roads {
+        put_road(b, i, 1);
+        i += 1;
+    }
+    put_road(b, 0, 2);
+    put_road(b, 1, 3);
+    put_road(b, 2, 4);
+}
+
+// Net N's chain drawn out to n junctions; its tree with so many junctions, which is still a true one.
+fn junctions(name: &[u8], n: u16)
+    requires { ⌜ (5 ≤ n) × (n ≤ 1025) ⌝ }
+{
+    let roads = n - 1;
+    let size = 5 + 6 * (roads as usize);
+    let mut road = [0u8; 6153];
+    road[4] = 1;
+    book::put_u32(&mut road, 0, size as u32);
+    book::put_u16(&mut road, 5, n);
+    book::put_u16(&mut road, 7, roads);
+    put_roads(&mut road, roads);
+    let mut tree = tree_n();
+    book::put_u16(&mut tree, 5, n);
+    book::put_u16(&mut tree, 14, n);
+    let query = query_n();
+    let end = 4 + size;
+    answer(name, &road[..end], &tree, &query);
+}
+
+// Net N and the listing's query with n crews, all at junction 0.
+fn crews(name: &[u8], n: u8)
+    requires { ⌜ n ≤ 17 ⌝ }
+{
+    let road = road_n();
+    let tree = tree_n();
+    let mut query = [0u8; 46];
+    query[3] = 8 + 2 * n;
+    query[4] = 1;
+    query[6] = 2;
+    query[10] = 6;
+    query[11] = n;
+    let end = 12 + 2 * (n as usize);
+    answer(name, &road, &tree, &query[..end]);
+}
+
+fn main() {
+    seconds(b"seconds 0", 0);
+    seconds(b"seconds 65535", 65535);
+    junctions(b"junctions 1024", 1024);
+    no_road(b"junctions 0", 0);
+    junctions(b"junctions 1025", 1025);
+    no_road(b"two junctions, no road", 2);
+    crews(b"crews 16", 16);
+    crews(b"crews 17", 17);
+}
