@@ -1,14 +1,14 @@
 /* The meeting-yard finder, for C. Link with libfinder.a, which `rt staticlib finder` writes to target/staticlib.
  *
  * What is lent. A call is lent byte areas (books, and the area that a tree is built into) and word areas as a pointer and a count: of
- * bytes, or of 32-bit words for the work area. No pointer is NULL, also where the count is 0, and each is aligned for its type. An
- * area that a call writes (work, a built tree's) overlaps no other area of the call. All is lent for the time of the call only:
- * nothing is kept, nothing is allocated, and nothing outside the lent areas is read or written. Books are only read; they may hold
- * any bytes. Calls may run at the same time if no area that one of them writes is lent to another.
+ * bytes, or of 32-bit words for the work and result areas. No pointer is NULL, also where the count is 0, and each is aligned for its
+ * type. An area that a call writes (work, results, a built tree's) overlaps no other area of the call. All is lent for the time of the
+ * call only: nothing is kept, nothing is allocated, and nothing outside the lent areas is read or written. Books are only read; they
+ * may hold any bytes. Calls may run at the same time if no area that one of them writes is lent to another.
  *
  * What comes back. The refusal is 0 if the call is accepted. Otherwise it is the number below of the first test that failed, every
- * other field is 0, and no lent byte or word has changed. Books are tested in the order road, yard, tree, each through all of its
- * tests; then the call's numbers, then the areas.
+ * other field is 0, and no lent byte or word has changed. Books are tested in the order road, yard, tree, query, each through all of
+ * its tests; then the call's numbers, then the areas.
  *
  *    1  fewer than five bytes, or the length is not the count of the bytes after it
  *    2  the version is not 1
@@ -19,11 +19,14 @@
  *    7  the tree's shape rules don't hold
  *    8  junction counts or yards disagree between books, or a yard isn't a junction of the road book
  *    9  in a check: a stored distance, least or greatest isn't the true one
- *   11  m is outside 1 to 4, or the leaf limit outside 1 to 256
- *   12  a lent area is too short: work below FINDER_WORK_WORDS words, a built tree's area below FINDER_TREE_BYTES bytes
+ *   10  crews are none, more than 16, or at no junction of the road book
+ *   11  k is outside 1 to 64, the aggregate code isn't 0 or 1, m is outside 1 to 4, or the leaf limit outside 1 to 256
+ *   12  a lent area is too short: work below FINDER_WORK_WORDS words, results below 2 * k words, a built tree's area below
+ *       FINDER_TREE_BYTES bytes
  *
  * The work area may hold anything. An accepted call leaves its first FINDER_WORK_WORDS words 0 and the rest as they were.
- * A call needs at most FINDER_STACK_BYTES bytes of stack. Measured on x86-64: 154,200 for a check, 150,136 for a build.
+ * A call needs at most FINDER_STACK_BYTES bytes of stack. Measured on x86-64: 154,232 for a check, 150,168
+ * for a build, 206,824 for a search.
  */
 #ifndef FINDER_H
 #define FINDER_H
@@ -37,6 +40,8 @@ extern "C" {
 
 #define FINDER_WORK_WORDS 16384
 #define FINDER_TREE_BYTES 21981
+#define FINDER_RESULT_WORDS 128 /* 2 * k words for the greatest k */
+#define FINDER_SETTLING_LIMIT 767 /* at most 255 inner regions and 256 yards */
 #define FINDER_STACK_BYTES 262144
 
 /* Checks a tree book beside a road book and a yard book. It answers 0 if and only if the books are sound, the tree's leaves hold each
@@ -55,6 +60,31 @@ struct finder_built {
 struct finder_built finder_build(const uint8_t *road, size_t road_len, const uint8_t *yard, size_t yard_len,
                                  uint32_t m, uint32_t leaf_limit, uint32_t *work, size_t work_len,
                                  uint8_t *tree, size_t tree_len);
+
+struct finder_found {
+    uint32_t refusal;
+    uint32_t settled;  /* 1 if the search is settled, 0 if it is spent or refused */
+    uint32_t listed;   /* how many yards are listed; 0 if spent */
+    uint32_t taken;    /* how many steps were taken, at most the query's limit */
+    uint32_t measured; /* how many yards were measured by their true distances */
+};
+
+/* Searches a tree beside a road book for the k yards with the least aggregate of true distances to the crews. The query book has, after
+ * its count and version: the aggregate (a byte: 0 for the sum, 1 for the maximum), k (a byte), the limit of steps (four bytes), the
+ * number of crews (a byte) and their junctions (two bytes each), high bytes first.
+ *
+ * A settled search writes its list over the start of results: for each yard listed two words, the yard (its junction) and its aggregate
+ * distance in seconds, the least first, yards of equal distance by junction. The result words after the list stay as they were. A search
+ * is spent if it took the limit's steps and isn't settled; then all of results stays as it was. On a tree that passes the check, a limit
+ * of the tree's inner regions plus twice its yards settles every search; no tree needs more than FINDER_SETTLING_LIMIT.
+ *
+ * On a tree that passes the check beside these roads the list is exactly the first k of the tree's yards in this order, or all of them
+ * if there are fewer: no yard left out comes before one listed. A search itself doesn't make the check's test 9. On a tree that a check
+ * would refuse by 9 the list's yards are distinct, in order and with true distances, but a yard may be left out. So check a tree once
+ * before searching on it, and again beside other roads. */
+struct finder_found finder_search(const uint8_t *road, size_t road_len, const uint8_t *tree, size_t tree_len,
+                                  const uint8_t *query, size_t query_len, uint32_t *work, size_t work_len,
+                                  uint32_t *results, size_t results_len);
 
 #ifdef __cplusplus
 }

@@ -1,4 +1,4 @@
-/* A small planner: builds a tree for net N, checks it, then damaged ones, and prints. */
+/* A small planner: builds a tree for net N, checks it, then damaged ones, searches it, and prints. */
 #include <stdio.h>
 
 #include "finder.h"
@@ -13,17 +13,27 @@ static const uint8_t road[] = {
 };
 static const uint8_t yard[] = {0, 0, 0, 9, 1, 0, 3, 0, 1, 0, 3, 0, 4};
 
-/* The tree's area, and the work area with words after it that no call may change. */
+/* Sum, k 2, limit 4, crews at junctions 0 and 2. */
+static uint8_t query[] = {0, 0, 0, 12, 1, 0, 2, 0, 0, 0, 4, 2, 0, 0, 0, 2};
+#define K 6
+#define LIMIT 10
+#define LAST_CREW 15
+
+/* The tree's area, and the work and result areas with words after them that no call may change. */
+#define RESULT_WORDS 4
 static uint8_t tree[FINDER_TREE_BYTES];
 static uint32_t work[FINDER_WORK_WORDS + 2];
+static uint32_t results[RESULT_WORDS + 2];
 
-/* Makes every work word 7. */
-static void fill_work(void)
+/* Makes every work and result word 7. */
+static void fill_words(void)
 {
     size_t i;
 
     for (i = 0; i < FINDER_WORK_WORDS + 2; i++)
         work[i] = 7;
+    for (i = 0; i < RESULT_WORDS + 2; i++)
+        results[i] = 7;
 }
 
 /* Prints a call's refusal and what became of the work area. */
@@ -43,7 +53,7 @@ static size_t build(const char *call, uint32_t m, size_t bytes)
 {
     struct finder_built built;
 
-    fill_work();
+    fill_words();
     built = finder_build(road, sizeof road, yard, sizeof yard, m, 3, work, FINDER_WORK_WORDS, tree, bytes);
     report(call, built.refusal);
     printf("  length %u\n", (unsigned)built.length);
@@ -53,7 +63,7 @@ static size_t build(const char *call, uint32_t m, size_t bytes)
 /* Checks the first bytes of the tree, with so many work words. */
 static void check(const char *call, size_t length, size_t words)
 {
-    fill_work();
+    fill_words();
     report(call, finder_check(road, sizeof road, yard, sizeof yard, tree, length, work, words));
 }
 
@@ -70,6 +80,48 @@ static void print_tree(size_t length)
     printf("\n  bytes changed after it %zu\n", after);
 }
 
+/* Prints the first yard of a list, where the tackle is to be reserved, and every result word. */
+static void print_results(const struct finder_found *found)
+{
+    size_t i;
+
+    if (found->listed > 0)
+        printf("  meet at yard %u, %u seconds\n", (unsigned)results[0], (unsigned)results[1]);
+    printf("  results");
+    for (i = 0; i < RESULT_WORDS + 2; i++)
+        printf(" %u", (unsigned)results[i]);
+    printf("\n");
+}
+
+/* Searches the first bytes of the tree for what the query asks, with so many result words. */
+static void search(const char *call, size_t length, size_t words)
+{
+    struct finder_found found;
+
+    fill_words();
+    found = finder_search(road, sizeof road, tree, length, query, sizeof query, work, FINDER_WORK_WORDS, results, words);
+    report(call, found.refusal);
+    printf("  settled %u, listed %u, taken %u, measured %u\n", (unsigned)found.settled, (unsigned)found.listed,
+           (unsigned)found.taken, (unsigned)found.measured);
+    print_results(&found);
+}
+
+/* The query's searches, one settled, one spent, the others refused. */
+static void search_all(size_t length)
+{
+    search("search for two yards", length, RESULT_WORDS);
+    query[LIMIT] = 3;
+    search("search of three steps", length, RESULT_WORDS);
+    query[LIMIT] = 4;
+    search("search with short results", length, RESULT_WORDS - 1);
+    query[K] = 65;
+    search("search for too many yards", length, RESULT_WORDS);
+    query[LAST_CREW] = 5; /* there are junctions 0 to 4 */
+    search("search for a crew at no junction", length, RESULT_WORDS);
+    query[LAST_CREW] = 2;
+    query[K] = 2;
+}
+
 int main(void)
 {
     size_t length;
@@ -83,6 +135,8 @@ int main(void)
     check("check with a longer work area", length, FINDER_WORK_WORDS + 1);
     check("check with a short work area", length, FINDER_WORK_WORDS - 1);
     check("check of a book cut short", length - 1, FINDER_WORK_WORDS);
+
+    search_all(length);
 
     tree[length - 3] = 11; /* yard 4 is 10 seconds away from junction 0: a second too long */
     check("check of a false distance", length, FINDER_WORK_WORDS);

@@ -13,6 +13,9 @@
  * as deep as a tree may be. A build cuts the chain six times. */
 #define JUNCTIONS 1024
 #define YARDS 8
+/* The query: as many crews and yards as one may ask for, with both ends of the chain among the crews. */
+#define CREWS 16
+#define K 64
 
 static uint8_t area[AREA];
 static uint8_t road[9 + 6 * (JUNCTIONS - 1)];
@@ -20,7 +23,9 @@ static uint8_t yard[7 + 2 * YARDS];
 static uint8_t tree[1024];
 static size_t tree_length;
 static uint8_t built[FINDER_TREE_BYTES];
+static uint8_t query[12 + 2 * CREWS];
 static uint32_t work[FINDER_WORK_WORDS];
+static uint32_t results[FINDER_RESULT_WORDS];
 static uint32_t refusal;
 static ucontext_t here, there;
 
@@ -64,7 +69,14 @@ static void make_books(void)
     at = put16(put32(put_region(at, v, v + 1, 0, 1), 0), v);
     tree_length = (size_t)(at - tree);
     put32(tree, (unsigned)tree_length - 4);
-    road[4] = yard[4] = tree[4] = 1;
+
+    put32(query, sizeof query - 4);
+    query[6] = K;
+    put32(query + 7, FINDER_SETTLING_LIMIT);
+    query[11] = CREWS;
+    for (v = 0; v < CREWS; v++)
+        put16(query + 12 + 2 * v, v * ((JUNCTIONS - 1) / (CREWS - 1)));
+    road[4] = yard[4] = tree[4] = query[4] = 1;
 }
 
 static void check(void)
@@ -75,6 +87,12 @@ static void check(void)
 static void build(void)
 {
     refusal = finder_build(road, sizeof road, yard, sizeof yard, 4, 1, work, FINDER_WORK_WORDS, built, sizeof built).refusal;
+}
+
+static void search(void)
+{
+    refusal = finder_search(road, sizeof road, tree, tree_length, query, sizeof query, work, FINDER_WORK_WORDS,
+                            results, FINDER_RESULT_WORDS).refusal;
 }
 
 /* The stack that a call takes, in bytes. */
@@ -106,5 +124,5 @@ static int measure(const char *name, void (*call)(void))
 int main(void)
 {
     make_books();
-    return measure("check", check) + measure("build", build);
+    return measure("check", check) + measure("build", build) + measure("search", search);
 }

@@ -62,6 +62,15 @@ pub fn first_k(all: &[Vec<u64>], yards: &[u16], query: &Query) -> Vec<(u64, u16)
     ranked
 }
 
+/// A search's list on a tree that passes; only the crews' distances are worked out.
+pub fn list(road: &RoadBook, tree: &Tree, query: &Query) -> Vec<(u64, u16)> {
+    let mut all = vec![Vec::new(); usize::from(road.junctions)];
+    for &crew in &query.crews {
+        all[usize::from(crew)] = distances(road, crew);
+    }
+    first_k(&all, &tree.yards_of(0), query)
+}
+
 /// A yard's bound on a tree that passes, from all distances.
 pub fn yard_bound(all: &[Vec<u64>], tree: &Tree, query: &Query, yard: u16) -> u64 {
     let mut landmarks = junctions(&tree.regions[0]);

@@ -3,6 +3,16 @@
 /// How many elements a guard has.
 const GUARD: usize = 64;
 
+/// Bytes between guards.
+pub fn lent_bytes(bytes: &[u8]) -> Lent<u8> {
+    Lent::new(bytes, |i| i as u8 ^ 0xa5)
+}
+
+/// Words between guards.
+pub fn lent_words(words: &[u32]) -> Lent<u32> {
+    Lent::new(words, |i| i as u32 ^ 0xa5a5_a5a5)
+}
+
 /// An area between two guards.
 pub struct Lent<T> {
     all: Vec<T>,

@@ -1,14 +1,26 @@
 //! The proved finder's calls, as `include/finder.h` declares them, on slices.
 
+pub mod alike;
 pub mod lent;
+pub mod turns;
 
-use compare::Built;
+use compare::{Built, Found};
 
 /// `struct finder_built`.
 #[repr(C)]
 struct FinderBuilt {
     refusal: u32,
     length: u32,
+}
+
+/// `struct finder_found`.
+#[repr(C)]
+struct FinderFound {
+    refusal: u32,
+    settled: u32,
+    listed: u32,
+    taken: u32,
+    measured: u32,
 }
 
 extern "C" {
@@ -35,6 +47,19 @@ extern "C" {
         tree: *mut u8,
         tree_len: usize,
     ) -> FinderBuilt;
+
+    fn finder_search(
+        road: *const u8,
+        road_len: usize,
+        tree: *const u8,
+        tree_len: usize,
+        query: *const u8,
+        query_len: usize,
+        work: *mut u32,
+        work_len: usize,
+        results: *mut u32,
+        results_len: usize,
+    ) -> FinderFound;
 }
 
 /// The refusal number, 0 if accepted.
@@ -81,5 +106,37 @@ pub fn build(
     Built {
         refusal: built.refusal,
         length: built.length,
+    }
+}
+
+/// The refusal number, whether settled, and the numbers of yards listed, steps taken and yards measured.
+pub fn search(
+    road: &[u8],
+    tree: &[u8],
+    query: &[u8],
+    work: &mut [u32],
+    results: &mut [u32],
+) -> Found {
+    // SAFETY: as for `build`.
+    let found = unsafe {
+        finder_search(
+            road.as_ptr(),
+            road.len(),
+            tree.as_ptr(),
+            tree.len(),
+            query.as_ptr(),
+            query.len(),
+            work.as_mut_ptr(),
+            work.len(),
+            results.as_mut_ptr(),
+            results.len(),
+        )
+    };
+    Found {
+        refusal: found.refusal,
+        settled: found.settled,
+        listed: found.listed,
+        taken: found.taken,
+        measured: found.measured,
     }
 }

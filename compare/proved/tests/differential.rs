@@ -1,25 +1,27 @@
-//! The proved finder beside the plain one: the same calls through both, with the same answers and every byte and word of the
-//! lent areas, the books and the guards around them alike afterwards.
+//! The proved finder beside the plain one: the same calls through both.
 
 use std::collections::BTreeMap;
 
+use compare::book;
 use compare::build::AREA_BYTES;
-use compare::generate::call::{random_build, random_check};
+use compare::generate::call::{random_build, random_check, random_search};
 use compare::generate::damage::{self, Call};
 use compare::generate::{standard, Numbers};
 use compare::refusal::WORK_WORDS;
-use compare::{book, Built};
-use proved::lent::Lent;
+use proved::alike::{self, Areas};
 
 /// How many calls of each kind got each refusal number.
 #[derive(Default)]
 struct Tally {
     checks: BTreeMap<u32, u32>,
     builds: BTreeMap<u32, u32>,
+    searches: BTreeMap<u32, u32>,
+    /// Of the accepted searches.
+    spent: u32,
 }
 
 impl Tally {
-    /// Makes a call through both finders; a call that the static library lacks is left out.
+    /// Makes a call through both finders.
     fn make(&mut self, call: &Call, numbers: &mut Numbers) {
         match call {
             Call::Check {
@@ -28,7 +30,7 @@ impl Tally {
                 tree,
                 work,
             } => {
-                let refusal = check_alike([road, yard, tree], &words(numbers, *work));
+                let refusal = alike::check([road, yard, tree], &words(numbers, *work));
                 *self.checks.entry(refusal).or_default() += 1;
             }
             Call::Build {
@@ -40,10 +42,21 @@ impl Tally {
                 area,
             } => {
                 let (work, area) = (words(numbers, *work), bytes(numbers, *area));
-                let built = build_alike([road, yard], [*m, *leaf_limit], &work, &area);
+                let built = alike::build([road, yard], [*m, *leaf_limit], &work, &area);
                 *self.builds.entry(built.refusal).or_default() += 1;
             }
-            Call::Search { .. } => (),
+            Call::Search {
+                road,
+                tree,
+                query,
+                work,
+                results,
+            } => {
+                let mut areas = Areas::new(&words(numbers, *work), &words(numbers, *results));
+                let found = areas.search([road, tree, query]);
+                *self.searches.entry(found.refusal).or_default() += 1;
+                self.spent += u32::from(found.refusal == 0 && found.settled == 0);
+            }
         }
     }
 
@@ -57,6 +70,11 @@ impl Tally {
         assert_eq!(seen(&self.checks), [0, 1, 2, 3, 4, 5, 6, 7, 8, 9, 12]);
         println!("builds by refusal: {:?}", self.builds);
         assert_eq!(seen(&self.builds), [0, 1, 2, 3, 4, 5, 6, 8, 11, 12]);
+        println!("searches by refusal: {:?}", self.searches);
+        assert_eq!(
+            seen(&self.searches),
+            [0, 1, 2, 3, 4, 5, 6, 7, 8, 10, 11, 12]
+        );
     }
 }
 
@@ -76,82 +94,13 @@ fn bytes(numbers: &mut Numbers, length: usize) -> Vec<u8> {
         .collect()
 }
 
-/// A book between guards.
-fn lent(book: &[u8]) -> Lent<u8> {
-    Lent::new(book, |i| i as u8 ^ 0xa5)
-}
-
-/// Words between guards.
-fn lent_words(words: &[u32]) -> Lent<u32> {
-    Lent::new(words, |i| i as u32 ^ 0xa5a5_a5a5)
-}
-
-/// Makes the check through both finders; the answer is the refusal.
-fn check_alike(books: [&[u8]; 3], work: &[u32]) -> u32 {
-    let mut held = books.map(lent);
-    let mut words = lent_words(work);
-    let [road, yard, tree] = held.each_mut().map(|book| &*book.area());
-    let ours = proved::check(road, yard, tree, words.area());
-
-    let mut after = work.to_vec();
-    let theirs = compare::check(books[0], books[1], books[2], &mut after);
-    assert_eq!(ours, theirs, "check of {}", told(&books, work.len()));
-    assert!(
-        words.is(&after),
-        "work area of a check of {}",
-        told(&books, work.len())
-    );
-    assert_kept(&held, &books);
-    theirs
-}
-
-/// Makes the build through both finders.
-fn build_alike(
-    books: [&[u8]; 2],
-    [m, leaf_limit]: [u32; 2],
-    work: &[u32],
-    area: &[u8],
-) -> Built {
-    let mut held = books.map(lent);
-    let (mut words, mut tree) = (lent_words(work), lent(area));
-    let [road, yard] = held.each_mut().map(|book| &*book.area());
-    let ours = proved::build(road, yard, m, leaf_limit, words.area(), tree.area());
-
-    let (mut after, mut written) = (work.to_vec(), area.to_vec());
-    let theirs = compare::build(books[0], books[1], m, leaf_limit, &mut after, &mut written);
-    let call = || {
-        format!(
-            "a build with m {m}, leaf limit {leaf_limit}, {} bytes of {}",
-            area.len(),
-            told(&books, work.len())
-        )
-    };
-    assert_eq!(ours, theirs, "{}", call());
-    assert!(words.is(&after), "work area of {}", call());
-    assert!(tree.is(&written), "tree area of {}", call());
-    assert_kept(&held, &books);
-    theirs
-}
-
-/// No book has changed, nor a guard around it.
-fn assert_kept(held: &[Lent<u8>], books: &[&[u8]]) {
-    let kept = held.iter().zip(books).all(|(held, book)| held.is(book));
-    assert!(kept, "a book changed: {}", told(books, 0));
-}
-
-/// A call's books in hexadecimal and its number of work words, to make it again.
-fn told(books: &[&[u8]], work: usize) -> String {
-    let hexadecimal = |book: &&[u8]| book.iter().map(|byte| format!("{byte:02x}")).collect();
-    let books: Vec<String> = books.iter().map(hexadecimal).collect();
-    format!("{work} work words and {}", books.join(" "))
-}
-
-/// The road, yard and tree books of a sound check.
-fn sound_books() -> [Vec<u8>; 3] {
+/// The sound district's road, yard, tree and query books.
+fn sound_books() -> [Vec<u8>; 4] {
     [
         damage::sound_road(),
         damage::sound_yard(),
         damage::sound_tree(),
+        damage::sound_query(),
     ]
 }
 
@@ -165,6 +114,10 @@ fn every_cause() {
     for call in damage::accepted() {
         tally.make(&call, &mut numbers);
     }
+    let (road, query) = (damage::sound_road(), damage::sound_query());
+    for t in damage::false_trees() {
+        tally.make(&damage::search_of(&road, &t.book, &query), &mut numbers);
+    }
     tally.assert_all(1);
 }
 
@@ -172,8 +125,9 @@ fn every_cause() {
 fn two_damages() {
     let mut numbers = Numbers::new(22);
     let mut tally = Tally::default();
-    let [road, yard, tree] = sound_books();
+    let [road, yard, tree, query] = sound_books();
     let (roads, yards, trees) = (damage::roads(), damage::yards(), damage::trees());
+    let queries = damage::queries();
     for r in &roads {
         for y in &yards {
             tally.make(&damage::check_of(&r.book, &y.book, &tree), &mut numbers);
@@ -181,9 +135,16 @@ fn two_damages() {
         }
         for t in &trees {
             tally.make(&damage::check_of(&r.book, &yard, &t.book), &mut numbers);
+            tally.make(&damage::search_of(&r.book, &t.book, &query), &mut numbers);
+        }
+        for q in &queries {
+            tally.make(&damage::search_of(&r.book, &tree, &q.book), &mut numbers);
         }
     }
     for t in &trees {
+        for q in &queries {
+            tally.make(&damage::search_of(&road, &t.book, &q.book), &mut numbers);
+        }
         for y in &yards {
             tally.make(&damage::check_of(&road, &y.book, &t.book), &mut numbers);
         }
@@ -198,8 +159,10 @@ fn random_districts() {
         let most = if turn % 100 == 0 { 400 } else { 40 };
         tally.make(&random_check(&mut numbers, most), &mut numbers);
         tally.make(&random_build(&mut numbers, most), &mut numbers);
+        tally.make(&random_search(&mut numbers, most), &mut numbers);
     }
     tally.assert_all(20);
+    assert!(tally.spent >= 1_000);
 }
 
 #[test]
@@ -208,7 +171,7 @@ fn any_bytes() {
     let mut tally = Tally::default();
     let sound = sound_books();
     for _ in 0..10_000 {
-        let [road, yard, tree] = sound.each_ref().map(|book| {
+        let [road, yard, tree, query] = sound.each_ref().map(|book| {
             let mut book = book.clone();
             while numbers.once_in(3) && !book.is_empty() {
                 book = damage::random_damage(&mut numbers, &book);
@@ -217,6 +180,7 @@ fn any_bytes() {
         });
         tally.make(&damage::check_of(&road, &yard, &tree), &mut numbers);
         tally.make(&damage::build_of(&road, &yard), &mut numbers);
+        tally.make(&damage::search_of(&road, &tree, &query), &mut numbers);
     }
 }
 
@@ -226,7 +190,7 @@ fn random_fields() {
     let mut tally = Tally::default();
     let sound = sound_books();
     for _ in 0..10_000 {
-        let [yard, tree] = [(); 2].map(|()| {
+        let [yard, tree, query] = [(); 3].map(|()| {
             let length = numbers.between(0, 60);
             let field = |any: u64| {
                 if any & 256 == 0 {
@@ -238,8 +202,10 @@ fn random_fields() {
             let fields: Vec<u8> = (0..length).map(|_| field(numbers.any())).collect();
             book::close(&fields)
         });
-        tally.make(&damage::check_of(&sound[0], &sound[1], &tree), &mut numbers);
-        tally.make(&damage::build_of(&sound[0], &yard), &mut numbers);
+        let [road, sound_yard, sound_tree, _] = &sound;
+        tally.make(&damage::check_of(road, sound_yard, &tree), &mut numbers);
+        tally.make(&damage::build_of(road, &yard), &mut numbers);
+        tally.make(&damage::search_of(road, sound_tree, &query), &mut numbers);
     }
 }
 

@@ -1,8 +1,8 @@
 //! Random calls: sound ones, and ones with a damaged or changed book, with books that disagree, or with a short area.
 
-use super::change::{changed_road, changed_tree, changed_yard};
+use super::change::{changed_query, changed_road, changed_tree, changed_yard};
 use super::damage::{random_damage, Call};
-use super::district::{district, false_tree, random_tree, District};
+use super::district::{district, false_tree, query_book, random_tree, District};
 use super::Numbers;
 use crate::build::{build, AREA_BYTES};
 use crate::refusal::WORK_WORDS;
@@ -34,6 +34,26 @@ pub fn random_build(numbers: &mut Numbers, most_junctions: u16) -> Call {
         leaf_limit: parameter(numbers, 256),
         work: area(numbers, WORK_WORDS),
         area: area(numbers, AREA_BYTES),
+    }
+}
+
+/// A search; the district has at most so many junctions.
+pub fn random_search(numbers: &mut Numbers, most_junctions: u16) -> Call {
+    let d = district(numbers, most_junctions);
+    let roads = roads_of(&d);
+    let tree = some_tree(numbers, &d, &roads);
+    let tree = if numbers.once_in(3) {
+        other_tree(numbers, &tree)
+    } else {
+        tree::write(&tree)
+    };
+    let query = query_book(numbers, d.junctions);
+    Call::Search {
+        road: other_road(numbers, &d, &roads),
+        tree,
+        results: area(numbers, 2 * usize::from(query[6])),
+        query: other_query(numbers, query, d.junctions),
+        work: area(numbers, WORK_WORDS),
     }
 }
 
@@ -96,6 +116,15 @@ fn other_tree(numbers: &mut Numbers, tree: &Tree) -> Vec<u8> {
         0 => random_damage(numbers, &tree::write(tree)),
         1 | 2 => changed_tree(numbers, tree),
         _ => tree::write(tree),
+    }
+}
+
+/// The query book, seldom changed or damaged.
+fn other_query(numbers: &mut Numbers, query: Vec<u8>, junctions: u16) -> Vec<u8> {
+    match numbers.between(0, 11) {
+        0 => random_damage(numbers, &query),
+        1 => changed_query(numbers, junctions),
+        _ => query,
     }
 }
 

@@ -3,7 +3,7 @@
 use super::Numbers;
 use crate::road::{self, Road};
 use crate::tree::{self, Region, Stored, Tree, MOST_DISTANCE};
-use crate::yard;
+use crate::{query, yard};
 
 /// A road book with one to three of its roads dropped, changed, exchanged or repeated.
 pub fn changed_road(numbers: &mut Numbers, junctions: u16, roads: &[Road]) -> Vec<u8> {
@@ -59,6 +59,16 @@ pub fn changed_tree(numbers: &mut Numbers, tree: &Tree) -> Vec<u8> {
         }
     }
     tree::write(&tree)
+}
+
+/// A query book for a district of so many junctions, with its aggregate, its k, its crews' number or their junctions at or outside a limit.
+pub fn changed_query(numbers: &mut Numbers, junctions: u16) -> Vec<u8> {
+    let aggregate = numbers.between(0, 2) as u8;
+    let k = [0, 1, 64, 65][below(numbers, 4)];
+    let count = [0, 1, 16, 17][below(numbers, 4)];
+    let most = junctions - u16::from(numbers.once_in(2));
+    let crews: Vec<u16> = (0..count).map(|_| numbers.between16(0, most)).collect();
+    query::write(aggregate, k, 1_000, &crews)
 }
 
 /// Another junction, yard or landmark count.

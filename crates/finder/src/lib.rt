@@ -1,10 +1,13 @@
 // The calls of the planner, which is in C. A slice is a pointer and a count there; include/finder.h declares them and says what is lent.
+use search::Found;
 use tree_build::Built;
 ghost use mathlib.Core.Path.{_≡_};
 ghost use lib.ListN.{length};
 ghost use Rattle.work_area.specs.Work.{workAfter};
 ghost use Rattle.tree_check.specs.Check.{checkAnswer};
 ghost use Rattle.tree_build.specs.Build.{buildAnswer, builtLength, treeAfter};
+ghost use Rattle.search_call.specs.Call.{searchRefusal, searchFound, resultsAfter};
+ghost use Rattle.search.specs.Found.{foundOf};
 
 // Checks a tree book beside a road book and a yard book: 0, or the number of the first test that fails. An accepted call zeroes the first 16,384 work words.
 #[no_mangle]
@@ -37,4 +40,24 @@ pub extern "C" fn finder_build(
         (length (now (work .entry))) (now (tree .entry)) ⌝ }
 {
     tree_build::build(road, yard, m, limit, work, tree)
+}
+
+// Searches a tree book beside a road book for what a query book asks, by steps up to its limit: settled, with the list written over the start of the result area, or
+// spent; or the number of the first test that fails. An accepted call zeroes the first 16,384 work words.
+#[no_mangle]
+pub extern "C" fn finder_search(
+    road: &[u8],
+    tree: &[u8],
+    query: &[u8],
+    work: &mut [u32],
+    results: &mut [u32],
+) -> Found
+    ensures found { λ r. ⌜ foundOf r ≡ searchFound (now (road .entry)) (now (tree .entry)) (now (query .entry))
+        (length (now (work .entry))) (length (now (results .entry))) ⌝ }
+    ensures work { λ _. ⌜ now (work .exit) ≡ workAfter (searchRefusal (now (road .entry)) (now (tree .entry)) (now (query .entry))
+        (length (now (work .entry))) (length (now (results .entry)))) (now (work .entry)) ⌝ }
+    ensures results { λ _. ⌜ now (results .exit) ≡ resultsAfter (now (road .entry)) (now (tree .entry)) (now (query .entry))
+        (length (now (work .entry))) (now (results .entry)) ⌝ }
+{
+    search::search(road, tree, query, work, results)
 }

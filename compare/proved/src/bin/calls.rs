@@ -1,72 +1,139 @@
 //! The command `calls`: how long the proved calls take beside the plain ones, on the grid district with 256 yards.
 #![forbid(unsafe_code)]
 
-use std::hint::black_box;
-use std::time::{Duration, Instant};
+use std::time::Duration;
 
 use compare::build::AREA_BYTES;
-use compare::generate::standard;
+use compare::generate::{standard, Numbers};
 use compare::refusal::WORK_WORDS;
+use compare::{query, road, yard, Found};
+use proved::turns::{shortest, Call};
 
-/// How long the two calls of a row take turns; the shortest time of each counts.
+/// How long the calls of a row take turns.
 const TURNS: Duration = Duration::from_secs(4);
+const SEARCH_TURNS: Duration = Duration::from_secs(2);
 const SEED: u32 = 2026;
 const YARDS: u32 = 256;
 const LANDMARKS: u32 = 4;
 const LEAF_LIMITS: [u32; 3] = [1, 16, 256];
+/// Of the tree that is searched.
+const LEAF_LIMIT: u32 = 16;
+const CREWS: [usize; 4] = [2, 4, 8, 16];
+const KS: [u8; 3] = [1, 10, 64];
+const AGGREGATES: [&str; 2] = ["sum", "maximum"];
 /// The ratio that is wanted of each call.
 const WANTED: f64 = 1.0;
 
-/// Prints a row for each call and leaf limit: the proved call's time, the plain one's, and the ratio.
+/// The district's road and yard books.
+struct District {
+    road: Vec<u8>,
+    yard: Vec<u8>,
+}
+
+/// Prints a row for each call: the proved call's time, the plain one's, and the ratio.
 fn main() {
-    let road = standard::road_book("grid", SEED).expect("the kind is known");
-    let yard = standard::yard_book(YARDS, SEED).expect("a book may have so many");
-    let work = &mut [0; WORK_WORDS];
+    let district = District {
+        road: standard::road_book("grid", SEED).expect("the kind is known"),
+        yard: standard::yard_book(YARDS, SEED).expect("a book may have so many"),
+    };
     println!("call   leaf limit   proved ms   plain ms   ratio   wanted");
     for leaf_limit in LEAF_LIMITS {
-        let mut area = vec![0; AREA_BYTES];
-        let built = compare::build(&road, &yard, LANDMARKS, leaf_limit, work, &mut area);
-        let tree = &area[..built.length as usize];
-        let ours = |work: &mut [u32]| proved::check(&road, &yard, tree, work);
-        let theirs = |work: &mut [u32]| compare::check(&road, &yard, tree, work);
-        row("check", leaf_limit, ours, theirs);
+        check_row(&district, leaf_limit);
     }
     for leaf_limit in LEAF_LIMITS {
-        let (one, other) = (&mut vec![0; AREA_BYTES], &mut vec![0; AREA_BYTES]);
-        let ours = |work: &mut [u32]| {
-            proved::build(&road, &yard, LANDMARKS, leaf_limit, work, one).refusal
-        };
-        let theirs = |work: &mut [u32]| {
-            compare::build(&road, &yard, LANDMARKS, leaf_limit, work, other).refusal
-        };
-        row("build", leaf_limit, ours, theirs);
+        build_row(&district, leaf_limit);
+    }
+    println!("search crews  k aggregate   proved ms   plain ms   ratio   wanted   brute force ms   ratio");
+    let tree = built(&district, LEAF_LIMIT);
+    for crews in CREWS {
+        for k in KS {
+            for aggregate in 0..AGGREGATES.len() {
+                search_row(&district, &tree, crews, k, aggregate);
+            }
+        }
     }
 }
 
-/// One row; both calls must be accepted. They take turns, so that both see the same machine.
-fn row(
-    call: &str,
-    leaf_limit: u32,
-    mut ours: impl FnMut(&mut [u32]) -> u32,
-    mut theirs: impl FnMut(&mut [u32]) -> u32,
-) {
-    let (mut best, mut plain) = (Duration::MAX, Duration::MAX);
-    let start = Instant::now();
-    while start.elapsed() < TURNS {
-        best = best.min(timed(&mut ours));
-        plain = plain.min(timed(&mut theirs));
-    }
-    let (best, plain) = (best.as_secs_f64() * 1e3, plain.as_secs_f64() * 1e3);
+/// The district's tree.
+fn built(District { road, yard }: &District, leaf_limit: u32) -> Vec<u8> {
+    let mut area = vec![0; AREA_BYTES];
+    let work = &mut [0; WORK_WORDS];
+    let built = compare::build(road, yard, LANDMARKS, leaf_limit, work, &mut area);
+    area.truncate(built.length as usize);
+    area
+}
+
+/// A check of the district's tree.
+fn check_row(district: &District, leaf_limit: u32) {
+    let tree = built(district, leaf_limit);
+    let District { road, yard } = district;
+    let ours: Call = &mut |work| proved::check(road, yard, &tree, work);
+    let theirs: Call = &mut |work| compare::check(road, yard, &tree, work);
+    row("check", leaf_limit, ours, theirs);
+}
+
+/// A build of the district's tree.
+fn build_row(District { road, yard }: &District, leaf_limit: u32) {
+    let (one, other) = (&mut vec![0; AREA_BYTES], &mut vec![0; AREA_BYTES]);
+    let ours: Call =
+        &mut |work| proved::build(road, yard, LANDMARKS, leaf_limit, work, one).refusal;
+    let theirs: Call =
+        &mut |work| compare::build(road, yard, LANDMARKS, leaf_limit, work, other).refusal;
+    row("build", leaf_limit, ours, theirs);
+}
+
+/// One row of a check or a build.
+fn row(call: &str, leaf_limit: u32, ours: Call, theirs: Call) {
+    let [best, plain] = shortest(TURNS, [ours, theirs]);
     let ratio = best / plain;
     println!("{call:<6} {leaf_limit:>10} {best:>11.2} {plain:>10.2} {ratio:>7.2} {WANTED:>8.1}");
 }
 
-/// How long an accepted call takes.
-fn timed(call: &mut impl FnMut(&mut [u32]) -> u32) -> Duration {
-    let mut work = [7; WORK_WORDS];
-    let start = Instant::now();
-    let refusal = call(black_box(&mut work));
-    let took = start.elapsed();
-    assert_eq!(refusal, 0);
-    took
+/// One search's row, also beside brute force. All three must give the same list.
+fn search_row(district: &District, tree: &[u8], crews: usize, k: u8, aggregate: usize) {
+    let query = some_query(crews, k, aggregate);
+    let District { road, yard } = district;
+    let mut lists = [[0; 128]; 3];
+    let [one, other, third] = &mut lists;
+    let ours: Call = &mut |work| settled(proved::search(road, tree, &query, work, one));
+    let theirs: Call = &mut |work| settled(compare::search(road, tree, &query, work, other));
+    let brute: Call = &mut |_| brute_force([road, yard, &query], third).map_or_else(|r| r, |()| 0);
+    let [best, plain, brute] = shortest(SEARCH_TURNS, [ours, theirs, brute]);
+    assert!(lists[0] == lists[1] && lists[1] == lists[2]);
+    let (aggregate, ratio, gain) = (AGGREGATES[aggregate], best / plain, best / brute);
+    println!(
+        "search {crews:>5} {k:>2} {aggregate:<9} {best:>11.3} {plain:>10.3} {ratio:>7.2} {WANTED:>8.1} {brute:>16.3} {gain:>7.2}"
+    );
+}
+
+/// A query with so many crews anywhere in the district, and steps enough.
+fn some_query(crews: usize, k: u8, aggregate: usize) -> Vec<u8> {
+    let mut numbers = Numbers::new(u64::from(SEED));
+    let crews: Vec<u16> = (0..crews).map(|_| numbers.between16(0, 1_023)).collect();
+    query::write(aggregate as u8, k, u32::MAX, &crews)
+}
+
+/// The refusal of a search that must have settled.
+fn settled(found: Found) -> u32 {
+    assert_eq!(found.settled, 1);
+    found.refusal
+}
+
+/// The first k yards without a tree: each crew's distances by Dijkstra, all yards sorted. The same words are written.
+fn brute_force([road, yard, query]: [&[u8]; 3], results: &mut [u32]) -> Result<(), u32> {
+    let road = road::read(road)?;
+    let yards = yard::read(yard, road.junctions)?;
+    let query = query::read(query, road.junctions)?;
+    let distances = |&crew: &u16| road.least_distances(crew);
+    let rows: Vec<Vec<u32>> = query.crews.iter().map(distances).collect();
+    let ranked = |&yard: &u16| {
+        let to_crews = rows.iter().map(|row| u64::from(row[usize::from(yard)]));
+        (query.aggregate.over(to_crews), yard)
+    };
+    let mut ranked: Vec<(u64, u16)> = yards.iter().map(ranked).collect();
+    ranked.sort_unstable();
+    for (words, (distance, yard)) in results.chunks_mut(2).zip(ranked).take(query.k) {
+        words.copy_from_slice(&[u32::from(yard), distance as u32]);
+    }
+    Ok(())
 }
