@@ -1,13 +1,13 @@
 -- The work area's test, and the area after a call. Assumes nothing.
 use mathlib.Core.Path.{_≡_, refl, sym, ap, _∙_}
-use mathlib.Core.Bool.{Bool, true, false}
+use mathlib.Core.Bool.{Bool}
 use mathlib.Core.List.{List}
 use Prim.Native.Nat.{ℕ, _≤_, _<_}
 use native.Mathlib.Omega.{arith}
 use lib.ListN.{length, replicate, drop, length-append, length-drop}
 use lib.Dec.{T, leb, eqb, leb→le, le→leb, not-T}
 use Rattle.book.specs.Choose.{choose}
-use Rattle.book.proofs.Choosing.{passes, fails, passed, choose-yes, choose-no}
+use Rattle.book.proofs.Choosing.{passes, fails, passed, choose-yes, choose-no, choose-map}
 use Rattle.book.proofs.Lists.{eq→eqb, ne→neqb}
 use Rattle.book.proofs.Filling.{filled, filled-parts}
 use Rattle.work_area.specs.Work.{workWords, workRefusal, zeroed, workAfter}
@@ -44,11 +44,8 @@ zeroed-length : (n : ℕ) (v w : List ℕ) → length v ≡ length w → length 
 unfolding zeroed
 zeroed-length n v w e = omega (arith, length-append (replicate n 0) (drop n v), length-append (replicate n 0) (drop n w), length-drop n v, length-drop n w)
 
-either-length : (b : Bool) (v w x y : List ℕ) → length v ≡ length w → length x ≡ length y → length (choose b x v) ≡ length (choose b y w)
-unfolding choose
-either-length true v w x y e f = f
-either-length false v w x y e f = e
-
 pub after-length : (refusal : ℕ) (v w : List ℕ) → length v ≡ length w → length (workAfter refusal v) ≡ length (workAfter refusal w)
 unfolding workAfter
-after-length refusal v w e = either-length (eqb refusal 0) v w (zeroed workWords v) (zeroed workWords w) e (zeroed-length workWords v w e)
+after-length refusal v w e =
+    choose-map length (eqb refusal 0) (zeroed workWords v) v
+    ∙ rw (zeroed-length workWords v w e, e) (sym (choose-map length (eqb refusal 0) (zeroed workWords w) w))
