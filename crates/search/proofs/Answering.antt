@@ -11,7 +11,8 @@ use Rattle.book.proofs.Choosing.{choose-yes, choose-no, T-split}
 use Rattle.work_area.specs.Work.{zeroed, workAfter}
 use Rattle.work_area.proofs.Zeroing.{accepted-zeroed, refused-kept}
 use Rattle.search_call.specs.Call.{Found, accepted, searchRefusal, searchAnswer, searchFound, resultsAfter}
-use Rattle.search_call.proofs.Calls.{Accepted, tests, found-accepted, found-refused, refused-is, settled-writes, spent-keeps, refused-keeps}
+use Rattle.search_call.specs.Accepted.{Accepted}
+use Rattle.search_call.proofs.Calls.{tests, found-accepted, found-refused, refused-is, settled-writes, spent-keeps, refused-keeps}
 use Rattle.search.specs.Found.{foundOf, writtenBy}
 
 module _ (road tree query : List ℕ) (work results : List ℕ) (why : ℕ) (e : why ≡ searchRefusal road tree query (length work) (length results)) where

@@ -20,16 +20,15 @@ use Rattle.tree.proofs.Answering.{accepted-laid, accepted-slots, accepted-room,
 use Rattle.query.specs.Query.{crewCount, crewsOf, aggregateOf, wantedOf, limitOf, queryOf}
 use Rattle.query.specs.declared.Query.{Query}
 use Rattle.query.proofs.Reading.{asked-aggregate, asked-wanted, asked-limit, asked-crews}
-use Rattle.search_rules.specs.Books.{searchOf}
+use Rattle.search_rules.specs.Books.{searchOf, Passed}
 use Rattle.search_rules.specs.Run.{answer}
-use Rattle.search_rules.proofs.Books.{Passed}
 use Rattle.search_sheet.specs.Filling.{sheetRows}
 use Rattle.search_sheet.proofs.Filled.{sheet-filled}
 use Rattle.search_inner.specs.Children.{Ended}
 use Rattle.search_leaf.specs.Ready.{Ready}
 use Rattle.search_call.specs.Call.{searchAnswer}
 use Rattle.search.specs.Sheets.{AnySheet}
-use Rattle.search_call.proofs.Calls.{Accepted}
+use Rattle.search_call.specs.Accepted.{Accepted}
 
 -- what every element says of a book
 pub bytes-all : (b : List ℕ) → ((i : ℕ) → getD b i 0 < 256) → Bytes b

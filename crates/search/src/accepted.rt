@@ -12,7 +12,7 @@ ghost use Rattle.search_rules.specs.Run.{answer};
 ghost use Rattle.search_inner.specs.Children.{Ended};
 ghost use Rattle.search_leaf.specs.Ready.{Ready};
 ghost use Rattle.search_call.specs.Call.{accepted, searchAnswer};
-ghost use Rattle.search_call.proofs.Calls.{Accepted};
+ghost use Rattle.search_call.specs.Accepted.{Accepted};
 ghost use Rattle.search.specs.Found.{foundOf, answerOf, writtenBy};
 ghost use Rattle.search.specs.Sheets.{AnySheet};
 

@@ -22,20 +22,10 @@ use Rattle.query.specs.Query.{wantedOf, crewsOf, QueryLayout}
 use Rattle.query.proofs.Crews.{crews-length, crews-below}
 use Rattle.query.proofs.Reading.{passing as query-passing}
 use Rattle.search_rules.specs.Run.{Answer, words}
-use Rattle.search_rules.proofs.Books.{Passed}
+use Rattle.search_call.specs.Accepted.{Accepted}
 use Rattle.search_call.specs.Call.{treeRefusalIn, areasRefusal, searchRefusal, searchAnswer, Found, refused, accepted, searchFound, overStart, resultsAfter, Call, Areas, foundOn, callOn}
 
 -- ---- the tests
-
--- what holds of an accepted call
-pub record Accepted (road tree query : List ℕ) (work results : ℕ) : Type 0 where
-  pub roads : roadRefusal road ≡ 0
-  pub shape : treeRefusal tree ≡ 0
-  pub counts : junctionCount tree ≡ junctions road
-  pub asked : QueryLayout query (junctions road)
-  pub books : Bytes tree → Passed road tree (crewsOf query)
-  pub work-full : workWords ≤ work
-  pub results-full : 2 * wantedOf query ≤ results
 
 module _ (road tree query : List ℕ) (work results : ℕ) where
   pub tests : searchRefusal road tree query work results ≡ 0 → Accepted road tree query work results

@@ -23,7 +23,8 @@ use Rattle.search_rules.specs.Run.{words, answer}
 use Rattle.search_rules.specs.Facts.{WellFormed, Sound}
 use Rattle.search_rules.specs.Theorems.{Sorted, TreeYards, Listing, Decided as RulesDecided}
 use Rattle.search_rules.proofs.Held.{before-not, greatest-is}
-use Rattle.search_rules.proofs.Books.{Passed, well-of, sound-of}
+use Rattle.search_rules.specs.Books.{Passed}
+use Rattle.search_rules.proofs.Books.{well-of, sound-of}
 use Rattle.search_rules.proofs.Asked.{asked-wanted, asked-yards, asked-there, asked-ends}
 use Rattle.search_rules.proofs.Theorems.{decided, answer-taken, answer-measured, answer-listing, answer-within, answer-spent, words-length}
 use Rattle.search_rules.proofs.Walks.{total-least, first-yards}

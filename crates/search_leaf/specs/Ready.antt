@@ -9,11 +9,10 @@ use lib.Dec.{T}
 use Rattle.road.specs.Adjacency.{links, Adjacency}
 use Rattle.tree.specs.Arrays.{Laid}
 use Rattle.search_rules.specs.Instance.{Instance, size, marks, leaf}
-use Rattle.search_rules.specs.Books.{searchOf}
+use Rattle.search_rules.specs.Books.{searchOf, Passed}
 use Rattle.search_rules.specs.Bounds.{noMark, chosen}
 use Rattle.search_rules.specs.Queue.{unqueued}
 use Rattle.search_rules.specs.Step.{nextF}
-use Rattle.search_rules.proofs.Books.{Passed}
 use Rattle.search_bounds.specs.Sheet.{Sheet}
 use Rattle.search_leaves.specs.Leaves.{Opened}
 

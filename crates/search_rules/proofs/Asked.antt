@@ -9,13 +9,13 @@ use Rattle.road_layout.specs.Road.{junctions}
 use Rattle.tree_layout.specs.Decode.{decode}
 use Rattle.tree.specs.Yards.{treeYards, inners}
 use Rattle.search_rules.specs.Instance.{Instance}
-use Rattle.search_rules.specs.Books.{searchOf}
+use Rattle.search_rules.specs.Books.{searchOf, Passed}
 use Rattle.search_rules.specs.Run.{answer}
 use Rattle.search_rules.specs.Facts.{Below}
 use Rattle.search_rules.specs.Theorems.{TreeYards}
 use Rattle.search_rules.proofs.Bounds.{below-range}
 use Rattle.search_rules.proofs.Trees.{tree-yards}
-use Rattle.search_rules.proofs.Books.{Passed, count, accepted-of, well-of}
+use Rattle.search_rules.proofs.Books.{count, accepted-of, well-of}
 use Rattle.search_rules.proofs.Theorems.{answer-ends}
 
 module _ (road tree : List ℕ) (code wanted : ℕ) (crews : List ℕ) where

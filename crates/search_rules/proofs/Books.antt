@@ -4,10 +4,8 @@ use mathlib.Core.List.{List, List·Memᴰ as Mem}
 use Prim.Native.Nat.{ℕ, _≤_, _<_}
 use native.Mathlib.Omega.{arith}
 use lib.ListN.{length}
-use Rattle.book.specs.Bytes.{Bytes}
 use Rattle.road_layout.specs.Road.{junctions}
 use Rattle.road.specs.Dijkstra.{dist}
-use Rattle.road.specs.Facts.{Passing}
 use Rattle.road.proofs.Theorems.{metric, symmetric}
 use Rattle.tree_layout.specs.Values.{Element, Mark, regionAt}
 use Rattle.tree_layout.specs.Decode.{decode, junctionCount}
@@ -15,20 +13,9 @@ use Rattle.tree_layout.proofs.Places.{decode-junctions}
 use Rattle.tree.specs.Shape.{treeRefusal}
 use Rattle.tree.specs.Yards.{yardsBelow}
 use Rattle.search_rules.specs.Instance.{Instance}
-use Rattle.search_rules.specs.Books.{searchOf}
+use Rattle.search_rules.specs.Books.{searchOf, Passed}
 use Rattle.search_rules.specs.Facts.{WellFormed, Metric, Symmetric, Sound}
 use Rattle.search_rules.proofs.Trees.{Accepted, accepted-tree, well-formed, truth-of}
-
--- what the tests give of the two books and the crews
-pub record Passed (road tree crews : List ℕ) : Type 0 where
-  pub roads : Passing road
-  pub bytes : Bytes tree
-  pub shaped : treeRefusal tree ≡ 0
-  -- "Junction counts .. disagree between books"
-  pub counts : junctions road ≡ junctionCount tree
-  -- "Crews are none, more than 16, or at no junction of the road book."
-  pub few : length crews ≤ 16
-  pub there : (q : ℕ) → Mem q crews → q < junctions road
 
 module _ (road tree : List ℕ) (code wanted : ℕ) (crews : List ℕ) (p : Passed road tree crews) where
   abbrev i : Instance

@@ -15,7 +15,7 @@ use Rattle.tree_layout.specs.Values.{Element}
 use Rattle.tree_layout.specs.Decode.{decode}
 use Rattle.tree.specs.Yards.{treeYards}
 use Rattle.search_rules.specs.Instance.{Instance}
-use Rattle.search_rules.specs.Books.{searchOf}
+use Rattle.search_rules.specs.Books.{searchOf, Passed}
 use Rattle.search_rules.specs.Bounds.{combine, aggregate, over, total}
 use Rattle.search_rules.specs.Held.{entry}
 use Rattle.search_rules.specs.Run.{run, answer}
@@ -25,7 +25,7 @@ use Rattle.search_rules.specs.Walks.{AggregateLeast, none, more, FirstYa
 use Rattle.search_rules.proofs.Bounds.{below-range}
 use Rattle.search_rules.proofs.Found.{run-complete}
 use Rattle.search_rules.proofs.Trees.{Accepted, tree-yards}
-use Rattle.search_rules.proofs.Books.{Passed, count, accepted-of, well-of}
+use Rattle.search_rules.proofs.Books.{count, accepted-of, well-of}
 use Rattle.search_rules.proofs.Theorems.{answer-settled, answer-listed, answer-listing}
 
 module _ (road tree : List ℕ) (code wanted : ℕ) (crews : List ℕ) (p : Passed road tree crews) where
