@@ -1,11 +1,11 @@
 -- A loop that fills a list from the front, one store a turn: after n turns it is `filled n v d`. Assumes nothing.
-use mathlib.Core.Path.{_≡_, refl, sym, ap, _∙_}
+use mathlib.Core.Path.{_≡_, refl, ap}
 use mathlib.Core.List.{List, [], _∷_, _++_}
 use Prim.Native.Nat.{ℕ, zero, suc, _+_, _≤_, _<_}
 use native.Mathlib.Nat.{not-suc-le-zero, le-of-suc-le-suc}
 use native.Mathlib.Numerals.{add-one}
 use native.Mathlib.Omega.{arith}
-use lib.ListN.{length, getD, set, drop, replicate, length-append, length-replicate, length-drop, drop-of-length-le}
+use lib.ListN.{length, set, drop, replicate, drop-of-length-le}
 
 module _ {A : Type 0} where
   -- d with its first n elements v
@@ -25,10 +25,6 @@ module _ {A : Type 0} where
   -- one store more
   pub filled-more : (n : ℕ) (v : A) (d t : List A) → t ≡ filled n v d → n < length d → set t n v ≡ filled (n + 1) v d
   filled-more n v d t e l = rw (e, add-one) (filled-suc n v d l)
-
-  pub filled-length : (n : ℕ) (v : A) (d : List A) → n ≤ length d → length (filled n v d) ≡ length d
-  unfolding filled
-  filled-length n v d l = simp (length-append, length-replicate, length-drop) (omega arith)
 
   all : (n : ℕ) (v : A) (d : List A) → length d ≤ n → filled n v d ≡ replicate n v
   unfolding filled

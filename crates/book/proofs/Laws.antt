@@ -1,6 +1,6 @@
 -- Laws of the numbers in bytes: what is put is read back, what lies elsewhere is kept, and a number is that of its own bytes, wherever they stand.
 -- One law, `double`, takes a width to twice that width. Assumes nothing.
-use mathlib.Core.Path.{_≡_, refl, sym, ap, _∙_}
+use mathlib.Core.Path.{_≡_, refl, _∙_}
 use mathlib.Core.Logic.{_≢_}
 use mathlib.Core.List.{List}
 use Prim.Native.Nat.{ℕ, _+_, _*_, _/_, _%_, _≤_, _<_}
@@ -9,7 +9,7 @@ use native.Mathlib.Omega.{arith}
 use lib.ListN.{length, getD, set, length-set}
 use lib.Seq.{getD-set-same, getD-set-other, getD-take, getD-drop}
 use lib.ListN.{take, drop}
-use Rattle.book.specs.Bytes.{u8At, u16At, u32At, putU16, putU32, Bytes}
+use Rattle.book.specs.Bytes.{u16At, u32At, putU16, putU32, Bytes}
 
 -- a way to read and to put a number in w bytes
 pub record Width (w : ℕ) (read : List ℕ → ℕ → ℕ) (put : List ℕ → ℕ → ℕ → List ℕ) : Type 0 where
@@ -82,11 +82,6 @@ part {w} W b a n i h =
     W .own (take n (drop a b)) b i (a + i) (λ k l.
     let z : a + i + k ≡ a + (i + k) = omega arith in
     getD-take n (drop a b) (i + k) 0 (omega arith) ∙ getD-drop a b (i + k) 0 ∙ rw z refl)
-
--- numbers of bytes fit their widths
-pub u8-small : (b : List ℕ) → Bytes b → (i : ℕ) → u8At b i < 256
-unfolding u8At Bytes
-u8-small b h i = h i
 
 pub u16-small : (b : List ℕ) → Bytes b → (i : ℕ) → u16At b i < 65536
 unfolding u16At Bytes

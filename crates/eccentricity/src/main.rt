@@ -7,7 +7,7 @@ ghost use Prim.Native.Nat.{ℕ, _≤_, _<_, max};
 ghost use lib.ListN.{length};
 ghost use Rattle.road_layout.specs.Road.{junctions};
 ghost use Rattle.road_layout.specs.Layout.{layoutRefusal};
-ghost use Rattle.road.specs.Adjacency.{links, Adjacency};
+ghost use Rattle.adjacency.specs.Adjacency.{links, Adjacency};
 ghost use Rattle.eccentricity.specs.Rows.{furthestOf, totalOf};
 
 fn wide(x: u32) -> u64
@@ -84,7 +84,7 @@ fn rows(b: &[u8], n: u16)
     let mut next = [0u16; 8193];
     let mut to = [0u16; 8193];
     let mut cost = [0u16; 8193];
-    road::adjacency::fill(b, &mut head, &mut next, &mut to, &mut cost);
+    adjacency::fill(b, &mut head, &mut next, &mut to, &mut cost);
     io::write_all(STDOUT_FILENO, b"junction furthest total\n");
     all_rows(b, &head, &next, &to, &cost, n);
 }

@@ -1,17 +1,16 @@
 -- Which answers of the layout and of the walk from junction 0 lead to which answer of the reader. Assumes nothing.
-use mathlib.Core.Path.{_≡_, refl, sym, ap, _∙_}
+use mathlib.Core.Path.{_≡_, sym, ap, _∙_}
 use mathlib.Core.Bool.{true, false}
 use mathlib.Core.List.{List}
-use Prim.Native.Nat.{ℕ, zero, suc, _≤_}
+use Prim.Native.Nat.{ℕ, _≤_}
 use native.Mathlib.Omega.{arith}
-use Rattle.book.specs.Choose.{refuse, firstOf}
 use Rattle.book.proofs.Choosing.{first-earlier, first-later, first-none, passes-if, fails-if}
 use Rattle.road_layout.specs.Road.{junctions, roadCount}
 use Rattle.road_layout.specs.Layout.{layoutRefusal, told}
 use Rattle.road_layout.specs.declared.RoadBook.{RoadBook}
 use Rattle.road_layout.specs.declared.RoadBook.the-variants.{Sound, Refused}
 use Rattle.road_layout.proofs.Reading.{told-refused, told-zero, told-sound, told-why}
-use Rattle.road.specs.Walk.{net}
+use Rattle.adjacency.specs.Arcs.{net}
 use Rattle.road.specs.Dijkstra.{distances}
 use Rattle.road.specs.Refusal.{reached, roadRefusal}
 

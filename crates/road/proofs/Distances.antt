@@ -1,18 +1,19 @@
 -- Dijkstra's distances are the least totals, and the mark stands where there is no walk; they are a metric along roads, and bounded.
-use mathlib.Core.Path.{_≡_, refl, sym, ap, _∙_}
+use mathlib.Core.Path.{_≡_, sym, _∙_}
 use mathlib.Core.Logic.{_⊎_, inl, inr, _≢_}
-use mathlib.Core.List.{List, [], _∷_, List·Memᴰ, List·Memᴰ·head, List·Memᴰ·tail}
-use Prim.Native.Nat.{ℕ, zero, suc, _+_, _*_, _-_, _≤_, _<_}
+use mathlib.Core.List.{List}
+use Prim.Native.Nat.{ℕ, _+_, _*_, _-_, _≤_, _<_}
 use native.Mathlib.Decide.{ℕ-discrete}
 use native.Mathlib.Omega.{arith}
 use lib.ListN.{length}
 use lib.Dec.{T}
 use Rattle.road_layout.specs.Road.{Road}
-use Rattle.road.specs.Walk.{Arc, arcs, Walk, stay, step, Least, Sound}
+use Rattle.adjacency.specs.Arcs.{Arc, arcs}
+use Rattle.road.specs.Walk.{Walk, stay, step, Least, Sound}
 use Rattle.road.specs.Dijkstra.{far, width, at, State, walked, walkFrom, distances}
-use Rattle.road.proofs.Walks.{join, turn, least-unique, least-symmetric}
+use Rattle.road.proofs.Walks.{join, turn, least-symmetric}
 use Rattle.road.proofs.Picking.{tally, tally-full}
-use Rattle.road.proofs.Rounds.{Inv, After, Finished, after-rounds}
+use Rattle.road.proofs.Rounds.{Inv, Finished, after-rounds}
 
 -- The distance from u to v along arcs, among n junctions.
 abbrev pub along-arcs : List Arc → ℕ → ℕ → ℕ → ℕ

@@ -4,11 +4,10 @@ pub mod Picking
 pub mod Rounds
 pub mod Distances
 pub mod Theorems
-pub mod Linking
 pub mod Shortening
+pub mod Following
 pub mod Queueing
 pub mod Stepping
 pub mod Reaching
 pub mod Answering
-pub mod Chains
 pub mod Reading

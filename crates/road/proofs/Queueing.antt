@@ -1,24 +1,24 @@
 -- Laws of the walk's queue: what shortening and walking on do to it, and that its top is the nearest junction. Assumes nothing.
 use mathlib.Core.Path.{_≡_, refl, sym, ap, _∙_}
-use mathlib.Core.Logic.{_⊎_, inl, inr, _≢_}
-use mathlib.Core.Bool.{Bool, true, false, not}
+use mathlib.Core.Logic.{_⊎_, inl, inr}
+use mathlib.Core.Bool.{Bool, not}
 use mathlib.Core.List.{List, [], _∷_, List·Memᴰ, List·Memᴰ·head, List·Memᴰ·tail}
-use Prim.Native.Nat.{ℕ, zero, suc, _+_, _*_, _/_, _%_, _≤_, _<_}
+use Prim.Native.Nat.{ℕ, _+_, _*_, _≤_, _<_}
 use native.Mathlib.Decide.{ℕ-discrete, decLt}
-use native.Mathlib.Numerals.{add-one}
 use native.Mathlib.Omega.{arith}
-use lib.ListN.{length, getD, set, length-set, replicate}
-use lib.Dec.{T, T-not, ltb, eqb, ltb→lt, lt→ltb, nltb→le}
+use lib.ListN.{length, set, length-set}
+use lib.Dec.{T, T-not, ltb, eqb, ltb→lt, lt→ltb}
 use borrow.Author.Tests.{le-ltb}
 use Rattle.book.specs.Choose.{choose}
 use Rattle.book.proofs.Choosing.{choose-case, choose-yes, choose-no, choose-map, false-T, T-split}
-use Rattle.tournament.specs.Tournament.{putLeaf, leaf, top, Tournament}
-use Rattle.tournament.proofs.Laws.{put-tournament, put-same, put-other, top-least, top-leaf}
-use Rattle.road.specs.Walk.{Arc, Sound}
-use Rattle.road.specs.Dijkstra.{far, width, at, State, walked, score, pick, shorten, relaxArc, relax, walkOn}
-use Rattle.road.specs.Queue.{state, mark, word, wordOf, Queued, Reach, reach, shortenBoth, relaxBoth}
+use Rattle.tournament.specs.Tournament.{putLeaf, leaf, top}
+use Rattle.tournament.proofs.Laws.{put-tournament, put-same, put-other}
+use Rattle.adjacency.specs.Arcs.{Arc}
+use Rattle.road.specs.Walk.{Sound}
+use Rattle.road.specs.Dijkstra.{far, width, at, State, walked, score, shorten, relaxArc, relax}
+use Rattle.road.specs.Queue.{state, mark, word, wordOf, Queued, Reach, reach, Ready, shortenBoth, relaxBoth}
 use Rattle.road.proofs.Relaxing.{at-set-same, at-set-other}
-use Rattle.road.proofs.Picking.{score-open, score-low, pick-below, pick-least, pick-first, walked-same, walked-other}
+use Rattle.road.proofs.Picking.{score-open, score-low}
 
 -- ---- words
 
@@ -52,6 +52,17 @@ pub record Fine (done : List Bool) (d : ℕ) (s : Reach) : Type 0 where
   pub most : (v : ℕ) → at (s .ds) v ≤ far
   pub low : (w : ℕ) → T (walked done w) → at (s .ds) w ≤ d
   pub queued : Queued (s .queue) (state (s .ds) done)
+
+-- no word is below its junction's distance
+pub fine-ready : (done : List Bool) (d : ℕ) (s : Reach) → Fine done d s → Ready (s .ds) (s .queue)
+fine-ready done d s f = record { tournament = f .queued .tournament; below = λ v b. below v b (decLt (score st v) far) }
+  where
+    st : State
+    st = state (s .ds) done
+
+    below : (v : ℕ) → v < width → Dec (score st v < far) → at (s .ds) v * 1024 ≤ leaf (s .queue) v
+    below v b (yes h) = omega (arith, f .queued .words v b, word-queued st v h, score-open st v (score-low st v h))
+    below v b (no h) = omega (arith, f .queued .words v b, word-marked st v (omega arith), f .most v)
 
 module _ (done : List Bool) (d : ℕ) where
   shorten-fine : (s : Reach) (v x : ℕ) → v < width → d ≤ x → Fine done d s → Fine done d (shortenBoth s v x)

@@ -1,13 +1,12 @@
 -- A walk's words are the distances. Assumes nothing.
-use mathlib.Core.Path.{_≡_, refl, sym, ap, _∙_}
-use mathlib.Core.Bool.{Bool, false}
+use mathlib.Core.Path.{_≡_, refl, ap, _∙_}
 use mathlib.Core.List.{List, [], _∷_}
 use Prim.Native.Nat.{ℕ, zero, suc, _<_}
 use native.Mathlib.Omega.{arith}
 use lib.ListN.{length, getD}
 use Rattle.road_layout.specs.Road.{junctions}
-use Rattle.road.specs.Walk.{net}
-use Rattle.road.specs.Dijkstra.{far, at, walked, distances, dist}
+use Rattle.adjacency.specs.Arcs.{net}
+use Rattle.road.specs.Dijkstra.{far, at, distances, dist}
 
 getD-any : (l : List ℕ) (i d e : ℕ) → i < length l → getD l i d ≡ getD l i e
 getD-any [] i d e h = absurd (omega arith)
@@ -18,8 +17,3 @@ getD-any (x ∷ xs) (suc i) d e h = getD-any xs i d e (omega arith)
 pub dist-read : (b ds : List ℕ) (l y : ℕ) → ds ≡ distances (net b) (junctions b) l → y < length ds → getD ds y 0 ≡ dist b l y
 unfolding dist at
 dist-read b ds l y e h = getD-any ds y 0 far h ∙ ap (λ (z : List ℕ). getD z y far) e
-
--- the mark of junction v as it is read
-pub walked-read : (done : List Bool) (v : ℕ) → getD done v false ≡ walked done v
-unfolding walked
-walked-read done v = refl

@@ -1,16 +1,16 @@
 -- What relaxing the arcs that leave a junction does to the distances.
-use mathlib.Core.Path.{_≡_, refl, sym, _∙_, subst}
+use mathlib.Core.Path.{_≡_, refl, sym, _∙_}
 use mathlib.Core.Logic.{_⊎_, inl, inr, _≢_}
 use mathlib.Core.List.{List, [], _∷_, List·Memᴰ, List·Memᴰ·head, List·Memᴰ·tail, List·Memᴰ·not-nil}
-use Prim.Native.Nat.{ℕ, zero, suc, _+_, _≤_, _<_}
-use native.Mathlib.Nat.{le-refl, le-trans, le-of-eq}
+use Prim.Native.Nat.{ℕ, _+_, _≤_, _<_}
+use native.Mathlib.Nat.{le-trans}
 use native.Mathlib.Decide.{ℕ-discrete}
 use native.Mathlib.Omega.{arith}
-use lib.ListN.{length, getD, set, length-set}
+use lib.ListN.{length, set, length-set}
 use lib.Seq.{getD-set-same, getD-set-other}
-use lib.Dec.{T, ltb, eqb, ltb→lt, nltb→le, eqb→eq, eqb-refl, T-not}
+use lib.Dec.{ltb, eqb, ltb→lt, nltb→le, eqb→eq, eqb-refl, T-not}
 use Rattle.book.proofs.Choosing.{choose-case}
-use Rattle.road.specs.Walk.{Arc}
+use Rattle.adjacency.specs.Arcs.{Arc}
 use Rattle.road.specs.Dijkstra.{far, at, shorten, relaxArc, relax}
 
 -- v is the end of an arc that leaves u, and t is d plus the arc's seconds.

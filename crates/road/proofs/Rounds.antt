@@ -1,20 +1,21 @@
 -- Dijkstra's rounds: what holds after each, and that the distances are least at the end.
-use mathlib.Core.Path.{_≡_, refl, sym, ap, _∙_}
+use mathlib.Core.Path.{_≡_, refl, ap, _∙_}
 use mathlib.Core.Logic.{_⊎_, inl, inr, _≢_}
 use mathlib.Core.Bool.{Bool, true, false, not}
-use mathlib.Core.List.{List, [], _∷_, List·Memᴰ}
+use mathlib.Core.List.{List, List·Memᴰ}
 use Prim.Native.Nat.{ℕ, zero, suc, _+_, _*_, _≤_, _<_}
 use native.Mathlib.Nat.{le-trans}
 use native.Mathlib.Decide.{ℕ-discrete}
 use native.Mathlib.Omega.{arith}
-use lib.ListN.{length, getD, set, replicate, length-set, length-replicate}
+use lib.ListN.{length, set, replicate, length-set, length-replicate}
 use lib.Dec.{T, ltb, ltb→lt, nltb→le, T-not}
 use Rattle.book.proofs.Choosing.{choose-case}
-use Rattle.road.specs.Walk.{Arc, Walk, stay, step, Least, Fit, Sound}
-use Rattle.road.specs.Dijkstra.{far, width, at, State, walked, score, pick, relax, walkOn, roundAt, rounds, start, distances, dist}
+use Rattle.adjacency.specs.Arcs.{Arc}
+use Rattle.road.specs.Walk.{Walk, stay, Sound}
+use Rattle.road.specs.Dijkstra.{far, width, at, State, walked, score, pick, relax, walkOn, roundAt, rounds, start, distances}
 use Rattle.road.proofs.Walks.{snoc}
 use Rattle.road.proofs.Relaxing.{Arrival, Relaxed, relax-is, at-set-same, at-set-other}
-use Rattle.road.proofs.Picking.{score-open, score-low, pick-below, pick-least, tally, tally-start, tally-set, tally-full, walked-start, walked-new, walked-not}
+use Rattle.road.proofs.Picking.{score-open, score-low, pick-below, pick-least, tally, tally-start, tally-set, walked-start, walked-new, walked-not}
 
 -- What holds after j rounds.
 pub record Inv (net : List Arc) (n source j : ℕ) (st : State) : Type 0 where

@@ -1,28 +1,29 @@
 -- One round of a walk by its arrays is one round of the definition. Assumes nothing.
 use mathlib.Core.Path.{_≡_, refl, sym, ap, _∙_}
-use mathlib.Core.Logic.{_⊎_, inl, inr, _≢_}
+use mathlib.Core.Logic.{_⊎_, inl, inr}
 use mathlib.Core.Bool.{Bool, true, false, not}
-use mathlib.Core.List.{List, List·Memᴰ}
-use Prim.Native.Nat.{ℕ, zero, suc, _+_, _*_, _/_, _%_, _≤_, _<_}
+use mathlib.Core.List.{List}
+use Prim.Native.Nat.{ℕ, _+_, _/_, _%_, _≤_, _<_}
 use native.Mathlib.Decide.{ℕ-discrete, decLt}
 use native.Mathlib.Numerals.{add-one}
 use native.Mathlib.Omega.{arith}
-use lib.ListN.{length, getD, set, replicate, length-replicate}
-use lib.Dec.{T, T-not, ltb, ltb→lt, lt→ltb, nltb→le}
+use lib.ListN.{length, set, replicate, length-replicate}
+use lib.Dec.{T, ltb, lt→ltb}
 use borrow.Author.Tests.{le-ltb}
-use Rattle.book.proofs.Choosing.{choose-yes, choose-no, false-T, T-split}
+use Rattle.book.proofs.Choosing.{choose-yes, choose-no, false-T}
 use Rattle.tournament.specs.Tournament.{putLeaf, leaf, top}
 use Rattle.tournament.proofs.Laws.{put-tournament, put-same, put-other, top-least, top-leaf, cleared, cleared-leaf}
 use Rattle.road_layout.specs.Road.{junctions}
 use Rattle.road_layout.specs.Layout.{layoutRefusal}
 use Rattle.road_layout.proofs.Layouts.{passing-layout}
-use Rattle.road.specs.Walk.{Arc, net, Walk, stay, step, Sound}
+use Rattle.adjacency.specs.Arcs.{Arc, net}
+use Rattle.road.specs.Walk.{Walk, stay, step, Sound}
 use Rattle.road.specs.Dijkstra.{far, width, at, State, walked, score, pick, relax, walkOn, roundAt, rounds, start, walkFrom, distances}
-use Rattle.road.specs.Queue.{state, mark, word, wordOf, Queued, Reach, reach, relaxBoth, Walking, Roomy}
+use Rattle.road.specs.Queue.{state, mark, word, wordOf, Queued, Reach, reach, Ready, relaxBoth, Walking, Roomy}
 use Rattle.road.proofs.Picking.{score-open, score-low, pick-below, pick-least, pick-first, walked-same, walked-other, walked-new, walked-start}
 use Rattle.road.proofs.Relaxing.{at-set-same, at-set-other}
-use Rattle.road.proofs.Rounds.{Inv, After, after-rounds, at-replicate}
-use Rattle.road.proofs.Queueing.{Fine, word-queued, word-marked, word-same, score-same, score-done, relax-fine, relax-ds}
+use Rattle.road.proofs.Rounds.{Inv, after-rounds, at-replicate}
+use Rattle.road.proofs.Queueing.{Fine, fine-ready, word-queued, word-marked, word-same, score-same, score-done, relax-fine, relax-ds}
 use Rattle.road.proofs.Theorems.{net-sound}
 
 -- ---- the top of the queue
@@ -162,6 +163,13 @@ module _ (b : List ℕ) (source k : ℕ) (ds : List ℕ) (done : List Bool) (que
   near-enough : top queue < mark → k < junctions b → top queue / 1024 ≤ 67042305
   near-enough h less = omega (arith, own h, inv .near (top queue % 1024) (rw (own h) (nearest h .reached)), small)
 
+  -- u, the nearest junction, marked
+  fine-marked : (h : top queue < mark) → Fine (set done (top queue % 1024) true) (top queue / 1024) (reach ds (putLeaf queue (top queue % 1024) mark))
+  fine-marked h =
+      rw (← own h) (marked-fine ds done queue (top queue % 1024) (nearest h .inside) (inv .size) (inv .marks) (inv .most)
+      (λ v t. inv .ahead v (top queue % 1024) (within (top queue % 1024) (nearest h .inside) (rw (nearest h .scored) (nearest h .reached))) t
+      (score-low st (top queue % 1024) (rw (nearest h .scored) (nearest h .reached)))) (w .queued))
+
   round-walks : (ds′ queue′ : List ℕ) (done′ : List Bool) → top queue < mark
       → reach ds′ queue′ ≡ relaxBoth (top queue % 1024) (top queue / 1024) (net b) (reach ds (putLeaf queue (top queue % 1024) mark))
       → done′ ≡ set done (top queue % 1024) true → Walking b source (k + 1) ds′ done′ queue′
@@ -176,14 +184,9 @@ module _ (b : List ℕ) (source k : ℕ) (ds : List ℕ) (done : List Bool) (que
       d : ℕ
       d = top queue / 1024
 
-      open-u : T (not (walked done u))
-      open-u = score-low st u (rw (nearest h .scored) (nearest h .reached))
-
       fine : Fine (set done u true) d (relaxBoth u d (net b) (reach ds (putLeaf queue u mark)))
       fine =
-          relax-fine (set done u true) d u (net b) (reach ds (putLeaf queue u mark)) wide
-          (rw (← own h) (marked-fine ds done queue u (nearest h .inside) (inv .size) (inv .marks) (inv .most)
-          (λ v t. inv .ahead v u (within u (nearest h .inside) (rw (nearest h .scored) (nearest h .reached))) t open-u) (w .queued)))
+          relax-fine (set done u true) d u (net b) (reach ds (putLeaf queue u mark)) wide (fine-marked h)
         where
           wide : Sound width (net b)
           wide a m =
@@ -209,6 +212,9 @@ module _ (b : List ℕ) (source k : ℕ) (ds : List ℕ) (done : List Bool) (que
   -- the same, by the word that was read
   pub near-by : (t : ℕ) → t ≡ top queue → t < mark → k < junctions b → t / 1024 ≤ 67042305
   near-by t e h less = rw e (near-enough (rw e at h) less)
+
+  pub ready-by : (t : ℕ) → t ≡ top queue → t < mark → Ready ds (putLeaf queue (t % 1024) mark)
+  ready-by t e h = rw e (fine-ready _ _ _ (fine-marked (rw e at h)))
 
   pub walks-by : (t : ℕ) → t ≡ top queue → (ds′ queue′ : List ℕ) (done′ : List Bool) → t < mark
       → reach ds′ queue′ ≡ relaxBoth (t % 1024) (t / 1024) (net b) (reach ds (putLeaf queue (t % 1024) mark))

@@ -1,19 +1,21 @@
 -- What is proved of road books and their distances. Assumes nothing.
-use mathlib.Core.Path.{_≡_, refl, sym, ap, _∙_}
+use mathlib.Core.Path.{_≡_, refl, sym, _∙_}
 use mathlib.Core.Logic.{_⊎_, inl, inr, _≢_, _↔_}
 use mathlib.Core.Bool.{Bool, true, false, not, _&&_}
-use mathlib.Core.List.{List, [], _∷_, List·Memᴰ, List·Memᴰ·head, List·Memᴰ·tail, List·Memᴰ·not-nil}
-use Prim.Native.Nat.{ℕ, zero, suc, _+_, _*_, _≤_, _<_}
+use mathlib.Core.List.{List, List·Memᴰ}
+use Prim.Native.Nat.{ℕ, zero, suc, _+_, _≤_, _<_}
 use native.Mathlib.Decide.{ℕ-discrete}
 use native.Mathlib.Omega.{arith}
 use lib.Dec.{T, not-T, ltb, ltb→lt, lt→ltb, nltb→le}
 use Rattle.book.specs.Choose.{refuse, firstOf}
 use Rattle.book.proofs.Choosing.{and-left, and-right, and-both, T-split, passes, fails, passed, first-none, first-later, first-earlier}
-use Rattle.road_layout.specs.Road.{Road, junctions, roadCount, roadAt, roadsTo, roads}
+use Rattle.road_layout.specs.Road.{Road, junctions, roads}
 use Rattle.road_layout.specs.Layout.{layoutRefusal}
 use Rattle.road_layout.specs.Facts.{Fits, RoadLayout}
 use Rattle.road_layout.proofs.Layouts.{passing-layout, layout-passes, layout-low, roads-member}
-use Rattle.road.specs.Walk.{Arc, along, back, arcs, net, Walk, Least, Fit, Sound}
+use Rattle.adjacency.specs.Arcs.{arcs, net}
+use Rattle.adjacency.proofs.Netting.{arc, net-is, each-arc}
+use Rattle.road.specs.Walk.{Walk, Least, Fit, Sound}
 use Rattle.road.specs.Dijkstra.{far, width, at, distances, dist}
 use Rattle.road.specs.Refusal.{reached, roadRefusal}
 use Rattle.road.specs.Facts.{Joined, Passing, IsJunction, Metric}
@@ -22,15 +24,14 @@ use Rattle.road.proofs.Distances
 
 -- the arcs of roads that fit are sound
 arcs-sound : (n : ℕ) (rs : List Road) → ((r : Road) → List·Memᴰ r rs → Fits n r) → Sound n (arcs rs)
-unfolding arcs along back
-arcs-sound n [] h a m = absurd (List·Memᴰ·not-nil m)
-arcs-sound n (r ∷ rs) h a (List·Memᴰ·head e) =
-    let f = h r (List·Memᴰ·head refl) in
-    rw e (record { from = f .within; to = omega (arith, f .ends, f .within); some = f .some; few = f .few })
-arcs-sound n (r ∷ rs) h a (List·Memᴰ·tail (List·Memᴰ·head e)) =
-    let f = h r (List·Memᴰ·head refl) in
-    rw e (record { from = omega (arith, f .ends, f .within); to = f .within; some = f .some; few = f .few })
-arcs-sound n (r ∷ rs) h a (List·Memᴰ·tail (List·Memᴰ·tail m)) = arcs-sound n rs (λ q k. h q (List·Memᴰ·tail k)) a m
+arcs-sound n rs h = each-arc (Fit n) rs both
+  where
+    both : (r : Road) → List·Memᴰ r rs → Fit n (arc (r .low) (r .high) (r .seconds)) × Fit n (arc (r .high) (r .low) (r .seconds))
+    both r m =
+        let f = h r m in (
+          record { from = omega (arith, f .ends, f .within); to = f .within; some = f .some; few = f .few },
+          record { from = f .within; to = omega (arith, f .ends, f .within); some = f .some; few = f .few },
+        )
 
 -- a distance stands in the list of distances from its source
 pub dist-at : (b : List ℕ) (u v : ℕ) → at (distances (net b) (junctions b) u) v ≡ dist b u v
@@ -41,8 +42,7 @@ dist-at b u v = refl
 
 module _ (b : List ℕ) (layout : RoadLayout b) where
   pub net-sound : Sound (junctions b) (net b)
-  unfolding net
-  net-sound = arcs-sound (junctions b) (roads b) (λ r m. roads-member b layout r m)
+  net-sound = rw (net-is b) (arcs-sound (junctions b) (roads b) (λ r m. roads-member b layout r m))
 
   -- a distance that is not the mark is the least total of a walk
   pub dist-least : (u v : ℕ) → IsJunction b u → dist b u v ≢ far → Least (net b) u v (dist b u v)
@@ -171,14 +171,17 @@ module _ (b : List ℕ) where
 
 -- ---- of a book that passes
 
+-- a walk of a road book, the other way round
+turned : (b : List ℕ) {u v t : ℕ} → Walk (net b) u v t → Walk (net b) v u t
+turned b x = rw (net-is b) (turn (roads b) (rw (net-is b) at x))
+
 module _ (b : List ℕ) (p : Passing b) where
   -- every two junctions have a walk: back to junction 0 and on
   pub all-joined : (u v : ℕ) → IsJunction b u → IsJunction b v → Joined (net b) u v
-  unfolding net
   all-joined u v hu hv =
       let (s, x) = p .connected u hu in
       let (t, y) = p .connected v hv in
-      (s + t, join (turn (roads b) x) y)
+      (s + t, join (turned b x) y)
 
   not-marked : (u v : ℕ) → IsJunction b u → IsJunction b v → dist b u v ≢ far
   not-marked u v hu hv e = dist-mark b (p .layout) u v hu .0 e (all-joined u v hu hv)
@@ -208,5 +211,6 @@ module _ (b : List ℕ) (p : Passing b) where
 
 -- "A road runs both ways": the distance there is the distance back
 pub symmetric : (b : List ℕ) → RoadLayout b → (u v : ℕ) → IsJunction b u → IsJunction b v → dist b u v ≡ dist b v u
-unfolding dist net
-symmetric b layout u v hu hv = Distances.dist-symmetric (roads b) (junctions b) (layout .few-junctions) (net-sound b layout) u v hu hv
+unfolding dist
+symmetric b layout u v hu hv =
+    rw (net-is b) (Distances.dist-symmetric (roads b) (junctions b) (layout .few-junctions) (rw (net-is b) at (net-sound b layout)) u v hu hv)

@@ -1,11 +1,13 @@
 -- Walks join and turn round; least totals are unique, 0 from a junction to itself, symmetric, and within the triangle.
-use mathlib.Core.Path.{_≡_, ap}
-use mathlib.Core.List.{List, [], _∷_, List·Memᴰ, List·Memᴰ·head, List·Memᴰ·tail}
-use Prim.Native.Nat.{ℕ, zero, suc, _+_, _≤_, _<_}
+use mathlib.Core.Path.{_≡_}
+use mathlib.Core.List.{List, List·Memᴰ}
+use Prim.Native.Nat.{ℕ, _+_, _≤_}
 use native.Mathlib.Nat.{zero-add, add-zero, add-comm, add-assoc}
 use native.Mathlib.Omega.{arith}
 use Rattle.road_layout.specs.Road.{Road}
-use Rattle.road.specs.Walk.{Arc, along, back, arcs, Walk, stay, step, Least}
+use Rattle.adjacency.specs.Arcs.{Arc, arcs}
+use Rattle.adjacency.proofs.Netting.{arc, back-mem}
+use Rattle.road.specs.Walk.{Walk, stay, step, Least}
 
 module _ {net : List Arc} where
   -- One walk after another.
@@ -26,18 +28,10 @@ module _ {net : List Arc} where
   pub least-triangle : {u v w r s t : ℕ} → Least net u v s → Least net v w t → Least net u w r → r ≤ s + t
   least-triangle {s = s} {t = t} x y z = z .least (s + t) (join (x .walk) (y .walk))
 
--- The arc back is an arc of the same roads.
-back-mem : (rs : List Road) (a : Arc) → List·Memᴰ a (arcs rs) → List·Memᴰ (back a) (arcs rs)
-unfolding arcs back along
-back-mem (r ∷ rs) a (List·Memᴰ·head e) = List·Memᴰ·tail (List·Memᴰ·head (ap back e))
-back-mem (r ∷ rs) a (List·Memᴰ·tail (List·Memᴰ·head e)) = List·Memᴰ·head (ap back e)
-back-mem (r ∷ rs) a (List·Memᴰ·tail (List·Memᴰ·tail m)) = List·Memᴰ·tail (List·Memᴰ·tail (back-mem rs a m))
-
 -- A walk along roads, the other way round.
 pub turn : (rs : List Road) {u v t : ℕ} → Walk (arcs rs) u v t → Walk (arcs rs) v u t
-unfolding back
 turn rs stay = stay
-turn rs (step {t = t} a m x) = rw (add-comm (a .seconds) t) (snoc (back a) (back-mem rs a m) (turn rs x))
+turn rs (step {t = t} a m x) = rw (add-comm (a .seconds) t) (snoc (arc (a .to) (a .from) (a .seconds)) (back-mem rs a m) (turn rs x))
 
 pub least-symmetric : (rs : List Road) {u v s t : ℕ} → Least (arcs rs) u v s → Least (arcs rs) v u t → s ≡ t
 least-symmetric rs {s = s} {t = t} x y = omega (arith, x .least t (turn rs (y .walk)), y .least s (turn rs (x .walk)))

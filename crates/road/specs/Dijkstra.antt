@@ -5,7 +5,7 @@ use Prim.Native.Nat.{ℕ, zero, suc, _+_}
 use lib.ListN.{getD, set, replicate}
 use lib.Dec.{ltb, eqb}
 use Rattle.book.specs.Choose.{choose}
-use Rattle.road.specs.Walk.{Arc, net}
+use Rattle.adjacency.specs.Arcs.{Arc, net}
 use Rattle.road_layout.specs.Road.{junctions}
 
 -- the mark of a junction that is not reached: above every distance

@@ -4,7 +4,8 @@ use mathlib.Core.List.{List}
 use Prim.Native.Nat.{ℕ, _+_, _*_, _≤_, _<_}
 use Rattle.road_layout.specs.Road.{junctions}
 use Rattle.road_layout.specs.Facts.{RoadLayout}
-use Rattle.road.specs.Walk.{Arc, Walk, Least, net}
+use Rattle.adjacency.specs.Arcs.{Arc, net}
+use Rattle.road.specs.Walk.{Walk, Least}
 use Rattle.road.specs.Dijkstra.{dist}
 
 -- some walk leads from u to v

@@ -2,13 +2,13 @@
 use mathlib.Core.Path.{_≡_}
 use mathlib.Core.Bool.{Bool}
 use mathlib.Core.List.{List, [], _∷_}
-use Prim.Native.Nat.{ℕ, _+_, _*_, _<_}
+use Prim.Native.Nat.{ℕ, _+_, _*_, _≤_, _<_}
 use lib.ListN.{length, set}
 use lib.Dec.{ltb, eqb}
 use Rattle.book.specs.Choose.{choose}
 use Rattle.tournament.specs.Tournament.{putLeaf, leaf, Tournament}
 use Rattle.road_layout.specs.Road.{junctions}
-use Rattle.road.specs.Walk.{Arc, net}
+use Rattle.adjacency.specs.Arcs.{Arc, net}
 use Rattle.road.specs.Dijkstra.{far, width, at, State, score, start, rounds}
 
 abbrev pub state : List ℕ → List Bool → State
@@ -38,6 +38,11 @@ pub record Reach : Type 0 where
 
 abbrev pub reach : List ℕ → List ℕ → Reach
 reach ds queue = record { ds = ds; queue = queue }
+
+-- The queue is ready for shorter distances: no junction's word is below its distance, so that a shorter one's word only falls.
+pub record Ready (ds queue : List ℕ) : Type 0 where
+  pub tournament : Tournament queue
+  pub below : (v : ℕ) → v < width → at ds v * 1024 ≤ leaf queue v
 
 -- x for junction v if that is shorter, in both
 unfoldable pub shortenBoth : Reach → ℕ → ℕ → Reach

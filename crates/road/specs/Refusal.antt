@@ -6,7 +6,7 @@ use lib.Dec.{ltb}
 use Rattle.book.specs.Choose.{refuse, firstOf}
 use Rattle.road_layout.specs.Road.{junctions}
 use Rattle.road_layout.specs.Layout.{layoutRefusal}
-use Rattle.road.specs.Walk.{net}
+use Rattle.adjacency.specs.Arcs.{net}
 use Rattle.road.specs.Dijkstra.{far, at, distances}
 
 -- each of the first n distances is one, and not the mark

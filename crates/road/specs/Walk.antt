@@ -1,29 +1,7 @@
--- Arcs, walks along them, and the least total of a walk: the paper's distance. Assumes nothing: these are definitions.
-use mathlib.Core.List.{List, [], _∷_, List·Memᴰ}
+-- Walks along arcs, and the least total of a walk: the paper's distance. Assumes nothing: these are definitions.
+use mathlib.Core.List.{List, List·Memᴰ}
 use Prim.Native.Nat.{ℕ, _+_, _≤_, _<_}
-use Rattle.road_layout.specs.Road.{Road, roads}
-
--- A road in one direction (an arc).
-pub record Arc : Type 0 where
-  pub from : ℕ
-  pub to : ℕ
-  pub seconds : ℕ
-
--- the arc along a road as it is written, and the arc back
-unfoldable pub along : Road → Arc
-along r = record { from = r .low; to = r .high; seconds = r .seconds }
-
-unfoldable pub back : Arc → Arc
-back a = record { from = a .to; to = a .from; seconds = a .seconds }
-
--- "A road runs both ways": each road gives an arc each way
-unfoldable pub arcs : List Road → List Arc
-arcs [] = []
-arcs (r ∷ rs) = back (along r) ∷ along r ∷ arcs rs
-
--- a road book's arcs
-unfoldable pub net : List ℕ → List Arc
-net b = arcs (roads b)
+use Rattle.adjacency.specs.Arcs.{Arc}
 
 -- A walk from the first junction to the second along arcs of the net, and its total of seconds: stay put (0), or take an arc and walk on.
 pub data Walk (arcs-of : List Arc) : ℕ → ℕ → ℕ → Type 0 where

@@ -1,4 +1,3 @@
-pub mod adjacency; // adjacency.rt: for each junction the chain of its arcs
 pub mod walk; // walk.rt: least distances from a source, by Dijkstra's rounds
 
 use book::Junction;
@@ -8,7 +7,7 @@ ghost use Prim.Native.Nat.{ℕ, _≤_};
 ghost use lib.ListN.{length};
 ghost use Rattle.road_layout.specs.Road.{junctions, roadCount};
 ghost use Rattle.road_layout.specs.Layout.{layoutRefusal, told};
-ghost use Rattle.road.specs.Walk.{net};
+ghost use Rattle.adjacency.specs.Arcs.{net};
 ghost use Rattle.road.specs.Dijkstra.{distances};
 ghost use Rattle.road.specs.Refusal.{reached, roadRefusal};
 

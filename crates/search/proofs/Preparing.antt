@@ -9,8 +9,8 @@ use Rattle.book.specs.Bytes.{Bytes, u8At, u16At}
 use Rattle.book.proofs.Writing.{bytes-none, bytes-cons}
 use Rattle.road_layout.specs.Road.{junctions}
 use Rattle.road_layout.specs.Layout.{layoutRefusal}
-use Rattle.road.specs.Adjacency.{links, Adjacency}
 use Rattle.road.proofs.Answering.{layout-zero}
+use Rattle.road_rows.specs.Rows.{AreJunctions, Rowed}
 use Rattle.tree_layout.specs.Decode.{junctionCount, regionCount, landmarkCount}
 use Rattle.tree_layout.specs.Facts.{TreeLayout}
 use Rattle.tree_layout.proofs.Reading.{region-count, landmark-count}
@@ -22,12 +22,11 @@ use Rattle.query.specs.declared.Query.{Query}
 use Rattle.query.proofs.Reading.{asked-aggregate, asked-wanted, asked-limit, asked-crews}
 use Rattle.search_rules.specs.Books.{searchOf, Passed}
 use Rattle.search_rules.specs.Run.{answer}
-use Rattle.search_sheet.specs.Filling.{sheetRows}
+use Rattle.search_sheet.specs.Filling.{rootPlaces}
 use Rattle.search_sheet.proofs.Filled.{sheet-filled}
 use Rattle.search_inner.specs.Children.{Ended}
 use Rattle.search_leaf.specs.Ready.{Ready}
 use Rattle.search_call.specs.Call.{searchAnswer}
-use Rattle.search.specs.Sheets.{AnySheet}
 use Rattle.search_call.specs.Accepted.{Accepted}
 
 -- what every element says of a book
@@ -38,10 +37,10 @@ bytes-all (x ∷ b) f = bytes-cons x b (f 0) (bytes-all b (λ i. f (suc i)))
 module _ (road tree query : List ℕ) (work results : ℕ) (a : Accepted road tree query work results) where
   -- ---- the books
 
-  pub road-laid : layoutRefusal road ≡ 0
+  road-laid : layoutRefusal road ≡ 0
   road-laid = layout-zero road (a .roads)
 
-  pub tree-laid : TreeLayout tree
+  tree-laid : TreeLayout tree
   tree-laid = tree-facts tree (a .shape) .layout
 
   pub tree-header : 12 ≤ length tree
@@ -52,13 +51,6 @@ module _ (road tree query : List ℕ) (work results : ℕ) (a : Accepted road tr
 
   pub crews-needs : (length query ≡ 12 + 2 * crewCount query) × (crewCount query ≤ 16)
   crews-needs = (a .asked .sized, a .asked .few-crews)
-
-  pub sheet-needs : TreeLayout tree × (junctionCount tree ≡ junctions road)
-  sheet-needs = (tree-laid, a .counts)
-
-  -- the filled sheet
-  pub any-sheet : (before sheet : List ℕ) → length before ≡ 4096 → sheet ≡ sheetRows road tree (landmarkCount tree) before → AnySheet road tree sheet
-  any-sheet before sheet room filled = record { of = λ code wanted crews. sheet-filled road tree tree-laid (a .counts) road-laid code wanted crews before sheet room filled }
 
   -- ---- what the query asks
 
@@ -91,23 +83,28 @@ module _ (road tree query : List ℕ) (work results : ℕ) (a : Accepted road tr
 
       -- ---- the arrays
 
-      module _ (bytes : Bytes tree) (r : ℕ) (regions : r ≡ u16At tree 7) where
-        r-is : r ≡ regionCount tree
-        r-is = regions ∙ sym (region-count tree)
-
+      module _ (bytes : Bytes tree) where
         passed : Passed road tree (take q copied)
         passed = rw crews-are (a .books bytes)
 
-        module _ (old new : List ℕ) (wide : 511 ≤ length old) (placed : new ≡ placesAfter tree old) where
-          pub ready : (head next to cost sheet : List ℕ) (rows : ℕ) → Adjacency road (links head next to cost) → AnySheet road tree sheet → rows ≡ u8At tree 11
-              → Ready road tree (asked .aggregate) (asked .wanted) (take q copied) head next to cost (take r new) sheet rows
-          ready head next to cost sheet rows adjacency sheets landmarks =
+        -- a row of distances for each of the root's landmarks, and for each crew
+        pub rows-need : (sheet drives : ℕ) → sheet ≡ 4096 → drives ≡ 16384 → (layoutRefusal road ≡ 0) × TreeLayout tree × (junctionCount tree ≡ junctions road)
+            × AreJunctions road (take q copied) × (sheet ≡ 4096) × (1024 * length (take q copied) ≤ drives)
+        rows-need sheet drives e f = (road-laid, tree-laid, a .counts, passed .there, e, omega (arith, passed .few))
+
+        module _ (r : ℕ) (regions : r ≡ u16At tree 7) (old new : List ℕ) (wide : 511 ≤ length old) (placed : new ≡ placesAfter tree old) where
+          r-is : r ≡ regionCount tree
+          r-is = regions ∙ sym (region-count tree)
+
+          pub ready : (drives sheet : List ℕ) (rows : ℕ) → Rowed road (take q copied) drives → length sheet ≡ 4096 → Rowed road (rootPlaces tree) sheet
+              → rows ≡ u8At tree 11 → Ready road tree (asked .aggregate) (asked .wanted) (take q copied) drives (take r new) sheet rows
+          ready drives sheet rows driven four rowed landmarks =
               let m : rows ≡ landmarkCount tree = landmarks ∙ sym (landmark-count tree) in
               record {
                 passed = passed;
-                adjacency = adjacency;
+                driven = driven;
                 laid = accepted-laid tree (a .shape) r r-is old new wide placed;
-                sheeted = rw m (sheets .of (asked .aggregate) (asked .wanted) (take q copied));
+                sheeted = rw m (sheet-filled road tree tree-laid (a .counts) (asked .aggregate) (asked .wanted) (take q copied) sheet four rowed);
               }
 
   -- the first entries of the arrays, one for each region

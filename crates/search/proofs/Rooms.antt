@@ -7,7 +7,6 @@ use native.Mathlib.Omega.{arith}
 use lib.ListN.{length, take}
 use lib.Seq.{length-take-le}
 use Rattle.book.specs.Bytes.{u16At}
-use Rattle.road_layout.specs.Road.{junctions}
 use Rattle.tree_layout.specs.Decode.{junctionCount}
 use Rattle.tree_layout.proofs.Reading.{junction-count}
 use Rattle.search_rules.specs.Instance.{Instance}
@@ -15,7 +14,6 @@ use Rattle.search_rules.specs.Books.{searchOf}
 use Rattle.search_rules.specs.Run.{answer}
 use Rattle.search_rules.proofs.Books.{accepted-of, well-of}
 use Rattle.search_rules.proofs.Theorems.{accepted-measured}
-use Rattle.search_yards.specs.Measures.{Crews}
 use Rattle.search_leaf.specs.Ready.{Ready}
 use Rattle.search_run.specs.Room.{Room}
 
@@ -29,13 +27,10 @@ part-room n m k h e = omega arith
 pub part-of : {A : Type 0} (n m : ℕ) (l : List A) → n ≤ m → length l ≡ m → n ≡ length (take n l)
 part-of n m l h e = part-count n l (part-room n m (length l) h e)
 
-module _ (road tree : List ℕ) (code wanted : ℕ) (crews head next to cost places sheet : List ℕ) (rows : ℕ)
-    (ready : Ready road tree code wanted crews head next to cost places sheet rows) where
+module _ (road tree : List ℕ) (code wanted : ℕ) (crews drives places sheet : List ℕ) (rows : ℕ)
+    (ready : Ready road tree code wanted crews drives places sheet rows) where
   abbrev i : Instance
   i = searchOf road tree code wanted crews
-
-  pub few-crews : length crews ≤ 16
-  few-crews = ready .passed .few
 
   pub few-regions : length places ≤ 511
   few-regions = omega (arith, ready .laid .count, ready .laid .layout .regions .1)
@@ -45,9 +40,6 @@ module _ (road tree : List ℕ) (code wanted : ℕ) (crews head next to cost pla
 
   pub few-junctions : (n : ℕ) → n ≡ u16At tree 5 → n ≤ 1024
   few-junctions n e = omega (arith, junction-count tree, ready .laid .layout .junctions .1)
-
-  pub crews-room : (out : List ℕ) → length crews ≡ length out → Crews (junctions road) crews out
-  crews-room out e = record { few = ready .passed .few; there = ready .passed .there; words = sym e }
 
   pub room : (n : ℕ) → n ≡ u16At tree 5 → (picks fs bounds keys yards firsts : List ℕ) (gone : List Bool) (measured : List ℕ)
       → length places ≡ length picks → n ≡ length fs → n ≡ length bounds → length places ≡ length keys → n ≡ length yards → length places ≡ length firsts

@@ -5,8 +5,6 @@ use search_run::Outcome;
 ghost use mathlib.Core.Path.{_≡_};
 ghost use Prim.Native.Nat.{_*_, _≤_};
 ghost use lib.ListN.{length};
-ghost use Rattle.road.specs.Adjacency.{links, Adjacency};
-ghost use Rattle.road.specs.Queue.{Roomy};
 ghost use Rattle.search_rules.specs.Books.{searchOf};
 ghost use Rattle.search_rules.specs.Run.{answer};
 ghost use Rattle.search_inner.specs.Children.{Ended};
@@ -14,7 +12,6 @@ ghost use Rattle.search_leaf.specs.Ready.{Ready};
 ghost use Rattle.search_call.specs.Call.{accepted, searchAnswer};
 ghost use Rattle.search_call.specs.Accepted.{Accepted};
 ghost use Rattle.search.specs.Found.{foundOf, answerOf, writtenBy};
-ghost use Rattle.search.specs.Sheets.{AnySheet};
 
 // "Settled writes (yard, distance) words into the result area and nothing after them; spent writes nothing there."
 fn report(o: Outcome, results: &mut [u32]) -> Found
@@ -47,13 +44,7 @@ fn report(o: Outcome, results: &mut [u32]) -> Found
 // Searches under a step limit, with a word for each region and for each junction.
 fn searched(
     road: &[u8],
-    head: &[u16],
-    next: &[u16],
-    to: &[u16],
-    cost: &[u16],
-    ds: &mut [u32],
-    done: &mut [bool],
-    queue: &mut [u64],
+    drives: &[u32],
     crews: &[u16],
     code: u8,
     wanted: usize,
@@ -65,14 +56,13 @@ fn searched(
     limit: u32,
     results: &mut [u32],
 ) -> Found
-    requires { ⌜ Ready (now road) (now tree) code wanted (now crews) (now head) (now next) (now to) (now cost) (now places) (now sheet) rows
-        × Roomy (now ds) (now done) (now queue) × Ended (now tree) (now ends) × (wanted ≤ 64) × (2 * wanted ≤ length (now results)) ⌝ }
+    requires { ⌜ Ready (now road) (now tree) code wanted (now crews) (now drives) (now places) (now sheet) rows
+        × Ended (now tree) (now ends) × (wanted ≤ 64) × (2 * wanted ≤ length (now results)) ⌝ }
     ensures found { λ r. ⌜ foundOf r
         ≡ accepted (answer (searchOf (now (road .entry)) (now (tree .entry)) code wanted (now (crews .entry))) limit) ⌝ }
     ensures results { λ _. ⌜ now (results .exit)
         ≡ writtenBy (answer (searchOf (now (road .entry)) (now (tree .entry)) code wanted (now (crews .entry))) limit) (now (results .entry)) ⌝ }
 {
-    let mut out = [0u32; 16];
     let mut picked = [0u8; 511];
     let mut keys = [0u64; 511];
     let mut firsts = [0u64; 511];
@@ -81,20 +71,12 @@ fn searched(
     let mut yards = [0u64; 1024];
     let mut gone = [false; 1024];
     let mut measured = [0u16; 256];
-    let q = crews.len();
     let r = places.len();
     let n = book::u16_at(tree, 5) as usize;
     let o = search_run::run(
         road,
-        head,
-        next,
-        to,
-        cost,
-        ds,
-        done,
-        queue,
+        drives,
         crews,
-        &mut out[..q],
         code,
         wanted,
         sheet,
@@ -115,59 +97,6 @@ fn searched(
     report(o, results)
 }
 
-// Searches for what a query asks, with the roads' arrays and the sheet filled in.
-fn asked_search(
-    road: &[u8],
-    head: &[u16],
-    next: &[u16],
-    to: &[u16],
-    cost: &[u16],
-    ds: &mut [u32],
-    done: &mut [bool],
-    queue: &mut [u64],
-    sheet: &[u32],
-    tree: &[u8],
-    query: &[u8],
-    results: &mut [u32],
-) -> Found
-    requires { ⌜ Accepted (now road) (now tree) (now query) 16384 (length (now results))
-        × Adjacency (now road) (links (now head) (now next) (now to) (now cost)) × Roomy (now ds) (now done) (now queue)
-        × AnySheet (now road) (now tree) (now sheet) ⌝ }
-    ensures found { λ r. ⌜ foundOf r ≡ accepted (searchAnswer (now (road .entry)) (now (tree .entry)) (now (query .entry))) ⌝ }
-    ensures results { λ _. ⌜ now (results .exit)
-        ≡ writtenBy (searchAnswer (now (road .entry)) (now (tree .entry)) (now (query .entry))) (now (results .entry)) ⌝ }
-{
-    let mut places = [0usize; 511];
-    let mut ends = [0usize; 511];
-    let o = tree::read(tree, &mut places, &mut ends);
-    let mut crews = [0u16; 16];
-    crews::copy(query, &mut crews);
-    let asked = query::asked(query);
-    let q = asked.crews as usize;
-    let rows = book::u8_at(tree, 11) as usize;
-    let r = book::u16_at(tree, 7) as usize;
-    searched(
-        road,
-        head,
-        next,
-        to,
-        cost,
-        ds,
-        done,
-        queue,
-        &crews[..q],
-        asked.aggregate,
-        asked.wanted as usize,
-        sheet,
-        rows,
-        tree,
-        &places[..r],
-        &ends[..r],
-        asked.limit,
-        results,
-    )
-}
-
 // Searches by the books of a call that no test turns back.
 pub fn accepted_search(road: &[u8], tree: &[u8], query: &[u8], results: &mut [u32]) -> Found
     requires { ⌜ Accepted (now road) (now tree) (now query) 16384 (length (now results)) ⌝ }
@@ -175,39 +104,30 @@ pub fn accepted_search(road: &[u8], tree: &[u8], query: &[u8], results: &mut [u3
     ensures results { λ _. ⌜ now (results .exit)
         ≡ writtenBy (searchAnswer (now (road .entry)) (now (tree .entry)) (now (query .entry))) (now (results .entry)) ⌝ }
 {
-    let mut head = [0u16; 1024];
-    let mut next = [0u16; 8193];
-    let mut to = [0u16; 8193];
-    let mut cost = [0u16; 8193];
-    road::adjacency::fill(road, &mut head, &mut next, &mut to, &mut cost);
-    let mut ds = [0u32; 1024];
-    let mut done = [false; 1024];
-    let mut queue = [0u64; 2048];
+    let mut crews = [0u16; 16];
+    crews::copy(query, &mut crews);
+    let asked = query::asked(query);
+    let q = asked.crews as usize;
     let mut sheet = [0u32; 4096];
-    search_sheet::fill(
+    let mut drives = [0u32; 16384];
+    search_sheet::prepare(road, tree, &crews[..q], &mut sheet, &mut drives);
+    let mut places = [0usize; 511];
+    let mut ends = [0usize; 511];
+    let o = tree::read(tree, &mut places, &mut ends);
+    let rows = book::u8_at(tree, 11) as usize;
+    let r = book::u16_at(tree, 7) as usize;
+    searched(
         road,
-        &head,
-        &next,
-        &to,
-        &cost,
-        &mut ds,
-        &mut done,
-        &mut queue,
-        tree,
-        &mut sheet,
-    );
-    asked_search(
-        road,
-        &head,
-        &next,
-        &to,
-        &cost,
-        &mut ds,
-        &mut done,
-        &mut queue,
+        &drives,
+        &crews[..q],
+        asked.aggregate,
+        asked.wanted as usize,
         &sheet,
+        rows,
         tree,
-        query,
+        &places[..r],
+        &ends[..r],
+        asked.limit,
         results,
     )
 }

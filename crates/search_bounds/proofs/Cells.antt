@@ -1,19 +1,15 @@
 -- LB and UB, one row further. Assumes nothing.
 use mathlib.Core.Path.{_≡_, refl, sym, _∙_}
 use mathlib.Core.List.{List}
-use Prim.Native.Nat.{ℕ, suc, _+_, _*_, _≤_, _<_, min, max}
+use Prim.Native.Nat.{ℕ, suc, _+_, _≤_, _<_, min, max}
 use native.Mathlib.Numerals.{add-one}
 use native.Mathlib.Omega.{arith}
-use lib.ListN.{getD}
 use lib.Dec.{eqb}
 use Rattle.book.proofs.Choosing.{choose-yes, choose-no}
 use Rattle.book.proofs.Lists.{ne→neqb}
+use Rattle.road_rows.specs.Rows.{cell}
 use Rattle.search_rules.specs.Bounds.{apart}
-use Rattle.search_bounds.specs.Rows.{cell, rowsLower, rowsUpper}
-
-pub cell-is : (sheet : List ℕ) (r v : ℕ) → getD sheet (r * 1024 + v) 0 ≡ cell sheet r v
-unfolding cell
-cell-is sheet r v = refl
+use Rattle.search_bounds.specs.Rows.{rowsLower, rowsUpper}
 
 module _ (sheet : List ℕ) (l q : ℕ) where
   pub lower-none : rowsLower sheet 0 l q ≡ 0

@@ -15,7 +15,8 @@ use Rattle.search_rules.specs.Bounds.{apart, greatestOf, leastOf, noMark, sheet
 use Rattle.search_rules.specs.Facts.{WellFormed}
 use Rattle.search_rules.proofs.Turns.{greatest-take, least-first, least-take, best-first, best-take}
 use Rattle.search_rules.proofs.Equations.{greatest-none, aggregate-same, greatest-same, lower-is, upper-is, mark-bound-is, bound-is, weight-is, chosen-is}
-use Rattle.search_bounds.specs.Rows.{cell, rowsLower, rowsUpper}
+use Rattle.road_rows.specs.Rows.{cell}
+use Rattle.search_bounds.specs.Rows.{rowsLower, rowsUpper}
 use Rattle.search_bounds.specs.Bounds.{rowsMark, rowsCrew, rowsBound, rowsWeight, markWeight, firstGreatest, rowsChosen}
 use Rattle.search_bounds.specs.Sheet.{Sheet}
 use Rattle.search_bounds.proofs.Cells.{lower-none, lower-suc, upper-one, upper-suc}

@@ -1,15 +1,12 @@
--- LB and UB by the rows of an array, 1,024 words to a row. Assumes nothing: these are definitions.
+-- LB and UB by the rows of the sheet. Assumes nothing: these are definitions.
 use mathlib.Core.Path.{_≡_}
 use mathlib.Core.List.{List}
-use Prim.Native.Nat.{ℕ, zero, suc, _+_, _*_, _≤_, min, max}
-use lib.ListN.{length, getD}
+use Prim.Native.Nat.{ℕ, zero, suc, _+_, _≤_, min, max}
+use lib.ListN.{length}
 use lib.Dec.{eqb}
 use Rattle.book.specs.Choose.{choose}
+use Rattle.road_rows.specs.Rows.{cell}
 use Rattle.search_rules.specs.Bounds.{apart}
-
--- row r's word for junction v
-unfoldable pub cell : List ℕ → ℕ → ℕ → ℕ
-cell sheet r v = getD sheet (r * 1024 + v) 0
 
 -- "LB(l, q) is the greatest difference .. of sheet values at l and q": of the first rows
 unfoldable pub rowsLower : List ℕ → ℕ → ℕ → ℕ → ℕ

@@ -3,9 +3,10 @@ use mathlib.Core.Path.{_≡_}
 use mathlib.Core.List.{List}
 use Prim.Native.Nat.{ℕ, _<_}
 use lib.ListN.{length, getD}
+use Rattle.road_rows.specs.Rows.{cell}
 use Rattle.search_rules.specs.Instance.{Instance, marks}
 use Rattle.search_rules.specs.Bounds.{noMark, sheetAt}
-use Rattle.search_bounds.specs.Rows.{cell, Rows}
+use Rattle.search_bounds.specs.Rows.{Rows}
 
 -- "The sheet holds d from the root's landmarks r to every junction.": a row for each of the root's landmarks, in their order
 pub record Sheet (i : Instance) (rows : ℕ) (sheet : List ℕ) : Type 0 where

@@ -1,18 +1,12 @@
 // LB and UB by the sheet's rows, and a crew's bound.
 use crate::numbers;
+use road_rows::cell;
 ghost use mathlib.Core.Path.{_≡_};
 ghost use Prim.Native.Nat.{_+_, _-_, _<_};
 ghost use lib.ListN.{length};
+ghost use Rattle.road_rows.specs.Rows.{cell};
 ghost use Rattle.search_rules.specs.Bounds.{apart, crewBound};
-ghost use Rattle.search_bounds.specs.Rows.{cell, rowsLower, rowsUpper, Rows};
-
-// Row r's word for junction v.
-pub fn cell(sheet: &[u32], r: usize, v: u16) -> u32
-    requires { ⌜ (length (now sheet) ≡ 4096) × (r < 4) × (v < 1024) ⌝ }
-    ensures { λ d. ⌜ d ≡ cell (now (sheet .entry)) r v ⌝ }
-{
-    sheet[r * 1024 + v as usize]
-}
+ghost use Rattle.search_bounds.specs.Rows.{rowsLower, rowsUpper, Rows};
 
 // The difference of row r's words for junctions l and q.
 fn row_apart(sheet: &[u32], r: usize, l: u16, q: u16) -> u32

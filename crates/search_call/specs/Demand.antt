@@ -9,7 +9,7 @@ use Rattle.book.specs.Choose.{choose}
 use Rattle.book.specs.Bytes.{Bytes}
 use Rattle.book.specs.Lists.{Distinct}
 use Rattle.work_area.specs.Work.{workWords, zeroed}
-use Rattle.road.specs.Walk.{Arc, net}
+use Rattle.adjacency.specs.Arcs.{Arc, net}
 use Rattle.yard.specs.Yards.{yardsOf}
 use Rattle.tree_layout.specs.Values.{Element, lastFrom}
 use Rattle.tree_layout.specs.Decode.{decode}

@@ -10,18 +10,16 @@ use lib.Seq.{getD-set-same, getD-set-other}
 use lib.Dec.{T, eqb→eq}
 use Rattle.book.specs.Bytes.{u8At, u16At}
 use Rattle.road_layout.specs.Road.{junctions}
-use Rattle.road_reach.specs.Targets.{distancesTo}
-use Rattle.tree_layout.specs.Values.{Element, Mark, Region, regionAt}
+use Rattle.search_yards.specs.Measures.{Driven, toCrews}
+use Rattle.tree_layout.specs.Values.{Mark, Region, regionAt}
 use Rattle.tree_layout.specs.Decode.{decode, regionCount, landmarkCount, placeOf, listPart, readList, markSize}
 use Rattle.tree_layout.proofs.Places.{decode-length}
-use Rattle.tree_layout.proofs.Formed.{at-mem}
-use Rattle.tree_layout.proofs.Reading.{leaf-list, leaf-place, list-part, region-yards}
+use Rattle.tree_layout.proofs.Reading.{leaf-list, leaf-place, list-part}
 use Rattle.tree_layout.proofs.MarkPlaces.{listMark, region-marks, leaf-mark-at}
-use Rattle.tree.specs.Arrays.{Laid}
 use Rattle.tree.proofs.Fielding.{laid-region, laid-children}
 use Rattle.search_rules.specs.Instance.{Instance, size, marks, leaf}
 use Rattle.search_rules.specs.Books.{searchOf}
-use Rattle.search_rules.specs.Bounds.{noMark, lower, chosen}
+use Rattle.search_rules.specs.Bounds.{noMark, chosen}
 use Rattle.search_rules.specs.Facts.{WellFormed}
 use Rattle.search_rules.proofs.Books.{well-of, count}
 use Rattle.search_rules.proofs.Equations.{search-of, marks-is}
@@ -38,13 +36,17 @@ use Rattle.search_leaves.proofs.Opening.{part-list, opened, opened-kept}
 use Rattle.search_leaves.proofs.Filling.{by-yard-length}
 use Rattle.search_leaf.specs.Ready.{unopened, IsPick, Ready, Cached, IsLeaf, OpenLeaf}
 
-module _ (road tree : List ℕ) (code wanted : ℕ) (crews head next to cost places sheet : List ℕ) (rows : ℕ)
-    (ready : Ready road tree code wanted crews head next to cost places sheet rows) where
+module _ (road tree : List ℕ) (code wanted : ℕ) (crews drives places sheet : List ℕ) (rows : ℕ)
+    (ready : Ready road tree code wanted crews drives places sheet rows) where
   abbrev i : Instance
   i = searchOf road tree code wanted crews
 
   pub well : WellFormed i
   well = well-of road tree code wanted crews (ready .passed)
+
+  -- each crew has its row of distances
+  pub driven-of : Driven road crews drives
+  driven-of = record { roads = ready .passed .roads; few = ready .passed .few; there = ready .passed .there; rows = ready .driven }
 
   -- ---- the instance's tree
 
@@ -144,17 +146,17 @@ module _ (road tree : List ℕ) (code wanted : ℕ) (crews head next to cost pla
       -- ---- the leaf is opened
 
       module _ (picks fs bounds fs′ bounds′ : List ℕ) (c : Cached i picks fs bounds)
-          (f-set : fs′ ≡ byYard (fIn code (distancesTo road (u16At tree place) crews)) (listAt tree place n) fs)
-          (bound-set : bounds′ ≡ byYard (boundIn code sheet rows crews (distancesTo road (u16At tree place) crews))
+          (f-set : fs′ ≡ byYard (fIn code (toCrews road (u16At tree place) crews)) (listAt tree place n) fs)
+          (bound-set : bounds′ ≡ byYard (boundIn code sheet rows crews (toCrews road (u16At tree place) crews))
           (listAt tree place n) bounds) where
         m : Mark
         m = chosen i r
 
-        f-new : fs′ ≡ byYard (fIn code (distancesTo road (m .place) crews)) (m .list) fs
+        f-new : fs′ ≡ byYard (fIn code (toCrews road (m .place) crews)) (m .list) fs
         unfolding m
         f-new = rw (place-of, list-of) f-set
 
-        bound-new : bounds′ ≡ byYard (boundIn code sheet rows crews (distancesTo road (m .place) crews)) (m .list) bounds
+        bound-new : bounds′ ≡ byYard (boundIn code sheet rows crews (toCrews road (m .place) crews)) (m .list) bounds
         unfolding m
         bound-new = rw (place-of, list-of) bound-set
 
@@ -198,9 +200,9 @@ module _ (road tree : List ℕ) (code wanted : ℕ) (crews head next to cost pla
             kept : Cached i (set picks r p) fs′ bounds′
             kept = record {
               picks-count = length-set picks r p ∙ c .picks-count;
-              fs-count = ap length f-set ∙ (by-yard-length (fIn code (distancesTo road (u16At tree place) crews))
+              fs-count = ap length f-set ∙ (by-yard-length (fIn code (toCrews road (u16At tree place) crews))
                   (listAt tree place n) fs ∙ c .fs-count);
-              bounds-count = ap length bound-set ∙ (by-yard-length (boundIn code sheet rows crews (distancesTo road (u16At tree place) crews))
+              bounds-count = ap length bound-set ∙ (by-yard-length (boundIn code sheet rows crews (toCrews road (u16At tree place) crews))
                   (listAt tree place n) bounds ∙ c .bounds-count);
               picked = λ s h t o. one s (ℕ-discrete s r) h t o .0;
               opened = λ s h t o. one s (ℕ-discrete s r) h t o .1;

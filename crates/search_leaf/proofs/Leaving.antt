@@ -2,7 +2,7 @@
 use mathlib.Core.Path.{_≡_, refl, sym, ap, _∙_}
 use mathlib.Core.Bool.{Bool, true}
 use mathlib.Core.List.{List, List·Memᴰ as Mem}
-use Prim.Native.Nat.{ℕ, _+_, _*_, _-_, _≤_, _<_, max}
+use Prim.Native.Nat.{ℕ, _+_, _*_, _-_, _≤_, max}
 use native.Mathlib.Omega.{arith}
 use lib.ListN.{length, getD, set, take, drop}
 use Rattle.book.specs.Bytes.{u16At}
@@ -14,7 +14,7 @@ use Rattle.tree_layout.proofs.Formed.{readList-length}
 use Rattle.search_rules.specs.Instance.{Instance}
 use Rattle.search_rules.specs.Books.{searchOf}
 use Rattle.search_rules.specs.Bounds.{chosen, yardBound}
-use Rattle.search_rules.specs.Queue.{unqueued, wordAt, pick}
+use Rattle.search_rules.specs.Queue.{wordAt, pick}
 use Rattle.search_rules.specs.Step.{State, noElement, againKey, nextPlace, nextF, openLeaf}
 use Rattle.search_rules.proofs.Queue.{pick-range}
 use Rattle.search_rules.proofs.Steps.{open-leaf-on}
@@ -24,11 +24,11 @@ use Rattle.search_held.specs.Pairs.{heldOf}
 use Rattle.search_state.specs.State.{stateOf, newest}
 use Rattle.search_state.proofs.Newest.{state-is}
 use Rattle.search_bounds.specs.Marks.{markPlace}
-use Rattle.search_leaves.specs.Leaves.{Near, wordsOf, listAt, Opened}
+use Rattle.search_leaves.specs.Leaves.{Near, wordsOf, Opened}
 use Rattle.search_leaves.proofs.Opening.{part-list, part-near, part-room, opened-place, opened-f}
-use Rattle.search_leaf.specs.Next.{nextIn, nextWord}
-use Rattle.search_leaf.specs.Ready.{IsPick, Ready, IsLeaf, Cached, Waiting}
-use Rattle.search_leaf.proofs.Landmarks.{junctions-of, words-room, record-here, list-room, list-of, list-near}
+use Rattle.search_next.specs.Next.{nextIn, nextWord}
+use Rattle.search_leaf.specs.Ready.{IsPick, Ready, IsLeaf, Waiting}
+use Rattle.search_leaf.proofs.Landmarks.{junctions-of, record-here, list-room, list-of, list-near}
 
 -- ---- the definition's next element, by the words of the leaf's yards
 
@@ -52,8 +52,8 @@ module _ (i : Instance) (m : Mark) (fs bounds : List ℕ) (o : Opened i m fs bou
 
 -- ---- the part of the book that is the list of a ready search's leaf
 
-module _ (road tree : List ℕ) (code wanted : ℕ) (crews head next to cost places sheet : List ℕ) (rows : ℕ)
-    (ready : Ready road tree code wanted crews head next to cost places sheet rows)
+module _ (road tree : List ℕ) (code wanted : ℕ) (crews drives places sheet : List ℕ) (rows : ℕ)
+    (ready : Ready road tree code wanted crews drives places sheet rows)
     (r : ℕ) (l : IsLeaf (searchOf road tree code wanted crews) r) (at : ℕ) (e : at ≡ getD places r 0)
     (p n place : ℕ) (picks : IsPick (searchOf road tree code wanted crews) r p) (en : n ≡ u16At tree (at + 5)) (ep : place ≡ markPlace tree at p)
     (a z : ℕ) (ea : a ≡ place + 2) (ez : z ≡ a + 6 * n) where
@@ -64,14 +64,14 @@ module _ (road tree : List ℕ) (code wanted : ℕ) (crews head next to cost pla
   es = readList (take (z - a) (drop a tree)) n 0
 
   room : place + (2 + 6 * n) ≤ length tree
-  room = list-room road tree code wanted crews head next to cost places sheet rows ready r l at e p n place picks en ep
+  room = list-room road tree code wanted crews drives places sheet rows ready r l at e p n place picks en ep
 
   list-here : es ≡ chosen i r .list
   list-here = part-list road tree place n a z (ready .passed .roads .layout) ea ez room
-      ∙ sym (list-of road tree code wanted crews head next to cost places sheet rows ready r l at e p n place picks en ep)
+      ∙ sym (list-of road tree code wanted crews drives places sheet rows ready r l at e p n place picks en ep)
 
   pub list-some : 1 ≤ n
-  list-some = rw en (record-here road tree code wanted crews head next to cost places sheet rows ready r l at e .some)
+  list-some = rw en (record-here road tree code wanted crews drives places sheet rows ready r l at e .some)
 
   pub list-whole : 6 * n ≤ length (take (z - a) (drop a tree))
   list-whole = part-room road tree place n a z (ready .passed .roads .layout) ea ez room
@@ -82,8 +82,8 @@ module _ (road tree : List ℕ) (code wanted : ℕ) (crews head next to cost pla
   -- there is a word for each of its yards
   pub list-words : (w : ℕ) → w ≡ i .tree .junctions → Near w es
   list-words w q = part-near road tree place n a z (ready .passed .roads .layout) ea ez room
-      w (omega (arith, junctions-of road tree code wanted crews head next to cost places sheet rows ready))
-      (list-near road tree code wanted crews head next to cost places sheet rows ready r l at e p n place picks en ep)
+      w (omega (arith, junctions-of road tree code wanted crews drives places sheet rows ready))
+      (list-near road tree code wanted crews drives places sheet rows ready r l at e p n place picks en ep)
 
   -- what is stored is what the definition says
   module _ (fs bounds keys yards firsts keys′ yards′ : List ℕ) (gone gone′ : List Bool) (o : Opened i (chosen i r) fs bounds)

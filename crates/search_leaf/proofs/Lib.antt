@@ -1,3 +1,2 @@
-pub mod Nexts
 pub mod Landmarks
 pub mod Leaving

@@ -6,7 +6,7 @@ use mathlib.Core.List.{List}
 use Prim.Native.Nat.{ℕ, _<_}
 use lib.ListN.{length, getD}
 use lib.Dec.{T}
-use Rattle.road.specs.Adjacency.{links, Adjacency}
+use Rattle.road_rows.specs.Rows.{Rowed}
 use Rattle.tree.specs.Arrays.{Laid}
 use Rattle.search_rules.specs.Instance.{Instance, size, marks, leaf}
 use Rattle.search_rules.specs.Books.{searchOf, Passed}
@@ -21,10 +21,10 @@ pub record IsPick (i : Instance) (r p : ℕ) : Type 0 where
   pub inside : p < length (marks i r)
   pub is : getD (marks i r) p noMark ≡ chosen i r
 
--- the books and the crews are accepted, the arrays are the road book's and the tree book's, and the sheet is filled
-pub record Ready (road tree : List ℕ) (code wanted : ℕ) (crews head next to cost places sheet : List ℕ) (rows : ℕ) : Type 0 where
+-- the books and the crews are accepted, each crew has its row of distances, the places are the tree book's, and the sheet is filled
+pub record Ready (road tree : List ℕ) (code wanted : ℕ) (crews drives places sheet : List ℕ) (rows : ℕ) : Type 0 where
   pub passed : Passed road tree crews
-  pub adjacency : Adjacency road (links head next to cost)
+  pub driven : Rowed road crews drives
   pub laid : Laid tree places
   pub sheeted : Sheet (searchOf road tree code wanted crews) rows sheet
 

@@ -1,5 +1,4 @@
 // A leaf is taken: it queues its next yard and, if any remain, itself.
-mod next; // next.rt: the next yard of a leaf whose yards have their words
 mod opening; // opening.rt: a leaf that is first taken
 
 use search_bounds::marks;
@@ -7,27 +6,17 @@ use tree_layout::Region;
 ghost use mathlib.Core.Path.{_≡_};
 ghost use mathlib.Core.List.{List};
 ghost use Prim.Native.Nat.{ℕ};
-ghost use Rattle.road_layout.specs.Road.{junctions};
-ghost use Rattle.road.specs.Queue.{Roomy};
 ghost use Rattle.search_rules.specs.Books.{searchOf};
 ghost use Rattle.search_rules.specs.Step.{openLeaf};
 ghost use Rattle.search_held.specs.declared.Held.{Held};
 ghost use Rattle.search_state.specs.State.{stateOf};
-ghost use Rattle.search_yards.specs.Measures.{Crews};
 ghost use Rattle.search_leaf.specs.Ready.{Ready, IsLeaf, Cached, Waiting};
 
 // Takes leaf r: "A leaf queues its next yard and, if any remain, itself". The words by region and by junction are the search's queue.
 pub fn take(
     road: &[u8],
-    head: &[u16],
-    next: &[u16],
-    to: &[u16],
-    cost: &[u16],
-    ds: &mut [u32],
-    done: &mut [bool],
-    queue: &mut [u64],
+    drives: &[u32],
     crews: &[u16],
-    out: &mut [u32],
     code: u8,
     wanted: usize,
     sheet: &[u32],
@@ -43,8 +32,7 @@ pub fn take(
     gone: &mut [bool],
     r: Region,
 )
-    requires { ⌜ Ready (now road) (now tree) code wanted (now crews) (now head) (now next) (now to) (now cost) (now places) (now sheet) rows
-        × Roomy (now ds) (now done) (now queue) × Crews (junctions (now road)) (now crews) (now out)
+    requires { ⌜ Ready (now road) (now tree) code wanted (now crews) (now drives) (now places) (now sheet) rows
         × Cached (searchOf (now road) (now tree) code wanted (now crews)) (now picked) (now fs) (now bounds)
         × IsLeaf (searchOf (now road) (now tree) code wanted (now crews)) (r .number)
         × Waiting (searchOf (now road) (now tree) code wanted (now crews)) (now keys) (now yards) (now firsts) (now gone) (r .number) ⌝ }
@@ -57,15 +45,8 @@ pub fn take(
 {
     let p = opening::landmark(
         road,
-        head,
-        next,
-        to,
-        cost,
-        ds,
-        done,
-        queue,
+        drives,
         crews,
-        out,
         code,
         wanted,
         sheet,
@@ -83,5 +64,5 @@ pub fn take(
     let place = marks::mark_place(tree, at, p);
     let a = place + 2;
     let e = a + 6 * n;
-    next::queue_next(&tree[a..e], n, fs, bounds, firsts[i], i, keys, yards, gone);
+    search_next::queue_next(&tree[a..e], n, fs, bounds, firsts[i], i, keys, yards, gone);
 }

@@ -2,10 +2,7 @@
 use search_bounds::marks;
 use search_bounds::picks;
 use tree_layout::Region;
-ghost use Rattle.road_layout.specs.Road.{junctions};
-ghost use Rattle.road.specs.Queue.{Roomy};
 ghost use Rattle.search_rules.specs.Books.{searchOf};
-ghost use Rattle.search_yards.specs.Measures.{Crews};
 ghost use Rattle.search_leaf.specs.Ready.{Ready, IsLeaf, Cached, OpenLeaf};
 
 // The mark of a leaf that was never taken.
@@ -14,15 +11,8 @@ pub const UNOPENED: u8 = 255;
 // Opens leaf r, and gives the number of its landmark among its own.
 fn open(
     road: &[u8],
-    head: &[u16],
-    next: &[u16],
-    to: &[u16],
-    cost: &[u16],
-    ds: &mut [u32],
-    done: &mut [bool],
-    queue: &mut [u64],
+    drives: &[u32],
     crews: &[u16],
-    out: &mut [u32],
     code: u8,
     wanted: usize,
     sheet: &[u32],
@@ -34,8 +24,7 @@ fn open(
     bounds: &mut [u64],
     r: Region,
 ) -> usize
-    requires { ⌜ Ready (now road) (now tree) code wanted (now crews) (now head) (now next) (now to) (now cost) (now places) (now sheet) rows
-        × Roomy (now ds) (now done) (now queue) × Crews (junctions (now road)) (now crews) (now out)
+    requires { ⌜ Ready (now road) (now tree) code wanted (now crews) (now drives) (now places) (now sheet) rows
         × Cached (searchOf (now road) (now tree) code wanted (now crews)) (now picked) (now fs) (now bounds)
         × IsLeaf (searchOf (now road) (now tree) code wanted (now crews)) (r .number) ⌝ }
     ensures { λ p. ⌜ OpenLeaf (searchOf (now (road .entry)) (now (tree .entry)) code wanted (now (crews .entry)))
@@ -49,15 +38,8 @@ fn open(
     let place = marks::mark_place(tree, at, p);
     search_leaves::open(
         road,
-        head,
-        next,
-        to,
-        cost,
-        ds,
-        done,
-        queue,
+        drives,
         crews,
-        out,
         code,
         sheet,
         rows,
@@ -73,15 +55,8 @@ fn open(
 // The number of leaf r's landmark among its own; the leaf is opened when it is first taken.
 pub fn landmark(
     road: &[u8],
-    head: &[u16],
-    next: &[u16],
-    to: &[u16],
-    cost: &[u16],
-    ds: &mut [u32],
-    done: &mut [bool],
-    queue: &mut [u64],
+    drives: &[u32],
     crews: &[u16],
-    out: &mut [u32],
     code: u8,
     wanted: usize,
     sheet: &[u32],
@@ -93,8 +68,7 @@ pub fn landmark(
     bounds: &mut [u64],
     r: Region,
 ) -> usize
-    requires { ⌜ Ready (now road) (now tree) code wanted (now crews) (now head) (now next) (now to) (now cost) (now places) (now sheet) rows
-        × Roomy (now ds) (now done) (now queue) × Crews (junctions (now road)) (now crews) (now out)
+    requires { ⌜ Ready (now road) (now tree) code wanted (now crews) (now drives) (now places) (now sheet) rows
         × Cached (searchOf (now road) (now tree) code wanted (now crews)) (now picked) (now fs) (now bounds)
         × IsLeaf (searchOf (now road) (now tree) code wanted (now crews)) (r .number) ⌝ }
     ensures { λ p. ⌜ OpenLeaf (searchOf (now (road .entry)) (now (tree .entry)) code wanted (now (crews .entry)))
@@ -107,15 +81,8 @@ pub fn landmark(
     }
     open(
         road,
-        head,
-        next,
-        to,
-        cost,
-        ds,
-        done,
-        queue,
+        drives,
         crews,
-        out,
         code,
         wanted,
         sheet,

@@ -1,21 +1,17 @@
 // A leaf's list: f and the bound of each of its yards, and which leaves next.
 use book::Junction;
+use search_queue::UNQUEUED;
 ghost use mathlib.Core.Path.{_≡_};
 ghost use Prim.Native.Nat.{_+_, _*_, _≤_, _<_};
 ghost use lib.ListN.{length};
 ghost use Rattle.book.specs.Bytes.{u16At};
 ghost use Rattle.road_layout.specs.Road.{junctions};
-ghost use Rattle.road.specs.Adjacency.{links, Adjacency};
-ghost use Rattle.road.specs.Queue.{Roomy};
-ghost use Rattle.road_reach.specs.Targets.{distancesTo};
 ghost use Rattle.tree_layout.specs.Decode.{readList};
 ghost use Rattle.search_rules.specs.Queue.{wordAt, pick};
 ghost use Rattle.search_bounds.specs.Rows.{Rows};
-ghost use Rattle.search_yards.specs.Measures.{Crews};
+ghost use Rattle.search_bounds.specs.Bounds.{Crews};
+ghost use Rattle.search_yards.specs.Measures.{Driven, toCrews};
 ghost use Rattle.search_leaves.specs.Leaves.{Near, byYard, fIn, boundIn, wordOf, wordsOf, listAt};
-
-// The word of a yard that has left: above every f.
-const UNQUEUED: u64 = 18446744073709551615;
 
 // Sets f and the bound of each yard of a landmark's list, given the landmark's distances to the crews.
 fn fill(
@@ -29,7 +25,7 @@ fn fill(
     fs: &mut [u64],
     bounds: &mut [u64],
 )
-    requires { ⌜ (6 * yards ≤ length (now list)) × Rows (now sheet) rows × Crews 1024 (now crews) (now out)
+    requires { ⌜ (6 * yards ≤ length (now list)) × Rows (now sheet) rows × Crews (now crews) × (length (now out) ≡ length (now crews))
         × Near 1024 (readList (now list) yards 0) × Near (length (now fs)) (readList (now list) yards 0)
         × Near (length (now bounds)) (readList (now list) yards 0) ⌝ }
     ensures { λ _. ⌜ (now (fs .exit) ≡ byYard (fIn code (now (out .entry))) (readList (now (list .entry)) yards 0) (now (fs .entry)))
@@ -49,18 +45,11 @@ fn fill(
     }
 }
 
-// Opens a leaf by its landmark that stands at a place of the tree book: walks from the landmark to the crews, and sets f and the bound of each yard of its list.
+// Opens a leaf by its landmark that stands at a place of the tree book: sets f and the bound of each yard of its list.
 pub fn open(
     road: &[u8],
-    head: &[u16],
-    next: &[u16],
-    to: &[u16],
-    cost: &[u16],
-    ds: &mut [u32],
-    done: &mut [bool],
-    queue: &mut [u64],
+    drives: &[u32],
     crews: &[u16],
-    out: &mut [u32],
     code: u8,
     sheet: &[u32],
     rows: usize,
@@ -70,31 +59,22 @@ pub fn open(
     fs: &mut [u64],
     bounds: &mut [u64],
 )
-    requires { ⌜ Adjacency (now road) (links (now head) (now next) (now to) (now cost)) × Roomy (now ds) (now done) (now queue)
-        × Crews (junctions (now road)) (now crews) (now out) × Rows (now sheet) rows × (at + (2 + 6 * yards) ≤ length (now tree))
+    requires { ⌜ Driven (now road) (now crews) (now drives) × Rows (now sheet) rows × (at + (2 + 6 * yards) ≤ length (now tree))
         × (u16At (now tree) at < junctions (now road)) × Near (junctions (now road)) (listAt (now tree) at yards)
         × (junctions (now road) ≤ length (now fs)) × (junctions (now road) ≤ length (now bounds)) ⌝ }
     ensures fs { λ _. ⌜ now (fs .exit)
-        ≡ byYard (fIn code (distancesTo (now (road .entry)) (u16At (now (tree .entry)) at) (now (crews .entry))))
+        ≡ byYard (fIn code (toCrews (now (road .entry)) (u16At (now (tree .entry)) at) (now (crews .entry))))
         (listAt (now (tree .entry)) at yards) (now (fs .entry)) ⌝ }
     ensures bounds { λ _. ⌜ now (bounds .exit)
-        ≡ byYard (boundIn code (now (sheet .entry)) rows (now (crews .entry)) (distancesTo (now (road .entry)) (u16At (now (tree .entry)) at) (now (crews .entry))))
+        ≡ byYard (boundIn code (now (sheet .entry)) rows (now (crews .entry)) (toCrews (now (road .entry)) (u16At (now (tree .entry)) at) (now (crews .entry))))
         (listAt (now (tree .entry)) at yards) (now (bounds .entry)) ⌝ }
 {
-    let place = book::u16_at(tree, at);
-    road_reach::distances_to(
-        road,
-        head,
-        next,
-        to,
-        cost,
-        ds,
-        done,
-        queue,
-        Junction { number: place },
-        crews,
-        out,
-    );
+    let mut out = [0u32; 16];
+    let q = crews.len();
+    let l = Junction {
+        number: book::u16_at(tree, at),
+    };
+    search_yards::to_crews(road, drives, crews, l, &mut out[..q]);
     let a = at + 2;
     let e = a + 6 * yards;
     fill(
@@ -103,7 +83,7 @@ pub fn open(
         sheet,
         rows,
         crews,
-        out,
+        &out[..q],
         code,
         fs,
         bounds,

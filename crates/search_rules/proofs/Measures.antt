@@ -24,11 +24,6 @@ pub aggregate-cons : (code : ℕ) (g : ℕ → ℕ) (q : ℕ) (qs : List ℕ) �
 unfolding aggregate
 aggregate-cons code g q qs = refl
 
--- the difference to nothing is the number
-pub apart-zero : (a : ℕ) → apart a 0 ≡ a
-unfolding apart
-apart-zero a = omega arith
-
 -- ---- of a yard
 
 module _ (i : Instance) where

@@ -2,25 +2,24 @@
 use mathlib.Core.Path.{_≡_, refl, sym, ap, _∙_}
 use mathlib.Core.Bool.{Bool, true, false, not, _||_}
 use mathlib.Core.List.{List, [], _∷_, _++_}
-use Prim.Native.Nat.{ℕ, zero, suc, _+_, _*_, _≤_, _<_, min, max}
+use Prim.Native.Nat.{ℕ, zero, suc, _+_, _≤_, _<_, min, max}
 use native.Mathlib.Omega.{arith}
-use native.Mathlib.Decide.{ℕ-discrete, decLt}
-use lib.ListN.{length, getD, set, take, length-set}
-use lib.Seq.{take-suc, ext-getD, getD-set-same, getD-set-other}
+use lib.ListN.{length, getD, take}
+use lib.Seq.{take-suc}
 use lib.Dec.{T, ltb, ltb→lt}
 use Rattle.book.specs.Choose.{choose}
 use Rattle.book.proofs.Choosing.{choose-case, choose-yes, choose-no}
 use Rattle.tree_layout.specs.Values.{Element, Mark, lastFrom}
 use Rattle.tree_layout.specs.Refusal.{comes}
 use Rattle.search_rules.specs.Instance.{Instance}
-use Rattle.search_rules.specs.Bounds.{combine, aggregate, greatestOf, leastFrom, leastOf, noMark, weight, best, bestOf, f}
+use Rattle.search_rules.specs.Bounds.{combine, aggregate, greatestOf, leastFrom, leastOf, noMark, weight, best, bestOf}
 use Rattle.search_rules.specs.Queue.{unqueued, wordAt, pick}
 use Rattle.search_rules.specs.Held.{insert, hold, greatestHeld}
-use Rattle.search_rules.specs.Step.{left, noElement, waiting, step, settled, start}
-use Rattle.search_rules.specs.Run.{Outcome, words, advance, run}
+use Rattle.search_rules.specs.Step.{left, noElement, step, settled, start}
+use Rattle.search_rules.specs.Run.{words, advance, run}
 use Rattle.search_rules.proofs.Choices.{choose-two}
 use Rattle.search_rules.proofs.Bounds.{combine-zero, combine-assoc}
-use Rattle.search_rules.proofs.Queue.{pick-least, pick-range, waiting-length, waiting-at}
+use Rattle.search_rules.proofs.Queue.{pick-least, pick-range}
 
 -- ---- over crews
 
@@ -152,37 +151,12 @@ pick-first ws (suc j) v h = rw pick-more (choose-case (λ p. v < p → wordAt ws
     (λ t k. omega (arith, ltb→lt (wordAt ws j) (wordAt ws (pick ws j)) t, pick-least ws j v k))
     (λ t k. pick-first ws j v k) (rw pick-more at h))
 
--- no other number has the least word with none before it, so that any other way to find one is the same choice
-pub pick-only : (ws : List ℕ) (j p : ℕ) → p < j → ((v : ℕ) → v < j → wordAt ws p ≤ wordAt ws v) → ((v : ℕ) → v < p → wordAt ws p < wordAt ws v) → p ≡ pick ws j
-pick-only ws j p h least first = go (decLt p (pick ws j)) (decLt (pick ws j) p)
-  where
-    go : Dec (p < pick ws j) → Dec (pick ws j < p) → p ≡ pick ws j
-    go (yes l) k = absurd (omega (arith, pick-first ws j p l, least (pick ws j) (pick-range ws j (omega arith))))
-    go (no l) (yes k) = absurd (omega (arith, first (pick ws j) k, pick-least ws j p h))
-    go (no l) (no k) = omega arith
-
 -- ---- a leaf's list
 
 -- when an element has left, its word becomes `unqueued`, and the others' stay: a list names each yard once
 module _ (i : Instance) (gone : List Bool) (m : Mark) (es : List Element) (p : ℕ) (h : p < length es) where
   abbrev y : ℕ
   y = getD es p noElement .yard
-
-  pub waiting-left : y < length gone → ((j : ℕ) → j < length es → getD es j noElement .yard ≡ y → j ≡ p) → waiting i (set gone y true) m es ≡ set (waiting i gone m es) p unqueued
-  unfolding wordAt left
-  waiting-left fits once = ext-getD unqueued (waiting i (set gone y true) m es) (set (waiting i gone m es) p unqueued)
-      (waiting-length i (set gone y true) m es ∙ sym (length-set (waiting i gone m es) p unqueued ∙ waiting-length i gone m es))
-      (λ j k. one j (rw (waiting-length i (set gone y true) m es) at k) (ℕ-discrete j p))
-    where
-      same : (j : ℕ) → j ≡ p → choose (getD (set gone y true) (getD es j noElement .yard) false) unqueued (f i m (getD es j noElement)) ≡ unqueued
-      same j e = rw (e, getD-set-same gone y true false fits) (choose-yes true unqueued (f i m (getD es p noElement)) tt)
-
-      one : (j : ℕ) → j < length es → Dec (j ≡ p) → getD (waiting i (set gone y true) m es) j unqueued ≡ getD (set (waiting i gone m es) p unqueued) j unqueued
-      one j k (yes e) = waiting-at i (set gone y true) m es j k ∙ same j e ∙ sym (rw e (getD-set-same (waiting i gone m es) p unqueued unqueued (rw (waiting-length i gone m es) h)))
-      one j k (no e) =
-          waiting-at i (set gone y true) m es j k
-          ∙ ap (λ b. choose b unqueued (f i m (getD es j noElement))) (getD-set-other gone y (getD es j noElement .yard) true false (λ q. e (once j k q)))
-          ∙ sym (getD-set-other (waiting i gone m es) p j unqueued unqueued e ∙ waiting-at i gone m es j k)
 
 -- ---- a search's turn
 
@@ -201,10 +175,6 @@ module _ (i : Instance) where
 pub words-none : words [] ≡ []
 unfolding words
 words-none = refl
-
-pub words-more : (e : Element) (es : List Element) → words (e ∷ es) ≡ e .yard ∷ e .distance ∷ words es
-unfolding words
-words-more e es = refl
 
 pub words-append : (es : List Element) (e : Element) → words (es ++ (e ∷ [])) ≡ words es ++ (e .yard ∷ e .distance ∷ [])
 unfolding words

@@ -1,31 +1,28 @@
 -- A settled search of true books lists the first yards by the walks' own definition of distance. Assumes nothing.
-use mathlib.Core.Path.{_≡_, refl, sym, ap, _∙_}
-use mathlib.Core.Logic.{_⊎_, inl, inr}
+use mathlib.Core.Path.{_≡_, refl, sym, _∙_}
 use mathlib.Core.List.{List, [], _∷_, List·Memᴰ as Mem, List·Memᴰ·head as head, List·Memᴰ·tail as tail}
-use Prim.Native.Nat.{ℕ, _≤_, _<_, min}
+use Prim.Native.Nat.{ℕ, _<_}
 use native.Mathlib.Omega.{arith}
-use lib.ListN.{length}
 use lib.Dec.{T}
 use Rattle.road_layout.specs.Road.{junctions}
-use Rattle.road.specs.Walk.{Arc, Least, net}
+use Rattle.adjacency.specs.Arcs.{net}
 use Rattle.road.specs.Dijkstra.{dist}
 use Rattle.road.proofs.Walks.{least-unique}
 use Rattle.road.proofs.Theorems.{metric}
-use Rattle.tree_layout.specs.Values.{Element}
 use Rattle.tree_layout.specs.Decode.{decode}
 use Rattle.tree.specs.Yards.{treeYards}
 use Rattle.search_rules.specs.Instance.{Instance}
 use Rattle.search_rules.specs.Books.{searchOf, Passed}
-use Rattle.search_rules.specs.Bounds.{combine, aggregate, over, total}
+use Rattle.search_rules.specs.Bounds.{aggregate, over, total}
 use Rattle.search_rules.specs.Held.{entry}
 use Rattle.search_rules.specs.Run.{run, answer}
 use Rattle.search_rules.specs.Facts.{Below, Sound}
-use Rattle.search_rules.specs.Theorems.{Sorted, Out, TreeYards, Listing, Complete}
+use Rattle.search_rules.specs.Theorems.{TreeYards, Listing, Complete}
 use Rattle.search_rules.specs.Walks.{AggregateLeast, none, more, FirstYards}
 use Rattle.search_rules.proofs.Bounds.{below-range}
 use Rattle.search_rules.proofs.Found.{run-complete}
-use Rattle.search_rules.proofs.Trees.{Accepted, tree-yards}
-use Rattle.search_rules.proofs.Books.{count, accepted-of, well-of}
+use Rattle.search_rules.proofs.Trees.{tree-yards}
+use Rattle.search_rules.proofs.Books.{count, accepted-of}
 use Rattle.search_rules.proofs.Theorems.{answer-settled, answer-listed, answer-listing}
 
 module _ (road tree : List ℕ) (code wanted : ℕ) (crews : List ℕ) (p : Passed road tree crews) where

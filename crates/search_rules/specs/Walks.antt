@@ -4,7 +4,8 @@ use mathlib.Core.Logic.{_⊎_}
 use mathlib.Core.List.{List, [], _∷_, List·Memᴰ as Mem}
 use Prim.Native.Nat.{ℕ, min}
 use lib.ListN.{length}
-use Rattle.road.specs.Walk.{Arc, Least}
+use Rattle.adjacency.specs.Arcs.{Arc}
+use Rattle.road.specs.Walk.{Least}
 use Rattle.tree_layout.specs.Values.{Element}
 use Rattle.search_rules.specs.Bounds.{combine}
 use Rattle.search_rules.specs.Theorems.{Sorted, Out}

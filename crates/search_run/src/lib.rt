@@ -3,13 +3,10 @@ use search_held::Held;
 ghost use mathlib.Core.Path.{_≡_};
 ghost use Prim.Native.Nat.{ℕ, _≤_};
 ghost use lib.ListN.{length};
-ghost use Rattle.road_layout.specs.Road.{junctions};
-ghost use Rattle.road.specs.Queue.{Roomy};
 ghost use Rattle.search_rules.specs.Books.{searchOf};
 ghost use Rattle.search_rules.specs.Step.{settled};
 ghost use Rattle.search_rules.specs.Run.{run};
 ghost use Rattle.search_state.specs.State.{stateOf};
-ghost use Rattle.search_yards.specs.Measures.{Crews};
 ghost use Rattle.search_inner.specs.Children.{Ended};
 ghost use Rattle.search_leaf.specs.Ready.{Ready};
 ghost use Rattle.search_run.specs.Room.{Room};
@@ -25,15 +22,8 @@ pub struct Outcome {
 // Takes steps until the search is settled or the limit's number is taken.
 pub fn run(
     road: &[u8],
-    head: &[u16],
-    next: &[u16],
-    to: &[u16],
-    cost: &[u16],
-    ds: &mut [u32],
-    done: &mut [bool],
-    queue: &mut [u64],
+    drives: &[u32],
     crews: &[u16],
-    out: &mut [u32],
     code: u8,
     wanted: usize,
     sheet: &[u32],
@@ -51,8 +41,8 @@ pub fn run(
     measured: &mut [u16],
     limit: u32,
 ) -> Outcome
-    requires { ⌜ Ready (now road) (now tree) code wanted (now crews) (now head) (now next) (now to) (now cost) (now places) (now sheet) rows
-        × Roomy (now ds) (now done) (now queue) × Crews (junctions (now road)) (now crews) (now out) × Ended (now tree) (now ends)
+    requires { ⌜ Ready (now road) (now tree) code wanted (now crews) (now drives) (now places) (now sheet) rows
+        × Ended (now tree) (now ends)
         × Room (now tree) (now picked) (now fs) (now bounds) (now keys) (now yards) (now firsts) (now gone) (now measured) × (wanted ≤ 64) ⌝ }
     ensures state { λ o. ⌜ stateOf (now (keys .exit)) (now (yards .exit)) (now (firsts .exit)) (now (gone .exit)) (o .held) (now (measured .exit)) (o .measured)
         ≡ run (searchOf (now (road .entry)) (now (tree .entry)) code wanted (now (crews .entry))) limit .state ⌝ }
@@ -88,15 +78,8 @@ pub fn run(
         }
         let p = search_step::step(
             road,
-            head,
-            next,
-            to,
-            cost,
-            ds,
-            done,
-            queue,
+            drives,
             crews,
-            out,
             code,
             wanted,
             sheet,

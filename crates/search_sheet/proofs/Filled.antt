@@ -1,87 +1,105 @@
--- The filled rows are a search's sheet. Assumes nothing.
-use mathlib.Core.Path.{_≡_, refl, sym, ap, _∙_}
-use mathlib.Core.List.{List, List·Memᴰ as Mem}
-use Prim.Native.Nat.{ℕ, _<_}
+-- The rows of the root's landmarks are a search's sheet. Assumes nothing.
+use mathlib.Core.Path.{_≡_, sym, ap, _∙_}
+use mathlib.Core.List.{List, _++_}
+use Prim.Native.Nat.{ℕ, _*_, _≤_, _<_}
 use native.Mathlib.Omega.{arith}
-use lib.ListN.{length, getD}
-use Rattle.book.proofs.Lists.{getD-mem}
+use lib.ListN.{length, getD, take, drop, length-append}
+use lib.Seq.{length-take-le, take-at}
+use Rattle.book.specs.Bytes.{u8At}
 use Rattle.road_layout.specs.Road.{junctions}
-use Rattle.road_layout.specs.Layout.{layoutRefusal}
-use Rattle.road_layout.specs.Facts.{RoadLayout}
-use Rattle.road_layout.proofs.Layouts.{passing-layout}
-use Rattle.road.specs.Walk.{net}
-use Rattle.road.specs.Dijkstra.{width, distances, dist}
-use Rattle.road.proofs.Distances.{distances-length}
-use Rattle.road.proofs.Theorems.{net-sound}
-use Rattle.road.proofs.Reading.{dist-read}
+use Rattle.road.specs.Dijkstra.{dist}
+use Rattle.road_rows.specs.Rows.{cell, AreJunctions, Rowed}
 use Rattle.tree_layout.specs.Values.{Mark}
 use Rattle.tree_layout.specs.Decode.{junctionCount, landmarkCount}
 use Rattle.tree_layout.specs.Facts.{TreeLayout}
 use Rattle.tree_layout.proofs.Places.{place-first, decode-junctions}
+use Rattle.tree_layout.proofs.Reading.{landmark-count}
 use Rattle.search_rules.specs.Instance.{Instance, marks}
 use Rattle.search_rules.specs.Books.{searchOf}
 use Rattle.search_rules.specs.Bounds.{noMark, sheetAt}
 use Rattle.search_rules.proofs.Equations.{sheet-at, search-of}
-use Rattle.search_bounds.specs.Rows.{cell}
 use Rattle.search_bounds.specs.Marks.{marksAt, RecordAt}
 use Rattle.search_bounds.specs.Sheet.{Sheet}
 use Rattle.search_bounds.proofs.Records.{marks-count}
 use Rattle.search_bounds.proofs.Numbered.{layout-marks, layout-record, layout-placed}
 use Rattle.search_bounds.proofs.Searching.{marks-book}
-use Rattle.search_sheet.specs.Filling.{rootDistances, sheetRows}
-use Rattle.search_sheet.proofs.Copying.{rows-length, rows-filled}
+use Rattle.search_sheet.specs.Filling.{rootPlaces}
+use Rattle.search_sheet.proofs.Places.{root-length, root-at, root-each}
 
 module _ (road tree : List ℕ) (layout : TreeLayout tree) (counts : junctionCount tree ≡ junctions road) where
   -- the root's record
   pub root-record : RecordAt tree 12
   root-record = layout-record tree layout 0 (layout .regions .0) 12 (sym (place-first tree))
 
-  pub root-placed : (k : Mark) → Mem k (marksAt tree 12) → k .place < junctions road
-  root-placed k m = omega (arith, layout-placed tree layout 0 (layout .regions .0) 12 (sym (place-first tree)) k m)
+  -- the root's landmarks are junctions of the road book
+  pub root-junctions : AreJunctions road (rootPlaces tree)
+  root-junctions t m = root-each tree (junctions road) (λ k j. omega (arith, layout-placed tree layout 0 (layout .regions .0) 12 (sym (place-first tree)) k j)) t m
 
-  module _ (sound : layoutRefusal road ≡ 0) where
-    roads : RoadLayout road
-    roads = passing-layout road sound
+  -- ---- the array of four that they are read into
 
-    -- a row's words are the road book's distances
-    root-read : (r v : ℕ) → r < landmarkCount tree → v < 1024
-        → getD (rootDistances road tree r) v 0 ≡ dist road (getD (marksAt tree 12) r noMark .place) v
-    unfolding rootDistances
-    root-read r v h k =
-        let l : ℕ = getD (marksAt tree 12) r noMark .place in
-        let m : Mem (getD (marksAt tree 12) r noMark) (marksAt tree 12) = getD-mem (marksAt tree 12) r noMark (omega (arith, marks-count tree 12)) in
-        let n : length (distances (net road) (junctions road) l) ≡ width = distances-length (net road) (junctions road) (roads .few-junctions)
-        (net-sound road roads) l (root-placed (getD (marksAt tree 12) r noMark) m) in
-        dist-read road (distances (net road) (junctions road) l) l v refl (omega arith)
+  module _ (m : ℕ) (e : m ≡ u8At tree 11) where
+    pub root-count : m ≡ landmarkCount tree
+    root-count = e ∙ sym (landmark-count tree)
 
-    module _ (code wanted : ℕ) (crews : List ℕ) where
-      abbrev i : Instance
-      i = searchOf road tree code wanted crews
+    pub root-few : m ≤ 4
+    root-few = omega (arith, root-count, layout .landmarks .1)
 
-      root-marks : marksAt tree 12 ≡ marks i 0
-      root-marks = layout-marks tree layout 0 (layout .regions .0) 12 (sym (place-first tree)) ∙ sym (marks-book road tree code wanted crews 0)
+    module _ (old : List ℕ) (four : length old ≡ 4) where
+      pub root-part : m ≡ length (take m old)
+      root-part = sym (length-take-le m old (omega (arith, root-few)))
 
-      distance-is : (k : Mark) (v : ℕ) → dist road (k .place) v ≡ sheetAt i k v
-      distance-is k v = ap (λ (x : Instance). x .d (k .place) v) (sym (search-of road tree code wanted crews)) ∙ sym (sheet-at i k v)
+      -- as they are read
+      module _ (new : List ℕ) (read : new ≡ rootPlaces tree) where
+        root-new : length new ≡ m
+        root-new = ap length read ∙ root-length tree ∙ sym root-count
 
-      junctions-are : i .tree .junctions ≡ junctionCount tree
-      junctions-are = ap (λ (x : Instance). x .tree .junctions) (search-of road tree code wanted crews) ∙ decode-junctions tree
+        taken : take m (new ++ drop m old) ≡ rootPlaces tree
+        taken = take-at new (drop m old) m root-new ∙ read
 
-      -- "The sheet holds d from the root's landmarks r to every junction."
-      pub sheet-filled : (old sheet : List ℕ) → length old ≡ 4096 → sheet ≡ sheetRows road tree (landmarkCount tree) old
-          → Sheet i (landmarkCount tree) sheet
-      sheet-filled old sheet room e = record {
-        limits = record {
-          room = ap length e ∙ rows-length road tree old (landmarkCount tree) ∙ room;
-          some = layout .landmarks .0;
-          few = layout .landmarks .1;
-        };
-        count = sym (marks-count tree 12) ∙ ap length root-marks;
-        filled = λ r v h k. rw e (words r v h (omega (arith, junctions-are, layout .junctions .1)));
-      }
-        where
-          words : (r v : ℕ) → r < landmarkCount tree → v < 1024
-              → cell (sheetRows road tree (landmarkCount tree) old) r v ≡ sheetAt i (getD (marks i 0) r noMark) v
-          words r v h k =
-              let filled = rows-filled road tree old room (landmarkCount tree) (layout .landmarks .1) r v h k in
-              rw (← root-marks) (filled ∙ root-read r v h k ∙ distance-is (getD (marksAt tree 12) r noMark) v)
+        pub root-inside : m ≤ length (new ++ drop m old)
+        root-inside = omega (arith, length-append new (drop m old), root-new)
+
+        pub root-taken : m ≡ length (take m (new ++ drop m old))
+        root-taken = sym (length-take-le m (new ++ drop m old) root-inside)
+
+        pub taken-junctions : AreJunctions road (take m (new ++ drop m old))
+        taken-junctions = rw taken root-junctions
+
+        pub taken-room : (w : ℕ) → w ≡ 4096 → 1024 * length (take m (new ++ drop m old)) ≤ w
+        taken-room w f = omega (arith, root-taken, root-few)
+
+        pub taken-rowed : (sheet : List ℕ) → Rowed road (take m (new ++ drop m old)) sheet → Rowed road (rootPlaces tree) sheet
+        taken-rowed sheet rowed = rw taken at rowed
+
+  -- ---- a search's sheet
+
+  module _ (code wanted : ℕ) (crews : List ℕ) where
+    abbrev i : Instance
+    i = searchOf road tree code wanted crews
+
+    root-marks : marksAt tree 12 ≡ marks i 0
+    root-marks = layout-marks tree layout 0 (layout .regions .0) 12 (sym (place-first tree)) ∙ sym (marks-book road tree code wanted crews 0)
+
+    distance-is : (k : Mark) (v : ℕ) → dist road (k .place) v ≡ sheetAt i k v
+    distance-is k v = ap (λ (x : Instance). x .d (k .place) v) (sym (search-of road tree code wanted crews)) ∙ sym (sheet-at i k v)
+
+    junctions-are : i .tree .junctions ≡ junctionCount tree
+    junctions-are = ap (λ (x : Instance). x .tree .junctions) (search-of road tree code wanted crews) ∙ decode-junctions tree
+
+    -- "The sheet holds d from the root's landmarks r to every junction."
+    pub sheet-filled : (sheet : List ℕ) → length sheet ≡ 4096 → Rowed road (rootPlaces tree) sheet → Sheet i (landmarkCount tree) sheet
+    sheet-filled sheet room rowed = record {
+      limits = record {
+        room = room;
+        some = layout .landmarks .0;
+        few = layout .landmarks .1;
+      };
+      count = sym (marks-count tree 12) ∙ ap length root-marks;
+      filled = λ r v h k. words r v h (omega (arith, junctions-are, layout .junctions .1));
+    }
+      where
+        words : (r v : ℕ) → r < landmarkCount tree → v < 1024 → cell sheet r v ≡ sheetAt i (getD (marks i 0) r noMark) v
+        words r v h k =
+            let source : dist road (getD (rootPlaces tree) r 0) v ≡ dist road (getD (marksAt tree 12) r noMark .place) v = rw (root-at tree r h) in
+            let filled = rowed .filled r v (omega (arith, root-length tree)) k in
+            rw (← root-marks) (filled ∙ source ∙ distance-is (getD (marksAt tree 12) r noMark) v)

@@ -1,3 +1,2 @@
-pub mod Copying
+pub mod Places
 pub mod Filled
-pub mod Rowing

@@ -1,21 +1,19 @@
 -- A step of a search that is ready: which yard or region is taken, and the state that it leads to. Assumes nothing.
 use mathlib.Core.Path.{_≡_, refl, sym, ap, _∙_}
-use mathlib.Core.Bool.{Bool, true, false, not}
-use mathlib.Core.List.{List, [], _∷_, List·Memᴰ as Mem}
-use Prim.Native.Nat.{ℕ, zero, suc, _+_, _≤_, _<_, min}
+use mathlib.Core.Bool.{Bool}
+use mathlib.Core.List.{List, _∷_}
+use Prim.Native.Nat.{ℕ, _+_, _≤_, _<_, min}
 use native.Mathlib.Omega.{arith}
 use lib.ListN.{length, getD, set}
-use lib.Dec.{T}
 use Rattle.road_layout.specs.Road.{junctions}
 use Rattle.tree_layout.specs.Values.{Element}
 use Rattle.tree_layout.specs.Reading.{element}
 use Rattle.tree.specs.Yards.{treeYards}
-use Rattle.search_rules.specs.Instance.{Instance, size, leaf}
+use Rattle.search_rules.specs.Instance.{Instance, size}
 use Rattle.search_rules.specs.Books.{searchOf}
-use Rattle.search_rules.specs.Bounds.{total, chosen}
 use Rattle.search_rules.specs.Queue.{unqueued, wordAt, pick}
 use Rattle.search_rules.specs.Held.{hold, entry}
-use Rattle.search_rules.specs.Step.{State, nextF, nextRegion, nextYard, leastKey, takeRegion, takeYard, step, settled}
+use Rattle.search_rules.specs.Step.{State, nextRegion, nextYard, leastKey, takeRegion, takeYard, step}
 use Rattle.search_rules.specs.Facts.{WellFormed}
 use Rattle.search_rules.proofs.Stepping.{Sizes}
 use Rattle.search_rules.proofs.Books.{accepted-of}
@@ -35,8 +33,8 @@ use Rattle.search_leaf.specs.Ready.{Ready}
 use Rattle.search_leaf.proofs.Landmarks.{well, junctions-of, size-of}
 use Rattle.search_take.specs.Regions.{Queued}
 
-module _ (road tree : List ℕ) (code wanted : ℕ) (crews head next to cost places sheet : List ℕ) (rows : ℕ)
-    (ready : Ready road tree code wanted crews head next to cost places sheet rows)
+module _ (road tree : List ℕ) (code wanted : ℕ) (crews drives places sheet : List ℕ) (rows : ℕ)
+    (ready : Ready road tree code wanted crews drives places sheet rows)
     (keys yards firsts : List ℕ) (gone : List Bool) (held : Held) (measured : List ℕ) (count : ℕ)
     (u : Unsettled (searchOf road tree code wanted crews) (stateOf keys yards firsts gone held measured count)) where
   abbrev i : Instance
@@ -46,7 +44,7 @@ module _ (road tree : List ℕ) (code wanted : ℕ) (crews head next to cost pla
   st = stateOf keys yards firsts gone held measured count
 
   formed : WellFormed i
-  formed = well road tree code wanted crews head next to cost places sheet rows ready
+  formed = well road tree code wanted crews drives places sheet rows ready
 
   sizes : Sizes i st
   sizes = run-sizes i formed st (u .steps) (u .is)
@@ -64,7 +62,7 @@ module _ (road tree : List ℕ) (code wanted : ℕ) (crews head next to cost pla
   yards-count = ap length (sym yards-of) ∙ sizes .yards
 
   some-junction : 0 < i .tree .junctions
-  some-junction = omega (arith, junctions-of road tree code wanted crews head next to cost places sheet rows ready, ready .passed .roads .layout .some-junction)
+  some-junction = omega (arith, junctions-of road tree code wanted crews drives places sheet rows ready, ready .passed .roads .layout .some-junction)
 
   -- the region and the yard of least key
   module _ (r y a b : ℕ) (er : r ≡ pick keys (length keys)) (ey : y ≡ pick yards (length yards)) where
@@ -75,10 +73,10 @@ module _ (road tree : List ℕ) (code wanted : ℕ) (crews head next to cost pla
     yard-inside = rw ey (pick-range yards (length yards) (omega (arith, yards-count, some-junction)))
 
     pub yard-small : y < junctions road
-    yard-small = omega (arith, yard-inside, yards-count, junctions-of road tree code wanted crews head next to cost places sheet rows ready)
+    yard-small = omega (arith, yard-inside, yards-count, junctions-of road tree code wanted crews drives places sheet rows ready)
 
     pub region-small : r < 511
-    region-small = omega (arith, region-inside, keys-count, size-of road tree code wanted crews head next to cost places sheet rows ready, ready .laid .layout .regions .1)
+    region-small = omega (arith, region-inside, keys-count, size-of road tree code wanted crews drives places sheet rows ready, ready .laid .layout .regions .1)
 
     next-region : r ≡ nextRegion i st
     next-region = er ∙ (ap (pick keys) keys-count ∙ (ap (λ (ws : List ℕ). pick ws (size i)) (sym keys-of) ∙ sym (next-region-is i st)))
@@ -152,5 +150,8 @@ module _ (road tree : List ℕ) (code wanted : ℕ) (crews head next to cost pla
               (u .steps) (u .is) r t (omega (arith, region-inside, keys-count)) (omega (arith, region-word, low)));
         }
 
-        pub region-is-taken : (out : State) → out ≡ takeRegion i st r a → out ≡ step i st
-        region-is-taken out e = e ∙ sym (step-region i st r y a b next-region next-yard region-word yard-word most low)
+        pub region-is-taken : (keys′ yards′ firsts′ : List ℕ) (gone′ : List Bool)
+            → ((h : Held) (m : List ℕ) (n : ℕ) → stateOf keys′ yards′ firsts′ gone′ h m n ≡ takeRegion i (stateOf keys yards firsts gone h m n) r a)
+            → stateOf keys′ yards′ firsts′ gone′ held measured count ≡ step i st
+        region-is-taken keys′ yards′ firsts′ gone′ e =
+            e held measured count ∙ sym (step-region i st r y a b next-region next-yard region-word yard-word most low)

@@ -7,12 +7,9 @@ use tree_layout::Region;
 ghost use mathlib.Core.Path.{_≡_};
 ghost use Prim.Native.Nat.{ℕ, _≤_};
 ghost use lib.ListN.{length};
-ghost use Rattle.road_layout.specs.Road.{junctions};
-ghost use Rattle.road.specs.Queue.{Roomy};
 ghost use Rattle.search_rules.specs.Books.{searchOf};
 ghost use Rattle.search_rules.specs.Step.{step};
 ghost use Rattle.search_state.specs.State.{stateOf, Unsettled};
-ghost use Rattle.search_yards.specs.Measures.{Crews};
 ghost use Rattle.search_inner.specs.Children.{Ended};
 ghost use Rattle.search_leaf.specs.Ready.{Ready, Cached};
 
@@ -25,15 +22,8 @@ pub struct Progress {
 // "One step takes the least key; at equal keys a region precedes a yard, then lower number first."
 pub fn step(
     road: &[u8],
-    head: &[u16],
-    next: &[u16],
-    to: &[u16],
-    cost: &[u16],
-    ds: &mut [u32],
-    done: &mut [bool],
-    queue: &mut [u64],
+    drives: &[u32],
     crews: &[u16],
-    out: &mut [u32],
     code: u8,
     wanted: usize,
     sheet: &[u32],
@@ -52,8 +42,8 @@ pub fn step(
     measured: &mut [u16],
     count: usize,
 ) -> Progress
-    requires { ⌜ Ready (now road) (now tree) code wanted (now crews) (now head) (now next) (now to) (now cost) (now places) (now sheet) rows
-        × Roomy (now ds) (now done) (now queue) × Crews (junctions (now road)) (now crews) (now out) × Ended (now tree) (now ends)
+    requires { ⌜ Ready (now road) (now tree) code wanted (now crews) (now drives) (now places) (now sheet) rows
+        × Ended (now tree) (now ends)
         × Cached (searchOf (now road) (now tree) code wanted (now crews)) (now picked) (now fs) (now bounds)
         × Unsettled (searchOf (now road) (now tree) code wanted (now crews))
         (stateOf (now keys) (now yards) (now firsts) (now gone) held (now measured) count)
@@ -73,15 +63,8 @@ pub fn step(
         let yard = Junction { number: y as u16 };
         let h = measuring::take(
             road,
-            head,
-            next,
-            to,
-            cost,
-            ds,
-            done,
-            queue,
+            drives,
             crews,
-            out,
             code,
             wanted,
             yards,
@@ -98,15 +81,8 @@ pub fn step(
     let region = Region { number: r as u16 };
     regions::take(
         road,
-        head,
-        next,
-        to,
-        cost,
-        ds,
-        done,
-        queue,
+        drives,
         crews,
-        out,
         code,
         wanted,
         sheet,

@@ -1,10 +1,10 @@
 -- A region that is taken, by the arrays and by the definition. Assumes nothing.
 use mathlib.Core.Path.{_≡_, refl, sym, ap, _∙_}
-use mathlib.Core.Bool.{Bool, true, false, not}
+use mathlib.Core.Bool.{Bool, not}
 use mathlib.Core.List.{List, [], _∷_, List·Memᴰ as Mem, List·Memᴰ·head as head-of, List·Memᴰ·tail as tail-of}
-use Prim.Native.Nat.{ℕ, _≤_, _<_, max}
+use Prim.Native.Nat.{ℕ, _<_, max}
 use native.Mathlib.Omega.{arith}
-use lib.ListN.{length, getD, set}
+use lib.ListN.{length, set}
 use lib.Dec.{T, eqb}
 use Rattle.book.proofs.Lists.{eq→eqb, ne→neqb}
 use Rattle.tree_layout.specs.Values.{regionAt}
@@ -18,7 +18,6 @@ use Rattle.search_rules.specs.Books.{searchOf}
 use Rattle.search_rules.specs.Bounds.{bound}
 use Rattle.search_rules.specs.Queue.{unqueued}
 use Rattle.search_rules.specs.Step.{State, queueChildren, openInner, openLeaf, takeRegion}
-use Rattle.search_rules.specs.Facts.{WellFormed}
 use Rattle.search_rules.proofs.Equations.{search-of}
 use Rattle.search_rules.proofs.Steps.{leaf-is, take-leaf, take-inner, queue-none, queue-more, open-inner-is}
 use Rattle.search_rules.proofs.Steps.{children-is as children-of}
@@ -41,13 +40,13 @@ put-queue i g a (c ∷ cs) ws f =
     put-more g c cs ws ∙ (ap (λ (w : ℕ). putKeys g cs (set ws c w)) (f c (head-of refl))
     ∙ (put-queue i g a cs (set ws c (max (bound i c) a)) (λ d k. f d (tail-of k)) ∙ sym (queue-more i a c cs ws)))
 
-module _ (road tree : List ℕ) (code wanted : ℕ) (crews head next to cost places sheet : List ℕ) (rows : ℕ)
-    (ready : Ready road tree code wanted crews head next to cost places sheet rows) (r : ℕ) where
+module _ (road tree : List ℕ) (code wanted : ℕ) (crews drives places sheet : List ℕ) (rows : ℕ)
+    (ready : Ready road tree code wanted crews drives places sheet rows) (r : ℕ) where
   abbrev i : Instance
   i = searchOf road tree code wanted crews
 
   sized : size i ≡ regionCount tree
-  sized = size-of road tree code wanted crews head next to cost places sheet rows ready
+  sized = size-of road tree code wanted crews drives places sheet rows ready
 
   children-at : children i r ≡ childrenOf (decode tree .regions) r
   children-at = children-of i r ∙ ap (λ (z : Instance). childrenOf (z .tree .regions) r) (search-of road tree code wanted crews)
@@ -81,7 +80,7 @@ module _ (road tree : List ℕ) (code wanted : ℕ) (crews head next to cost pla
       self = omega (arith, q .inside, sized);
       children = λ c k. omega (
         arith,
-        well road tree code wanted crews head next to cost places sheet rows ready .shape .range r c
+        well road tree code wanted crews drives places sheet rows ready .shape .range r c
             (rw children-at k),
         sized,
       );

@@ -6,28 +6,18 @@ ghost use mathlib.Core.List.{_∷_};
 ghost use Prim.Native.Nat.{ℕ, _+_, _≤_, _<_};
 ghost use lib.ListN.{length, set};
 ghost use Rattle.road_layout.specs.Road.{junctions};
-ghost use Rattle.road.specs.Adjacency.{links, Adjacency};
-ghost use Rattle.road.specs.Queue.{Roomy};
-ghost use Rattle.road.specs.Refusal.{roadRefusal};
 ghost use Rattle.tree_layout.specs.Reading.{element};
 ghost use Rattle.search_rules.specs.Queue.{unqueued};
 ghost use Rattle.search_rules.specs.Held.{hold};
 ghost use Rattle.search_held.specs.Pairs.{heldOf};
 ghost use Rattle.search_state.specs.State.{newest};
-ghost use Rattle.search_yards.specs.Measures.{Crews, totalOf};
+ghost use Rattle.search_yards.specs.Measures.{Driven, totalOf};
 
 // Takes yard y off the queue, measures it, and gives what is held then; it is the last of the measured yards.
 pub fn take(
     road: &[u8],
-    head: &[u16],
-    next: &[u16],
-    to: &[u16],
-    cost: &[u16],
-    ds: &mut [u32],
-    done: &mut [bool],
-    queue: &mut [u64],
+    drives: &[u32],
     crews: &[u16],
-    out: &mut [u32],
     code: u8,
     wanted: usize,
     yards: &mut [u64],
@@ -36,8 +26,7 @@ pub fn take(
     count: usize,
     y: Junction,
 ) -> Held
-    requires { ⌜ (roadRefusal (now road) ≡ 0) × Adjacency (now road) (links (now head) (now next) (now to) (now cost))
-        × Roomy (now ds) (now done) (now queue) × Crews (junctions (now road)) (now crews) (now out) × (y .number < junctions (now road))
+    requires { ⌜ Driven (now road) (now crews) (now drives) × (y .number < junctions (now road))
         × (y .number < length (now yards)) × (count < length (now measured)) × (held .count ≤ wanted) × (wanted ≤ 64) ⌝ }
     ensures keys { λ _. ⌜ now (yards .exit) ≡ set (now (yards .entry)) (y .number) unqueued ⌝ }
     ensures measured { λ _. ⌜ newest (now (measured .exit)) (count + 1) ≡ y .number ∷ newest (now (measured .entry)) count ⌝ }
@@ -47,19 +36,6 @@ pub fn take(
     let i = y.number as usize;
     yards[i] = search_queue::UNQUEUED;
     measured[count] = y.number;
-    let total = search_yards::measure(
-        road,
-        head,
-        next,
-        to,
-        cost,
-        ds,
-        done,
-        queue,
-        crews,
-        out,
-        code,
-        y,
-    );
+    let total = search_yards::measure(road, drives, crews, code, y);
     search_held::hold(held, wanted, y.number, total)
 }

@@ -3,13 +3,10 @@ use tree_layout::Region;
 ghost use mathlib.Core.Path.{_≡_};
 ghost use mathlib.Core.List.{List};
 ghost use Prim.Native.Nat.{ℕ};
-ghost use Rattle.road_layout.specs.Road.{junctions};
-ghost use Rattle.road.specs.Queue.{Roomy};
 ghost use Rattle.search_rules.specs.Books.{searchOf};
 ghost use Rattle.search_rules.specs.Step.{takeRegion};
 ghost use Rattle.search_held.specs.declared.Held.{Held};
 ghost use Rattle.search_state.specs.State.{stateOf};
-ghost use Rattle.search_yards.specs.Measures.{Crews};
 ghost use Rattle.search_inner.specs.Children.{Ended};
 ghost use Rattle.search_leaf.specs.Ready.{Ready, Cached};
 ghost use Rattle.search_take.specs.Regions.{Queued};
@@ -17,15 +14,8 @@ ghost use Rattle.search_take.specs.Regions.{Queued};
 // Takes region r, whose key is a.
 pub fn take(
     road: &[u8],
-    head: &[u16],
-    next: &[u16],
-    to: &[u16],
-    cost: &[u16],
-    ds: &mut [u32],
-    done: &mut [bool],
-    queue: &mut [u64],
+    drives: &[u32],
     crews: &[u16],
-    out: &mut [u32],
     code: u8,
     wanted: usize,
     sheet: &[u32],
@@ -43,8 +33,8 @@ pub fn take(
     r: Region,
     a: u64,
 )
-    requires { ⌜ Ready (now road) (now tree) code wanted (now crews) (now head) (now next) (now to) (now cost) (now places) (now sheet) rows
-        × Roomy (now ds) (now done) (now queue) × Crews (junctions (now road)) (now crews) (now out) × Ended (now tree) (now ends)
+    requires { ⌜ Ready (now road) (now tree) code wanted (now crews) (now drives) (now places) (now sheet) rows
+        × Ended (now tree) (now ends)
         × Cached (searchOf (now road) (now tree) code wanted (now crews)) (now picked) (now fs) (now bounds)
         × Queued (searchOf (now road) (now tree) code wanted (now crews)) (now keys) (now yards) (now firsts) (now gone) (r .number) ⌝ }
     ensures cached { λ _. ⌜ Cached (searchOf (now (road .entry)) (now (tree .entry)) code wanted (now (crews .entry)))
@@ -58,15 +48,8 @@ pub fn take(
     if f.children == 0 {
         search_leaf::take(
             road,
-            head,
-            next,
-            to,
-            cost,
-            ds,
-            done,
-            queue,
+            drives,
             crews,
-            out,
             code,
             wanted,
             sheet,

@@ -1,41 +1,19 @@
--- Aggregates over the crews, one crew at a time, and what they are of a search. Assumes nothing.
-use mathlib.Core.Path.{_≡_, refl, sym, ap, _∙_}
+-- f, and a yard's bound, one crew at a time. Assumes nothing.
+use mathlib.Core.Path.{_≡_, refl, _∙_}
 use mathlib.Core.List.{List}
 use Prim.Native.Nat.{ℕ, _+_, _*_, _≤_, _<_, max}
 use native.Mathlib.Numerals.{add-one}
 use native.Mathlib.Omega.{arith}
-use lib.ListN.{length, getD, take}
-use lib.Seq.{take-all}
+use lib.ListN.{length, getD}
 use Rattle.search_rules.specs.Bounds.{apart, combine, aggregate}
-use Rattle.search_rules.proofs.Equations.{aggregate-none}
-use Rattle.search_rules.proofs.Turns.{aggregate-take}
 use Rattle.search_rules.proofs.Measures.{combine-most}
 use Rattle.search_bounds.specs.Rows.{rowsLower}
 use Rattle.search_yards.specs.Measures.{fBy, crewApart, yardBoundBy}
 
--- ---- f, with j crews done
-
--- the aggregate so far, and that it fits
-pub record Summing (code : ℕ) (out : List ℕ) (distance j total : ℕ) : Type 0 where
-  pub inside : j ≤ length out
-  pub so-far : total ≡ aggregate code (λ x. apart x distance) (take j out)
-  pub low : total ≤ j * 4294967295
-
-pub summing-none : (code : ℕ) (out : List ℕ) (distance : ℕ) → Summing code out distance 0 0
-summing-none code out distance = record { inside = omega arith; so-far = sym (aggregate-none code (λ x. apart x distance)); low = omega arith }
-
-module _ {code : ℕ} {out : List ℕ} {distance j total : ℕ} (s : Summing code out distance j total) where
-  pub summing-more : (x y r : ℕ) → j < length out → x ≡ apart (getD out j 0) distance → y ≡ x → y < 4294967296 → r ≡ combine code total y
-      → Summing code out distance (j + 1) r
-  summing-more x y r h e g small k = record {
-    inside = omega arith;
-    so-far = k ∙ rw (g, e, s .so-far, add-one j) (sym (aggregate-take code (λ z. apart z distance) out j h));
-    low = omega (arith, combine-most code total y, s .low);
-  }
-
-  pub summing-all : length out ≤ j → total ≡ fBy code out distance
-  unfolding fBy
-  summing-all h = s .so-far ∙ ap (aggregate code (λ x. apart x distance)) (take-all j out h)
+-- f is the aggregate of the differences
+pub f-all : (code : ℕ) (out : List ℕ) (distance r : ℕ) → r ≡ aggregate code (λ x. apart x distance) out → r ≡ fBy code out distance
+unfolding fBy
+f-all code out distance r e = e
 
 -- ---- a yard's bound, with j crews done
 

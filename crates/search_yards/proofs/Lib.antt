@@ -1,3 +1,5 @@
 pub mod Aggregating
+pub mod ToCrews
+pub mod Driving
 pub mod Searching
 pub mod Vectors

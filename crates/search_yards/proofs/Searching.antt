@@ -6,13 +6,7 @@ use native.Mathlib.Omega.{arith}
 use lib.ListN.{length, getD, take}
 use lib.Seq.{take-all}
 use Rattle.book.proofs.Lists.{getD-mem}
-use Rattle.road_layout.specs.Road.{junctions}
 use Rattle.road.specs.Dijkstra.{dist}
-use Rattle.road.specs.Facts.{Passing}
-use Rattle.road.specs.Refusal.{roadRefusal}
-use Rattle.road.proofs.Theorems.{passing, metric, symmetric}
-use Rattle.road_reach.specs.Targets.{distancesTo}
-use Rattle.road_reach.proofs.Measuring.{to-none, to-cons, to-at}
 use Rattle.tree_layout.specs.Values.{Element, Mark}
 use Rattle.tree_layout.specs.Decode.{decode}
 use Rattle.search_rules.specs.Instance.{Instance}
@@ -20,40 +14,20 @@ use Rattle.search_rules.specs.Books.{searchOf}
 use Rattle.search_rules.specs.Bounds.{apart, combine, aggregate, lower, total, f, yardBound}
 use Rattle.search_rules.proofs.Equations.{aggregate-none, aggregate-same, search-of}
 use Rattle.search_rules.proofs.Turns.{aggregate-take}
-use Rattle.search_rules.proofs.Limits.{aggregate-most}
-use Rattle.search_rules.proofs.Measures.{aggregate-cons, apart-zero, total-is, f-is, yard-bound-is}
+use Rattle.search_rules.proofs.Measures.{aggregate-cons, total-is, f-is, yard-bound-is}
 use Rattle.search_bounds.specs.Rows.{rowsLower}
 use Rattle.search_bounds.specs.Sheet.{Sheet}
 use Rattle.search_bounds.proofs.Sheets.{lower-sheet}
-use Rattle.search_yards.specs.Measures.{Crews, totalOf, fBy, crewApart, yardBoundBy}
+use Rattle.search_yards.specs.Measures.{toCrews, totalOf, fBy, crewApart, yardBoundBy}
+use Rattle.search_yards.proofs.ToCrews.{to-none, to-cons, to-at}
 
 -- an aggregate of the distances to the crews is one over the crews
 aggregate-to : (code : ℕ) (g : ℕ → ℕ) (road : List ℕ) (l : ℕ) (crews : List ℕ)
-    → aggregate code g (distancesTo road l crews) ≡ aggregate code (λ q. g (dist road l q)) crews
+    → aggregate code g (toCrews road l crews) ≡ aggregate code (λ q. g (dist road l q)) crews
 aggregate-to code g road l [] = ap (aggregate code g) (to-none road l) ∙ aggregate-none code g ∙ sym (aggregate-none code (λ q. g (dist road l q)))
 aggregate-to code g road l (q ∷ qs) =
-    ap (aggregate code g) (to-cons road l q qs) ∙ aggregate-cons code g (dist road l q) (distancesTo road l qs)
+    ap (aggregate code g) (to-cons road l q qs) ∙ aggregate-cons code g (dist road l q) (toCrews road l qs)
     ∙ ap (combine code (g (dist road l q))) (aggregate-to code g road l qs) ∙ sym (aggregate-cons code (λ p. g (dist road l p)) q qs)
-
--- ---- a yard's aggregate
-
-module _ (road : List ℕ) (code : ℕ) (crews out : List ℕ) (y : ℕ)
-    (e : roadRefusal road ≡ 0) (c : Crews (junctions road) crews out) (h : y < junctions road) where
-  p : Passing road
-  p = passing road e
-
-  -- by a walk from the yard: "A road runs both ways"
-  pub measured-total : (out′ : List ℕ) (r : ℕ) → out′ ≡ distancesTo road y crews → r ≡ fBy code out′ 0 → r ≡ totalOf road code crews y
-  unfolding fBy totalOf
-  measured-total out′ r o k =
-      k ∙ ap (aggregate code (λ x. apart x 0)) o ∙ aggregate-to code (λ x. apart x 0) road y crews
-      ∙ aggregate-same code (λ q. apart (dist road y q) 0) (λ q. dist road q y) crews
-      (λ q m. apart-zero (dist road y q) ∙ symmetric road (p .layout) y q h (c .there q m))
-
-  -- it is a word of 32 bits
-  pub total-small : totalOf road code crews y ≤ 1072676880
-  unfolding totalOf
-  total-small = aggregate-most code 67042305 crews (λ q. dist road q y) (c .few) (λ q m. metric road p .bounded q y (c .there q m) h)
 
 -- ---- of a search of two books
 
@@ -68,7 +42,7 @@ module _ (road tree : List ℕ) (code wanted : ℕ) (crews : List ℕ) where
   unfolding totalOf
   total-of y = rw (search-of road tree code wanted crews) (sym (total-is j y))
 
-  module _ (m : Mark) (e : Element) (out : List ℕ) (o : out ≡ distancesTo road (m .place) crews) where
+  module _ (m : Mark) (e : Element) (out : List ℕ) (o : out ≡ toCrews road (m .place) crews) where
     pub f-by : fBy code out (e .distance) ≡ f i m e
     unfolding fBy
     f-by = rw (search-of road tree code wanted crews, o) (aggregate-to code (λ x. apart x (e .distance)) road (m .place) crews ∙ sym (f-is j m e))

@@ -1,17 +1,25 @@
 -- What is computed of a yard, by the crews' junctions and the distances to them. Assumes nothing: these are definitions.
-use mathlib.Core.Path.{_≡_}
-use mathlib.Core.List.{List, List·Memᴰ as Mem}
+use mathlib.Core.List.{List, [], _∷_, List·Memᴰ as Mem}
 use Prim.Native.Nat.{ℕ, zero, suc, _≤_, _<_, max}
 use lib.ListN.{length, getD}
+use Rattle.road_layout.specs.Road.{junctions}
 use Rattle.road.specs.Dijkstra.{dist}
+use Rattle.road.specs.Facts.{Passing}
+use Rattle.road_rows.specs.Rows.{Rowed}
 use Rattle.search_rules.specs.Bounds.{apart, combine, aggregate}
 use Rattle.search_bounds.specs.Rows.{rowsLower}
 
--- Sixteen crews at most, which stand at junctions below n, with a word for each.
-pub record Crews (n : ℕ) (crews out : List ℕ) : Type 0 where
+-- at most sixteen crews, at junctions of a road book that passes, with a row of distances for each
+pub record Driven (road crews drives : List ℕ) : Type 0 where
+  pub roads : Passing road
   pub few : length crews ≤ 16
-  pub there : (q : ℕ) → Mem q crews → q < n
-  pub words : length out ≡ length crews
+  pub there : (q : ℕ) → Mem q crews → q < junctions road
+  pub rows : Rowed road crews drives
+
+-- d(l, q) for each crew q
+unfoldable pub toCrews : List ℕ → ℕ → List ℕ → List ℕ
+toCrews road l [] = []
+toCrews road l (q ∷ qs) = dist road l q ∷ toCrews road l qs
 
 -- a yard's aggregate: of the true distance d(q, p) from each crew q to yard p
 unfoldable pub totalOf : List ℕ → ℕ → List ℕ → ℕ → ℕ

@@ -6,11 +6,9 @@ ghost use mathlib.Core.Path.{_≡_};
 ghost use Prim.Native.Nat.{_≤_, _<_};
 ghost use lib.ListN.{length};
 ghost use Rattle.road_layout.specs.Road.{junctions};
-ghost use Rattle.road.specs.Adjacency.{links, Adjacency};
-ghost use Rattle.road.specs.Queue.{Roomy};
-ghost use Rattle.road.specs.Refusal.{roadRefusal};
 ghost use Rattle.search_bounds.specs.Rows.{Rows};
-ghost use Rattle.search_yards.specs.Measures.{Crews, totalOf, fBy, crewApart, yardBoundBy};
+ghost use Rattle.search_bounds.specs.Bounds.{Crews};
+ghost use Rattle.search_yards.specs.Measures.{Driven, toCrews, totalOf, fBy, crewApart, yardBoundBy};
 
 fn wide(x: u32) -> u64
     ensures { λ r. ⌜ (r ≡ x) × (r < 4294967296) ⌝ }
@@ -32,39 +30,30 @@ pub fn f_of(out: &[u32], code: u8, distance: u32) -> u64
     total
 }
 
-// A yard's aggregate by true distances, with one walk from the yard to the crews: "A road runs both ways".
-pub fn measure(
-    road: &[u8],
-    head: &[u16],
-    next: &[u16],
-    to: &[u16],
-    cost: &[u16],
-    ds: &mut [u32],
-    done: &mut [bool],
-    queue: &mut [u64],
-    crews: &[u16],
-    out: &mut [u32],
-    code: u8,
-    yard: Junction,
-) -> u32
-    requires { ⌜ (roadRefusal (now road) ≡ 0) × Adjacency (now road) (links (now head) (now next) (now to) (now cost))
-        × Roomy (now ds) (now done) (now queue) × Crews (junctions (now road)) (now crews) (now out) × (yard .number < junctions (now road)) ⌝ }
+// A yard's aggregate by true distances, from the crews' rows.
+pub fn measure(road: &[u8], drives: &[u32], crews: &[u16], code: u8, yard: Junction) -> u32
+    requires { ⌜ Driven (now road) (now crews) (now drives) × (yard .number < junctions (now road)) ⌝ }
     ensures { λ r. ⌜ r ≡ totalOf (now (road .entry)) code (now (crews .entry)) (yard .number) ⌝ }
 {
-    road_reach::distances_to(
-        road,
-        head,
-        next,
-        to,
-        cost,
-        ds,
-        done,
-        queue,
-        yard,
-        crews,
-        out,
-    );
-    f_of(out, code, 0) as u32
+    let mut total: u64 = 0;
+    let mut j: usize = 0;
+    while j < crews.len() {
+        total = numbers::combine(code, total, wide(road_rows::cell(drives, j, yard.number)));
+        j += 1;
+    }
+    total as u32
+}
+
+// Landmark l's distances to the crews, from the crews' rows: "A road runs both ways".
+pub fn to_crews(road: &[u8], drives: &[u32], crews: &[u16], l: Junction, out: &mut [u32])
+    requires { ⌜ Driven (now road) (now crews) (now drives) × (l .number < junctions (now road)) × (length (now out) ≡ length (now crews)) ⌝ }
+    ensures { λ _. ⌜ now (out .exit) ≡ toCrews (now (road .entry)) (l .number) (now (crews .entry)) ⌝ }
+{
+    let mut j: usize = 0;
+    while j < crews.len() {
+        out[j] = road_rows::cell(drives, j, l.number);
+        j += 1;
+    }
 }
 
 // Crew number j's greatest difference: of the sheet's rows for the yard and the crew, and of landmark l's distances.
@@ -77,7 +66,7 @@ fn crew_apart(
     distance: u32,
     j: usize,
 ) -> u32
-    requires { ⌜ Rows (now sheet) rows × Crews 1024 (now crews) (now out) × (yard < 1024) × (j < length (now crews)) ⌝ }
+    requires { ⌜ Rows (now sheet) rows × Crews (now crews) × (length (now out) ≡ length (now crews)) × (yard < 1024) × (j < length (now crews)) ⌝ }
     ensures { λ r. ⌜ r ≡ crewApart (now (sheet .entry)) rows (now (crews .entry)) (now (out .entry)) yard distance j ⌝ }
 {
     let lb = rows::lower(sheet, rows, yard, crews[j]);
@@ -94,7 +83,7 @@ pub fn yard_bound(
     yard: u16,
     distance: u32,
 ) -> u64
-    requires { ⌜ Rows (now sheet) rows × Crews 1024 (now crews) (now out) × (yard < 1024) ⌝ }
+    requires { ⌜ Rows (now sheet) rows × Crews (now crews) × (length (now out) ≡ length (now crews)) × (yard < 1024) ⌝ }
     ensures { λ r. ⌜ r ≡ yardBoundBy code (now (sheet .entry)) rows (now (crews .entry)) (now (out .entry)) yard distance (length (now (crews .entry))) ⌝ }
 {
     let mut total: u64 = 0;

@@ -2,7 +2,7 @@
 use mathlib.Core.Path.{_≡_, refl, ap, _∙_}
 use mathlib.Core.List.{List}
 use Prim.Native.Nat.{ℕ, zero, suc, _+_, _-_, _*_, _/_, _≤_, _<_}
-use native.Mathlib.Decide.{ℕ-discrete, decLt, decLe}
+use native.Mathlib.Decide.{ℕ-discrete, decLe}
 use native.Mathlib.Omega.{arith}
 use lib.ListN.{length, getD, set, length-set, replicate, length-replicate, getD-replicate}
 use lib.Seq.{getD-set-same, getD-set-other}
@@ -11,15 +11,15 @@ use Rattle.book.proofs.Choosing.{choose-case}
 use Rattle.tournament.specs.Tournament.{lesserOf, mend, repair, putLeaf, leaf, top, Tournament}
 
 -- word j of t is the lesser of its two
-abbrev Good : List ℕ → ℕ → Type 0
+abbrev pub Good : List ℕ → ℕ → Type 0
 Good t j = getD t j 0 ≡ lesserOf t j
 
 -- every inner word is
-abbrev Least : List ℕ → Type 0
+abbrev pub Least : List ℕ → Type 0
 Least t = (j : ℕ) → 1 ≤ j → j < 1024 → Good t j
 
 -- every inner word is, but perhaps the one above word i
-abbrev LeastBut : List ℕ → ℕ → Type 0
+abbrev pub LeastBut : List ℕ → ℕ → Type 0
 LeastBut t i = (j : ℕ) → 1 ≤ j → j < 1024 → (j ≡ i / 2 → ⊥) → Good t j
 
 still : (t : List ℕ) (i j x : ℕ) → (j ≡ i → ⊥) → (2 * j ≡ i → ⊥) → (2 * j + 1 ≡ i → ⊥) → Good t j → Good (set t i x) j
@@ -27,7 +27,7 @@ still t i j x a b d g =
     omega (arith, getD-set-other t i j x 0 a, getD-set-other t i (2 * j) x 0 b, getD-set-other t i (2 * j + 1) x 0 d)
 
 -- a store at word i leaves all but the word above it
-stored : (t : List ℕ) (i x : ℕ) → 1024 ≤ i → Least t → LeastBut (set t i x) i
+pub stored : (t : List ℕ) (i x : ℕ) → 1024 ≤ i → Least t → LeastBut (set t i x) i
 stored t i x h g j a b n = still t i j x (λ e. omega arith) (λ e. n (omega arith)) (λ e. n (omega arith)) (g j a b)
 
 mends : (t : List ℕ) (p : ℕ) → 1 ≤ p → p < length t → Good (mend t p) p
@@ -40,7 +40,7 @@ mends t p a h =
     )
 
 -- the word above i mended, only the one above that may be wrong
-higher : (t : List ℕ) (i p : ℕ) → p ≡ i / 2 → length t ≡ 2048 → LeastBut t i → LeastBut (mend t p) p
+pub higher : (t : List ℕ) (i p : ℕ) → p ≡ i / 2 → length t ≡ 2048 → LeastBut t i → LeastBut (mend t p) p
 higher t i p e h g j a b n = go (ℕ-discrete j p)
   where
     go : Dec (j ≡ p) → Good (mend t p) j
@@ -48,7 +48,7 @@ higher t i p e h g j a b n = go (ℕ-discrete j p)
     go (no q) = still t p j (lesserOf t p) q (λ e. n (omega arith)) (λ e. n (omega arith)) (g j a b (λ r. q (omega arith)))
 
 -- the word above i is right already: all are
-all-least : (t : List ℕ) (i : ℕ) → LeastBut t i → Good t (i / 2) → Least t
+pub all-least : (t : List ℕ) (i : ℕ) → LeastBut t i → Good t (i / 2) → Least t
 all-least t i g h j a b = go (ℕ-discrete j (i / 2))
   where
     go : Dec (j ≡ i / 2) → Good t j
@@ -56,7 +56,7 @@ all-least t i g h j a b = go (ℕ-discrete j (i / 2))
     go (no n) = g j a b n
 
 -- i, f times halved
-up : ℕ → ℕ → ℕ
+unfoldable pub up : ℕ → ℕ → ℕ
 up zero i = i
 up (suc f) i = up f (i / 2)
 
@@ -79,7 +79,7 @@ Leaf t i = (j : ℕ) × (1024 ≤ j) × (j < 2048) × (getD t i 0 ≡ getD t j 0
 
 module _ (t : List ℕ) (g : Least t) where
   -- the word above i is at most word i
-  above : (i : ℕ) → 2 ≤ i → i < 2048 → getD t (i / 2) 0 ≤ getD t i 0
+  pub above : (i : ℕ) → 2 ≤ i → i < 2048 → getD t (i / 2) 0 ≤ getD t i 0
   above i a b = half (ℕ-discrete (2 * (i / 2)) i)
     where
       half : Dec (2 * (i / 2) ≡ i) → getD t (i / 2) 0 ≤ getD t i 0

@@ -1,7 +1,7 @@
 ghost use mathlib.Core.Path.{_≡_};
-ghost use Prim.Native.Nat.{ℕ, _<_, min};
+ghost use Prim.Native.Nat.{ℕ, _≤_, _<_, min};
 ghost use lib.ListN.{length, replicate};
-ghost use Rattle.tournament.specs.Tournament.{top, putLeaf};
+ghost use Rattle.tournament.specs.Tournament.{leaf, top, putLeaf, Tournament};
 
 // The lesser of two words.
 pub fn lesser(a: u64, b: u64) -> u64
@@ -41,6 +41,21 @@ pub fn put(tree: &mut [u64], v: usize, x: u64)
         tree[p] = word;
         i = p;
         k += 1;
+    }
+}
+
+// Stores x, which is at most leaf v's word, at leaf v, and makes each word above it the lesser of itself and x.
+pub fn lower(tree: &mut [u64], v: usize, x: u64)
+    requires { ⌜ (length (now tree) ≡ 2048) × (v < 1024) × Tournament (now tree) × (x ≤ leaf (now tree) v) ⌝ }
+    ensures { λ _. ⌜ now (tree .exit) ≡ putLeaf (now (tree .entry)) v x ⌝ }
+{
+    let mut i = 1024 + v;
+    tree[i] = x;
+    let mut level: usize = 0;
+    while level < 10 {
+        i = i / 2;
+        tree[i] = lesser(tree[i], x);
+        level += 1;
     }
 }
 

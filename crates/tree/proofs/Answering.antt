@@ -16,7 +16,7 @@ use Rattle.tree_layout.specs.Facts.{TreeLayout}
 use Rattle.tree_layout.proofs.Accepting.{layout-facts}
 use Rattle.tree_layout.proofs.Reading.{region-count, refused-answer as layout-answer}
 use Rattle.tree.specs.Shape.{shaped, treeRefusal}
-use Rattle.tree.specs.Yards.{endOf, levelBy, levelOf}
+use Rattle.tree.specs.Yards.{endOf}
 use Rattle.tree.specs.Arrays.{overwrite, Laid}
 use Rattle.tree_layout.specs.Reading.{headerOf, treeBook, numberOf as layout-number}
 use Rattle.tree_layout.specs.declared.Header.{Header}
@@ -26,7 +26,7 @@ use Rattle.tree_layout.proofs.Refusing.{refused-number}
 use Rattle.tree.specs.declared.Tree.{Tree}
 use Rattle.tree.specs.declared.Tree.the-variants.{Shaped, Refused}
 use Rattle.tree.specs.Answer.{answer, numberOf, treeOf, placesAfter, endsAfter}
-use Rattle.tree.proofs.Filling.{overwrite-length, overwrite-new, level-same}
+use Rattle.tree.proofs.Filling.{overwrite-length, overwrite-new}
 
 -- ---- a book that the layout's tests accept
 
@@ -168,11 +168,6 @@ module _ (b : List ℕ) (ok : treeRefusal b ≡ 0) where
   pub accepted-ends : (n : ℕ) → n ≡ regionCount b → (old new : List ℕ) → 511 ≤ length old → new ≡ endsAfter b old → (j : ℕ) → j < n → getD (take n new) j 0 ≡ endOf (decode b .regions) j
   accepted-ends n e old new h z j k =
       getD-take n new j 0 k ∙ rw (ends-are old new z) (overwrite-new (endOf (decode b .regions)) old (regionCount b) j (omega arith) (omega (arith, few)))
-
-  -- so that the level by the array is the region's
-  pub accepted-level : (n : ℕ) → n ≡ regionCount b → (old new : List ℕ) → 511 ≤ length old → new ≡ endsAfter b old → (i : ℕ) → i < n → levelBy (λ j. getD (take n new) j 0) i ≡ levelOf (decode b .regions) i
-  unfolding levelOf
-  accepted-level n e old new h z i k = level-same (λ j. getD (take n new) j 0) (endOf (decode b .regions)) i (λ j l. accepted-ends n e old new h z j (omega arith))
 
 -- the number that an answer has
 pub number-is : (b : List ℕ) (o : Tree) → o ≡ treeOf b → numberOf o ≡ treeRefusal b

@@ -27,9 +27,6 @@ pub record Filled (f : ℕ → ℕ) (i n : ℕ) (old new : List ℕ) : Type 0 wh
   pub above : (j : ℕ) → n ≤ j → getD new j 0 ≡ getD old j 0
 
 module _ (f : ℕ → ℕ) (n : ℕ) (old : List ℕ) where
-  pub filled-start : Filled f n n old old
-  filled-start = record { size = refl; filled = λ j h k. absurd (omega arith); below = λ j h. refl; above = λ j h. refl }
-
   pub filled-step : (i x : ℕ) (new : List ℕ) → Filled f (suc i) n old new → i < n → n ≤ length old → x ≡ f i → Filled f i n old (set new i x)
   filled-step i x new p h k e = record {
     size = length-set new i x ∙ p .size;

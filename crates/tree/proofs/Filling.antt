@@ -134,7 +134,3 @@ holders-same : (f g : ℕ → ℕ) (i n j : ℕ) → ((x : ℕ) → j ≤ x → 
 unfolding holders
 holders-same f g i zero j h = refl
 holders-same f g i (suc n) j h = rw (h j (omega arith) (omega arith), holders-same f g i n (suc j) (λ x p q. h x (omega arith) (omega arith))) refl
-
-pub level-same : (f g : ℕ → ℕ) (i : ℕ) → ((x : ℕ) → x ≤ i → f x ≡ g x) → levelBy f i ≡ levelBy g i
-unfolding levelBy
-level-same f g i h = holders-same f g i (suc i) 0 (λ x p q. h x (omega arith))

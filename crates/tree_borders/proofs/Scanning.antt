@@ -2,22 +2,19 @@
 use mathlib.Core.Path.{_≡_, refl, sym, ap, _∙_}
 use mathlib.Core.Bool.{Bool, true, false, _&&_, _||_}
 use mathlib.Core.List.{List, [], _∷_, _++_, append-nil}
-use Prim.Native.Nat.{ℕ, zero, suc, _+_, _-_, _*_, _/_, _≤_, _<_}
+use Prim.Native.Nat.{ℕ, suc, _+_, _-_, _*_, _/_, _≤_, _<_}
 use native.Mathlib.Nat.{mul-le-mul-right}
 use native.Mathlib.Numerals.{add-one}
 use native.Mathlib.Omega.{arith}
-use borrow.Author.Tests.{lt-ltb, le-ltb, le-leb, lt-leb}
 use lib.ListN.{length, take, getD, set, length-set}
 use lib.Seq.{length-take-le, take-suc-set, append-snoc, getD-take}
-use lib.Dec.{T, ltb, leb, eqb}
-use Rattle.book.specs.Choose.{choose}
-use Rattle.book.proofs.Choosing.{choose-yes, choose-no, true-T, false-T}
-use Rattle.book.proofs.Lists.{eq→eqb, ne→neqb}
+use lib.Dec.{eqb}
 use Rattle.road_layout.specs.Road.{Road, roads}
-use Rattle.road.specs.Walk.{arcs, net}
-use Rattle.road.proofs.Chains.{anyFrom, roads-none, roads-next, net-is}
+use Rattle.adjacency.specs.Arcs.{arcs, net}
+use Rattle.adjacency.proofs.Chains.{anyFrom, roads-none, roads-next}
+use Rattle.adjacency.proofs.Netting.{net-is}
 use Rattle.cut_tree.specs.Cut.{outside, isBorder, bordersFrom, borders, landmark}
-use Rattle.cut_tree.proofs.Landmarks.{border-none, border-next, outside-low, outside-high, outside-no, borders-none, borders-yes, borders-no, borders-are, landmark-none, landmark-some, share}
+use Rattle.cut_tree.proofs.Landmarks.{border-none, border-next, borders-none, borders-yes, borders-no, borders-are, landmark-none, landmark-some, share}
 use Rattle.tree_borders.specs.Listed.{Listed}
 
 -- ---- a junction

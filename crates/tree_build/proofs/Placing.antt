@@ -57,9 +57,6 @@ module _ (road yard : List ℕ) (m limit words : ℕ) (tree : List ℕ) (acc : A
     pub end-is : p ≡ length (encode (builtTree road yard m limit))
     end-is = w .end ∙ (rw regions-are refl ∙ sym (its-length road yard m limit words (length tree) acc))
 
-    pub end-high : 12 ≤ p
-    end-high = omega (arith, w .end)
-
     pub end-low : p ≤ 21981
     end-low = omega (arith, end-is, short road yard m limit words (length tree) acc)
 

@@ -90,7 +90,7 @@ fn put_tree(road: &[u8], yard: &[u8], m: u32, limit: u32, tree: &mut [u8]) -> us
     let mut next = [0u16; 8193];
     let mut to = [0u16; 8193];
     let mut cost = [0u16; 8193];
-    road::adjacency::fill(road, &mut head, &mut next, &mut to, &mut cost);
+    adjacency::fill(road, &mut head, &mut next, &mut to, &mut cost);
     let mut ds = [0u32; 1024];
     let mut done = [false; 1024];
     let mut queue = [0u64; 2048];

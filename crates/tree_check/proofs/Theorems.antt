@@ -1,9 +1,9 @@
 -- Demand 2, of check: a tree passes if and only if its leaves hold the yards and its numbers are least totals of walks. Assumes nothing.
-use mathlib.Core.Path.{_≡_, refl, sym, ap, _∙_}
+use mathlib.Core.Path.{_≡_, _∙_}
 use mathlib.Core.Logic.{_↔_}
 use mathlib.Core.Bool.{true}
 use mathlib.Core.List.{List, List·Memᴰ as Mem}
-use Prim.Native.Nat.{ℕ, _≤_, _<_}
+use Prim.Native.Nat.{ℕ, _<_}
 use native.Mathlib.Omega.{arith}
 use lib.ListN.{length}
 use lib.Dec.{T, eqb}
@@ -11,7 +11,8 @@ use Rattle.book.proofs.Choosing.{passed, passes, first-none, first-later, T-tru
 use Rattle.book.proofs.Lists.{eq→eqb}
 use Rattle.work_area.proofs.Zeroing.{work-enough}
 use Rattle.road_layout.specs.Road.{junctions}
-use Rattle.road.specs.Walk.{Least, net}
+use Rattle.adjacency.specs.Arcs.{net}
+use Rattle.road.specs.Walk.{Least}
 use Rattle.road.specs.Dijkstra.{dist}
 use Rattle.road.specs.Facts.{Metric}
 use Rattle.road.proofs.Walks.{least-unique}
@@ -21,7 +22,6 @@ use Rattle.tree_layout.specs.Values.{Element, Mark, Region, Tree, regionAt}
 use Rattle.tree_layout.specs.Decode.{junctionCount, decode}
 use Rattle.tree_layout.proofs.Places.{decode-junctions, decode-landmarks}
 use Rattle.tree_layout.proofs.Formed.{decode-formed, at-mem}
-use Rattle.tree_leaf.specs.Leaf.{yardsIn, firstList}
 use Rattle.tree_leaf.proofs.Named.{yards-of, first-mark}
 use Rattle.tree.specs.Yards.{yardsBelow, treeYards}
 use Rattle.tree.specs.Theorems.{LeafOf, Whole}

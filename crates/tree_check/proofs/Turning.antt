@@ -1,18 +1,18 @@
 -- The first test that turns a check back, test by test, with the yards and numbers by `HoldsEach` and `TrueTotals`. Assumes nothing.
-use mathlib.Core.Path.{_≡_, sym, _∙_}
+use mathlib.Core.Path.{_≡_, _∙_}
 use mathlib.Core.Logic.{_≢_, _⊎_, inl, inr}
-use mathlib.Core.Bool.{Bool, true, not}
+use mathlib.Core.Bool.{Bool, not}
 use mathlib.Core.List.{List}
 use Prim.Native.Nat.{ℕ, _≤_, _<_}
 use native.Mathlib.Omega.{arith}
 use lib.Dec.{T, eqb, eqb→eq}
 use borrow.Author.Tests.{eq-eqb, ne-eqb}
 use Rattle.book.specs.Choose.{refuse, firstOf}
-use Rattle.book.proofs.Choosing.{passed, passes, fails, passes-if, fails-if, first-none, first-earlier, first-later, T-split, T-true, true-T}
+use Rattle.book.proofs.Choosing.{passed, passes, fails, passes-if, fails-if, first-none, first-earlier, first-later, T-split, T-true}
 use Rattle.work_area.specs.Work.{workWords, workRefusal}
 use Rattle.work_area.proofs.Zeroing.{work-short, enough-work}
 use Rattle.road_layout.specs.Road.{junctions}
-use Rattle.road.specs.Walk.{net}
+use Rattle.adjacency.specs.Arcs.{net}
 use Rattle.road.specs.Dijkstra.{dist}
 use Rattle.road.specs.Refusal.{roadRefusal}
 use Rattle.yard.specs.Yards.{yardsOf, yardRefusalIn}

@@ -10,7 +10,7 @@ use Rattle.book.specs.Open.{openRefusal}
 use Rattle.work_area.specs.Work.{workRefusal}
 use Rattle.road_layout.specs.Road.{junctions, roadCount, roadAt, roadsTo, roads}
 use Rattle.road_layout.specs.Layout.{after, roadOk, roadsOk, layoutRefusal}
-use Rattle.road.specs.Walk.{along, back, arcs, net}
+use Rattle.adjacency.specs.Arcs.{along, back, arcs, net}
 use Rattle.road.specs.Dijkstra.{at, walked, score, nearer, pick, shorten, relaxArc, relax, walkOn, roundAt, rounds, start, walkFrom, distances, dist}
 use Rattle.road.specs.Refusal.{reached, roadRefusal}
 use Rattle.yard.specs.Yards.{yardCount, yardAt, yardsFrom, yardsOf, rises, inside, bodyRefusal, yardRefusal, yardRefusalIn}

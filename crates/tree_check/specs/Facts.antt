@@ -7,10 +7,11 @@ use lib.ListN.{length}
 use Rattle.book.specs.Lists.{Distinct}
 use Rattle.work_area.specs.Work.{workWords}
 use Rattle.road_layout.specs.Road.{junctions}
-use Rattle.road.specs.Walk.{Arc, Least, net}
+use Rattle.adjacency.specs.Arcs.{Arc, net}
+use Rattle.road.specs.Walk.{Least}
 use Rattle.road.specs.Refusal.{roadRefusal}
 use Rattle.yard.specs.Yards.{yardsOf, yardRefusalIn}
-use Rattle.tree_layout.specs.Values.{Element, Mark, Region, Tree, regionAt}
+use Rattle.tree_layout.specs.Values.{Element, Mark, Region, regionAt}
 use Rattle.tree_layout.specs.Decode.{junctionCount, decode}
 use Rattle.tree_leaf.specs.Leaf.{yardsIn}
 use Rattle.tree.specs.Shape.{treeRefusal}

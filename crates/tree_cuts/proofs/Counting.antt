@@ -1,7 +1,7 @@
 -- One turn of counting the yards below a junction, and of counting the parts that have yards. Assumes nothing.
 use mathlib.Core.Path.{_≡_, refl, sym, ap, _∙_}
 use mathlib.Core.List.{List, [], _∷_}
-use Prim.Native.Nat.{ℕ, zero, suc, _+_, _-_, _*_, _/_, _≤_, _<_}
+use Prim.Native.Nat.{ℕ, suc, _+_, _-_, _*_, _/_, _≤_, _<_}
 use native.Mathlib.Nat.{mul-le-mul-right}
 use native.Mathlib.Numerals.{add-one}
 use native.Mathlib.Omega.{arith}
@@ -13,8 +13,8 @@ use Rattle.yard.proofs.Turns.{yards-none, yards-next, yards-all}
 use Rattle.tree_truth.specs.Truth.{within}
 use Rattle.cut_tree.specs.Cut.{cutAt, part, partCount}
 use Rattle.cut_tree.specs.Facts.{countBelow}
-use Rattle.cut_tree.proofs.Parts.{cut-is, cut-first, cut-rise, count-none, count-drop, count-keep}
-use Rattle.cut_tree.proofs.Steps.{count-empty, count-yes, count-no, count-rise}
+use Rattle.cut_tree.proofs.Parts.{cut-is, cut-first, count-none, count-drop, count-keep}
+use Rattle.cut_tree.proofs.Steps.{count-empty, count-yes, count-no}
 use Rattle.tree_cuts.proofs.Slices.{part-length}
 
 -- ---- yards below a junction
@@ -83,9 +83,6 @@ module _ (yb : List ℕ) (ok : yardRefusal yb ≡ 0) (a s count low i high : ℕ
 
   many : length (part a s (within a (a + s) (yardsOf yb)) i) ≡ high - low
   many = part-length yb ok a s i h ∙ rw (upper, p .lower) refl
-
-  low-high : low ≤ high
-  low-high = rw (upper, p .lower) (count-rise (cutAt a s i) (cutAt a s (suc i)) (yardsOf yb) (cut-rise a s i))
 
   next-lower : high ≡ countBelow (cutAt a s (i + 1)) (yardsOf yb)
   next-lower = rw (add-one i) upper

@@ -4,7 +4,7 @@ ghost use mathlib.Core.Path.{_≡_};
 ghost use Prim.Native.Nat.{ℕ, _+_, _≤_, _<_};
 ghost use lib.ListN.{length};
 ghost use Rattle.road_layout.specs.Road.{junctions};
-ghost use Rattle.road.specs.Adjacency.{links};
+ghost use Rattle.adjacency.specs.Adjacency.{links};
 ghost use Rattle.tree_encode.specs.Encode.{encodeRegions};
 ghost use Rattle.tree_parts.specs.Parts.{Ready, Written};
 ghost use Rattle.tree_cutting.specs.Cutting.{rangeRegions, partsFrom};

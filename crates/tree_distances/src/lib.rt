@@ -5,7 +5,7 @@ ghost use Prim.Native.Nat.{ℕ, _+_, _≤_, _<_};
 ghost use lib.ListN.{length};
 ghost use Rattle.road_layout.specs.Road.{junctions};
 ghost use Rattle.road_layout.specs.Layout.{layoutRefusal};
-ghost use Rattle.road.specs.Adjacency.{links, Adjacency};
+ghost use Rattle.adjacency.specs.Adjacency.{links, Adjacency};
 ghost use Rattle.road.specs.Queue.{Roomy};
 ghost use Rattle.yard.specs.Yards.{yardsOf, yardRefusal};
 ghost use Rattle.tree_layout.specs.Decode.{decode, readRegion, readRegions, sizeAt};
@@ -125,7 +125,7 @@ pub fn numbers_true(road: &[u8], yard: &[u8], tree: &[u8]) -> bool
     let mut next = [0u16; 8193];
     let mut to = [0u16; 8193];
     let mut cost = [0u16; 8193];
-    road::adjacency::fill(road, &mut head, &mut next, &mut to, &mut cost);
+    adjacency::fill(road, &mut head, &mut next, &mut to, &mut cost);
     let mut ds = [0u32; 1024];
     let mut done = [false; 1024];
     let mut queue = [0u64; 2048];

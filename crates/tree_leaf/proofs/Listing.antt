@@ -1,12 +1,12 @@
 -- The tests of a leaf's lists, one pair at a time, as loops count them. Assumes nothing.
 use mathlib.Core.Path.{_≡_, refl, sym, _∙_}
-use mathlib.Core.Bool.{Bool, true, false, not, _&&_, _||_}
+use mathlib.Core.Bool.{Bool, true, false, not, _&&_}
 use mathlib.Core.List.{List}
 use Prim.Native.Nat.{ℕ, _+_, _-_, _*_, _≤_, _<_}
 use native.Mathlib.Omega.{arith}
-use borrow.Author.Tests.{le-leb, lt-leb, lt-ltb, le-ltb, eq-eqb, ne-eqb}
+use borrow.Author.Tests.{le-leb, lt-leb, lt-ltb, le-ltb}
 use lib.ListN.{length, take, drop}
-use lib.Dec.{ltb, leb, eqb}
+use lib.Dec.{ltb, leb}
 use Rattle.book.specs.Bytes.{u8At, u16At}
 use Rattle.tree_layout.specs.Values.{Element, Mark, leafMark}
 use Rattle.tree_layout.specs.Decode.{elementAt, readList, listPart, readLists, readRegion, sizeAt, landmarkCount}
@@ -17,20 +17,6 @@ use Rattle.tree_leaf.specs.Leaf.{names, once, inRange, namedBy, firstLis
 
 -- the pair at a place, and the n - (k + 1) pairs after it
 module _ (p : List ℕ) (n k at : ℕ) where
-  names-here : (y v : ℕ) → k < n → v ≡ u16At p (at + 4) → names (readList p (n - k) at) y ≡ (eqb v y || names (readList p (n - (k + 1)) (at + 6)) y)
-  unfolding names
-  names-here y v h e = rw (list-turn p n k at h, element-yard p at, e) refl
-
-  pub names-found : (y v : ℕ) → k < n → v ≡ u16At p (at + 4) → v ≡ y → names (readList p (n - k) at) y ≡ true
-  names-found y v h e f = names-here y v h e ∙ simp (eq-eqb _ _ f)
-
-  pub names-next : (y v : ℕ) → k < n → v ≡ u16At p (at + 4) → (v ≡ y → ⊥) → names (readList p (n - (k + 1)) (at + 6)) y ≡ names (readList p (n - k) at) y
-  names-next y v h e f = sym (names-here y v h e ∙ simp (ne-eqb _ _ f))
-
-  pub names-end : (y : ℕ) → n ≤ k → names (readList p (n - k) at) y ≡ false
-  unfolding names
-  names-end y h = rw (list-none p n k at h) refl
-
   once-here : (v : ℕ) → k < n → v ≡ u16At p (at + 4) → once (readList p (n - k) at) ≡ (not (names (readList p (n - (k + 1)) (at + 6)) v) && once (readList p (n - (k + 1)) (at + 6)))
   unfolding once
   once-here v h e = rw (list-turn p n k at h, element-yard p at, e) refl
@@ -40,10 +26,6 @@ module _ (p : List ℕ) (n k at : ℕ) where
 
   pub once-next : (v rest : ℕ) → k < n → v ≡ u16At p (at + 4) → rest ≡ n - (k + 1) → names (readList p rest (at + 6)) v ≡ false → once (readList p (n - (k + 1)) (at + 6)) ≡ once (readList p (n - k) at)
   once-next v rest h e q t = sym (once-here v h e ∙ rw (rw q at t) refl)
-
-  pub once-end : n ≤ k → once (readList p (n - k) at) ≡ true
-  unfolding once
-  once-end h = rw (list-none p n k at h) refl
 
   -- a test of every pair
   all-here : (f : Element → Bool) → k < n → all f (readList p (n - k) at) ≡ (f (elementAt p at) && all f (readList p (n - (k + 1)) (at + 6)))
@@ -65,31 +47,9 @@ module _ (p : List ℕ) (n k at : ℕ) where
   pub range-next : (low high v : ℕ) → k < n → v ≡ u16At p (at + 4) → low ≤ v → v < high → all (inRange low high) (readList p (n - (k + 1)) (at + 6)) ≡ all (inRange low high) (readList p (n - k) at)
   range-next low high v h e q s = sym (all-here (inRange low high) h ∙ rw (range-here low high v e) (simp (le-leb _ _ q, lt-ltb _ _ s)))
 
-  named-here : (other : List Element) (v : ℕ) → k < n → v ≡ u16At p (at + 4) → namedBy other (readList p (n - k) at) ≡ (names other v && namedBy other (readList p (n - (k + 1)) (at + 6)))
-  unfolding namedBy
-  named-here other v h e = all-here (λ x. names other (x .yard)) h ∙ rw (element-yard p at, e) refl
-
-  pub named-stop : (other : List Element) (v : ℕ) → k < n → v ≡ u16At p (at + 4) → names other v ≡ false → namedBy other (readList p (n - k) at) ≡ false
-  named-stop other v h e t = named-here other v h e ∙ rw t refl
-
-  pub named-next : (other : List Element) (v : ℕ) → k < n → v ≡ u16At p (at + 4) → names other v ≡ true → namedBy other (readList p (n - (k + 1)) (at + 6)) ≡ namedBy other (readList p (n - k) at)
-  named-next other v h e t = sym (named-here other v h e ∙ rw t refl)
-
-  pub named-end : (other : List Element) → n ≤ k → namedBy other (readList p (n - k) at) ≡ true
-  unfolding namedBy
-  named-end other h = all-end (λ x. names other (x .yard)) h
-
 -- ---- the four tests of a list
 
 module _ (low high : ℕ) (ref es : List Element) where
-  pub same-once : once es ≡ false → sameYards low high ref es ≡ false
-  unfolding sameYards
-  same-once a = rw a refl
-
-  pub same-range : once es ≡ true → all (inRange low high) es ≡ false → sameYards low high ref es ≡ false
-  unfolding sameYards
-  same-range a b = rw (a, b) refl
-
   pub same-to : once es ≡ true → all (inRange low high) es ≡ true → namedBy ref es ≡ false → sameYards low high ref es ≡ false
   unfolding sameYards
   same-to a b d = rw (a, b, d) refl

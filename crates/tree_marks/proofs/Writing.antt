@@ -1,18 +1,18 @@
 -- What is written of a landmark, from what the walk, the ranking and the measuring leave. Assumes nothing.
-use mathlib.Core.Path.{_≡_, refl, sym, ap, _∙_}
-use mathlib.Core.List.{List, [], _∷_, _++_, List·Memᴰ as Mem}
-use Prim.Native.Nat.{ℕ, zero, suc, _+_, _-_, _*_, _≤_, _<_}
+use mathlib.Core.Path.{_≡_, refl, ap, _∙_}
+use mathlib.Core.List.{List, _++_, List·Memᴰ as Mem}
+use Prim.Native.Nat.{ℕ, _+_, _-_, _*_, _<_}
 use native.Mathlib.Omega.{arith}
-use lib.ListN.{length, take, getD, length-append}
+use lib.ListN.{length, take, length-append}
 use Rattle.book.specs.Bytes.{putU16, putU32}
 use Rattle.book.specs.Writing.{u16Bytes, u32Bytes, write}
 use Rattle.book.proofs.Lists.{mem-getD}
 use Rattle.book.proofs.Writing.{write-u16, write-u32, write-append, u16-length, u32-length}
 use Rattle.road_layout.specs.Road.{junctions}
-use Rattle.road.specs.Walk.{net}
+use Rattle.adjacency.specs.Arcs.{net}
 use Rattle.road.specs.Dijkstra.{distances, dist}
 use Rattle.road.proofs.Reading.{dist-read}
-use Rattle.yard.specs.Yards.{yardAt, yardsFrom}
+use Rattle.yard.specs.Yards.{yardsFrom}
 use Rattle.yard.proofs.Listing.{from-length, from-at}
 use Rattle.tree_truth.specs.Truth.{least, greatest}
 use Rattle.tree_truth.proofs.Extremes.{least-by, greatest-by}

@@ -5,7 +5,7 @@ ghost use Prim.Native.Nat.{ℕ, _+_, _*_, _-_, _≤_, _<_};
 ghost use lib.ListN.{length};
 ghost use Rattle.book.specs.Writing.{write};
 ghost use Rattle.road_layout.specs.Road.{junctions};
-ghost use Rattle.road.specs.Adjacency.{links, Adjacency};
+ghost use Rattle.adjacency.specs.Adjacency.{links, Adjacency};
 ghost use Rattle.road.specs.Queue.{Roomy};
 ghost use Rattle.tree_marks.specs.Marks.{leafBytes, innerBytes, YardsUpTo};
 

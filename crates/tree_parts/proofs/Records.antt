@@ -10,7 +10,7 @@ use lib.Dec.{eqb}
 use Rattle.book.specs.Writing.{write}
 use Rattle.book.proofs.Choosing.{choose-yes, choose-no}
 use Rattle.book.proofs.Lists.{eq→eqb, ne→neqb}
-use Rattle.road.specs.Adjacency.{Links}
+use Rattle.adjacency.specs.Adjacency.{Links}
 use Rattle.tree_encode.specs.Encode.{encodeRegion, encodeRegions}
 use Rattle.cut_tree.specs.Cut.{leafRegion, innerRegion}
 use Rattle.tree_records.specs.Given.{given}

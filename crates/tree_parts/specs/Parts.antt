@@ -8,7 +8,7 @@ use lib.Dec.{eqb}
 use Rattle.book.specs.Choose.{choose}
 use Rattle.book.specs.Writing.{write}
 use Rattle.road_layout.specs.Road.{junctions}
-use Rattle.road.specs.Adjacency.{Links, Adjacency}
+use Rattle.adjacency.specs.Adjacency.{Links, Adjacency}
 use Rattle.road.specs.Queue.{Roomy}
 use Rattle.yard.specs.Yards.{yardRefusal}
 use Rattle.tree_layout.specs.Values.{Region}

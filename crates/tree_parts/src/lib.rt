@@ -5,7 +5,7 @@ ghost use Prim.Native.Nat.{ℕ, _+_, _*_, _-_, _≤_, _<_};
 ghost use lib.ListN.{length};
 ghost use lib.Dec.{eqb, leb};
 ghost use Rattle.road_layout.specs.Road.{junctions};
-ghost use Rattle.road.specs.Adjacency.{links};
+ghost use Rattle.adjacency.specs.Adjacency.{links};
 ghost use Rattle.yard.specs.Yards.{yardsFrom};
 ghost use Rattle.cut_tree.specs.Cut.{cutAt};
 ghost use Rattle.tree_marks.specs.Marks.{YardsUpTo};

@@ -1,19 +1,18 @@
 -- A leaf's landmarks, one pair and one landmark at a time. Assumes nothing.
-use mathlib.Core.Path.{_≡_, refl, sym, ap, _∙_}
+use mathlib.Core.Path.{_≡_, refl, sym, _∙_}
 use mathlib.Core.Bool.{Bool, true, false, _&&_}
-use mathlib.Core.List.{List, [], _∷_, List·Memᴰ as Mem, List·Memᴰ·head as head, List·Memᴰ·tail as tail}
-use Prim.Native.Nat.{ℕ, suc, _+_, _*_, _-_, _≤_, _<_}
+use mathlib.Core.List.{List, _∷_, List·Memᴰ·head as head, List·Memᴰ·tail as tail}
+use Prim.Native.Nat.{ℕ, _+_, _*_, _-_, _≤_, _<_}
 use native.Mathlib.Omega.{arith}
 use borrow.Author.Tests.{eq-eqb, ne-eqb}
-use lib.ListN.{length, take, drop}
+use lib.ListN.{take, drop}
 use lib.Dec.{eqb}
 use Rattle.book.specs.Bytes.{u16At, u32At}
 use Rattle.road_layout.specs.Road.{junctions}
-use Rattle.road.specs.Walk.{net}
+use Rattle.adjacency.specs.Arcs.{net}
 use Rattle.road.specs.Dijkstra.{at, distances}
-use Rattle.tree_layout.specs.Values.{Element, Mark, leafMark}
+use Rattle.tree_layout.specs.Values.{leafMark}
 use Rattle.tree_layout.specs.Decode.{elementAt, readList, listPart, readLists}
-use Rattle.tree_layout.specs.Refusal.{all}
 use Rattle.tree_layout.proofs.Decoding.{element-is}
 use Rattle.tree_layout.proofs.Reading.{all-none, all-next, list-turn, list-none, list-part, leaf-list, leaf-place, lists-turn}
 use Rattle.true_lists.specs.Found.{distancesFrom, elementIn, listIn, foundList, Placed}

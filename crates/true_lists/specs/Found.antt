@@ -4,7 +4,7 @@ use mathlib.Core.List.{List, List·Memᴰ as Mem}
 use Prim.Native.Nat.{ℕ, _<_}
 use lib.Dec.{eqb}
 use Rattle.road_layout.specs.Road.{junctions}
-use Rattle.road.specs.Walk.{net}
+use Rattle.adjacency.specs.Arcs.{net}
 use Rattle.road.specs.Dijkstra.{at, distances}
 use Rattle.tree_layout.specs.Values.{Element, Mark}
 use Rattle.tree_layout.specs.Refusal.{all}

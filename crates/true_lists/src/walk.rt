@@ -4,7 +4,7 @@ ghost use mathlib.Core.Path.{_≡_};
 ghost use Prim.Native.Nat.{ℕ, _<_};
 ghost use Rattle.road_layout.specs.Road.{junctions};
 ghost use Rattle.road.specs.Dijkstra.{at};
-ghost use Rattle.road.specs.Adjacency.{links, Adjacency};
+ghost use Rattle.adjacency.specs.Adjacency.{links, Adjacency};
 ghost use Rattle.road.specs.Queue.{Roomy};
 ghost use Rattle.true_lists.specs.Found.{distancesFrom};
 

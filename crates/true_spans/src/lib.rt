@@ -7,7 +7,7 @@ ghost use lib.ListN.{length};
 ghost use Rattle.book.specs.Bytes.{u16At, u32At};
 ghost use Rattle.road_layout.specs.Road.{junctions};
 ghost use Rattle.road.specs.Dijkstra.{at};
-ghost use Rattle.road.specs.Adjacency.{links, Adjacency};
+ghost use Rattle.adjacency.specs.Adjacency.{links, Adjacency};
 ghost use Rattle.road.specs.Queue.{Roomy};
 ghost use Rattle.yard.specs.Yards.{yardsOf, yardRefusal};
 ghost use Rattle.tree_layout.specs.Values.{innerMark};

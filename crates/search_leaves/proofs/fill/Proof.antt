@@ -29,32 +29,32 @@ cast-i : tie.Need-cast-i Inv-loop μ-loop
 cast-i c = search needs
 
 f-of-requires : tie.Need-f-of-requires Inv-loop μ-loop
-f-of-requires c κs = let s = c .before .before .before .before .before .before .before .before .before .before in omega (arith, s .pre .2 .few, s .pre .2 .words)
+f-of-requires c κs = let s = c .before .before .before .before .before .before .before .before .before .before in omega (arith, s .pre .2 .few, s .pre .3)
 
 mul-fs : tie.Need-mul-fs Inv-loop μ-loop
 mul-fs c =
     let s = c .before .before .before .before .before .before .before .before .before .before .before in
-    omega (arith, rest-near (c .before .before .before .before .loop .inv .0) (c .before .before .before .loop-test .taken) _ _ (c .before .u16-at .ensures) (s .pre .3))
+    omega (arith, rest-near (c .before .before .before .before .loop .inv .0) (c .before .before .before .loop-test .taken) _ _ (c .before .u16-at .ensures) (s .pre .4))
 
 slice-write-fs : tie.Need-slice-write-fs Inv-loop μ-loop
 slice-write-fs c =
     let s = c .before .before .before .before .before .before .before .before .before .before .before in
-    omega (arith, c .before .before .before .before .loop .inv .1 .same, rest-near (c .before .before .before .before .loop .inv .0) (c .before .before .before .loop-test .taken) _ _ (c .before .u16-at .ensures) (s .pre .4))
+    omega (arith, c .before .before .before .before .loop .inv .1 .same, rest-near (c .before .before .before .before .loop .inv .0) (c .before .before .before .loop-test .taken) _ _ (c .before .u16-at .ensures) (s .pre .5))
 
 yard-bound-requires : tie.Need-yard-bound-requires Inv-loop μ-loop
 yard-bound-requires c κs =
     let s = c .before .before .before .before .before .before .before .before .before .before .before in
-    (s .pre .1, s .pre .2, rest-near (c .before .before .before .before .loop .inv .0) (c .before .before .before .loop-test .taken) _ _ (c .before .u16-at .ensures) (s .pre .3))
+    (s .pre .1, s .pre .2, s .pre .3, rest-near (c .before .before .before .before .loop .inv .0) (c .before .before .before .loop-test .taken) _ _ (c .before .u16-at .ensures) (s .pre .4))
 
 mul-bounds : tie.Need-mul-bounds Inv-loop μ-loop
 mul-bounds c =
     let s = c .before .before .before .before .before .before .before .before .before .before .before .before in
-    omega (arith, rest-near (c .before .before .before .before .before .loop .inv .0) (c .before .before .before .before .loop-test .taken) _ _ (c .before .before .u16-at .ensures) (s .pre .3))
+    omega (arith, rest-near (c .before .before .before .before .before .loop .inv .0) (c .before .before .before .before .loop-test .taken) _ _ (c .before .before .u16-at .ensures) (s .pre .4))
 
 slice-write-bounds : tie.Need-slice-write-bounds Inv-loop μ-loop
 slice-write-bounds c =
     let s = c .before .before .before .before .before .before .before .before .before .before .before .before in
-    omega (arith, c .before .before .before .before .before .loop .inv .2 .same, rest-near (c .before .before .before .before .before .loop .inv .0) (c .before .before .before .before .loop-test .taken) _ _ (c .before .before .u16-at .ensures) (s .pre .5))
+    omega (arith, c .before .before .before .before .before .loop .inv .2 .same, rest-near (c .before .before .before .before .before .loop .inv .0) (c .before .before .before .before .loop-test .taken) _ _ (c .before .before .u16-at .ensures) (s .pre .6))
 
 add-at : tie.Need-add-at Inv-loop μ-loop
 add-at c = omega (arith, c .before .before .before .before .before .loop .inv .0 .room, c .before .before .before .before .loop-test .taken, c .before .before .before .before .before .before .before .before .before .before .before .before .good .0)

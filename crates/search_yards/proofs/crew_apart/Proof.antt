@@ -12,13 +12,13 @@ shared-slice-read-lower : tie.Need-shared-slice-read-lower
 shared-slice-read-lower c = search needs
 
 lower-requires : tie.Need-lower-requires
-lower-requires c κs = let s = c .before .before .before .before in (s .pre .0, s .pre .2, s .pre .1 .there _ (getD-mem _ (s .args .j) 0 (s .pre .3)))
+lower-requires c κs = let s = c .before .before .before .before in (s .pre .0, s .pre .3, s .pre .1 .there _ (getD-mem _ (s .args .j) 0 (s .pre .4)))
 
 mul-apart : tie.Need-mul-apart
 mul-apart c = search needs
 
 shared-slice-read-apart : tie.Need-shared-slice-read-apart
-shared-slice-read-apart c = omega (arith, c .before .before .before .before .before .before .pre .1 .words, c .before .before .before .before .before .before .pre .3)
+shared-slice-read-apart c = let s = c .before .before .before .before .before .before in omega (arith, s .pre .2, s .pre .4)
 
 apart-requires : tie.Need-apart-requires
 apart-requires c κs = search needs

@@ -1,47 +1,68 @@
+use mathlib.Core.Path.{_∙_}
+use Prim.Native.Nat.{_-_}
 use native.Mathlib.Omega.{arith}
-use Rattle.search_yards.proofs.Searching.{measured-total, total-small}
+use lib.ListN.{length}
+use Rattle.road.specs.Dijkstra.{dist}
+use Rattle.search_bounds.proofs.Folds.{Summed, summed-none, summed-room, summed-turn, summed-all}
+use Rattle.search_yards.proofs.Driving.{cell-inside, cell-from, measured}
 use borrow.Author.Needs.{needs}
 use Rattle.search_yards.proofs.measure.Statement.{statement}
 use Rattle.search_yards.proofs.measure.Tie as tie
 
-distances-to-requires : tie.Need-distances-to-requires
-distances-to-requires c κs = search needs
+abbrev Inv-loop : tie.InvT-loop
+Inv-loop road drives crews code yard total₀ j₀ total j = Summed code (λ q. dist road q (yard .number)) crews j total
 
-f-of-requires : tie.Need-f-of-requires
-f-of-requires c κs = search needs
+abbrev μ-loop : tie.MeasureT-loop
+μ-loop road drives crews code yard total₀ j₀ total j = length crews - j
 
-cast-result : tie.Need-cast-result
+loop-holds : tie.Need-loop-holds Inv-loop μ-loop
+loop-holds c = summed-none _ _ _
+
+cell-requires : tie.Need-cell-requires Inv-loop μ-loop
+cell-requires c κs = let s = c .before .before .before .before .before .pre in cell-inside (s .0) _ (s .1) _ (c .loop-test .taken)
+
+wide-requires : tie.Need-wide-requires Inv-loop μ-loop
+wide-requires c κs = search needs
+
+combine-requires : tie.Need-combine-requires Inv-loop μ-loop
+combine-requires c κs =
+    let s = c .before .before .before .before .before .before .before .pre in
+    omega (arith, summed-room _ _ _ _ _ (c .before .before .before .loop .inv) (s .0 .few) _ (c .wide .ensures .1))
+
+add-j : tie.Need-add-j Inv-loop μ-loop
+add-j c = search needs
+
+loop-less : tie.Need-loop-less Inv-loop μ-loop
+loop-less c = search needs
+
+loop-again : tie.Need-loop-again Inv-loop μ-loop
+loop-again c =
+    let s = c .before .before .before .before .before .before .before .before .pre in
+    let h = c .before .before .before .loop-test .taken in
+    summed-turn _ _ _ _ _ (c .before .before .before .before .loop .inv) h _ _ (c .before .wide .ensures .1) (c .before .wide .ensures .0 ∙ cell-from (s .0) _ (s .1) _ h _ (c .before .before .cell .ensures)) (c .combine .ensures)
+
+cast-result : tie.Need-cast-result Inv-loop μ-loop
 cast-result c =
-    let s = c .before .before .before .before .before .before .before .before .before .before .before .before .before .before .before .before .before .before .before .before .before .before .before .before .before in
-    let k = measured-total _ _ _ _ _ (s .pre .0) (s .pre .3) (s .pre .4) _ _ (c .before .before .before .before .before .before .before .before .before .before .distances-to .ensures) (c .f-of .ensures) in
-    omega (arith, k, total-small _ (s .args .code) _ _ _ (s .pre .0) (s .pre .3) (s .pre .4))
+    let s = c .before .before .before .before .before in
+    omega (arith, measured (s .pre .0) _ (s .pre .1) (s .args .code) _ (summed-all _ _ _ _ _ (c .before .loop .inv) (c .loop-test .left)) .1)
 
-same-length : tie.Need-same-length
-same-length c = search needs
-
-same-length-2 : tie.Need-same-length-2
-same-length-2 c = search needs
-
-same-length-3 : tie.Need-same-length-3
-same-length-3 c = search needs
-
-same-length-4 : tie.Need-same-length-4
-same-length-4 c = search needs
-
-returns : tie.Need-returns
+returns : tie.Need-returns Inv-loop μ-loop
 returns c =
-    let s = c .before .before .before .before .before .before .before .before .before .before .before .before .before .before .before .before .before .before .before .before .before .before .before .before .before in
-    measured-total _ _ _ _ _ (s .pre .0) (s .pre .3) (s .pre .4) _ _ (c .before .before .before .before .before .before .before .before .before .before .distances-to .ensures) (c .f-of .ensures)
+    let s = c .before .before .before .before .before in
+    measured (s .pre .0) _ (s .pre .1) (s .args .code) _ (summed-all _ _ _ _ _ (c .before .loop .inv) (c .loop-test .left)) .0
 
 pub measure-spec : {M : Type 1} → statement M
 measure-spec =
     tie.close
     (tie.spec
-    distances-to-requires
-    f-of-requires
+    Inv-loop
+    μ-loop
+    loop-holds
+    cell-requires
+    wide-requires
+    combine-requires
+    add-j
+    loop-less
+    loop-again
     cast-result
-    same-length
-    same-length-2
-    same-length-3
-    same-length-4
     returns)

@@ -1,9 +1,8 @@
 use borrow.Author.Needs.{needs}
-use mathlib.Core.Path.{_≡_, refl, sym, ap, _∙_}
-use Prim.Native.Nat.{ℕ, _+_, _≤_, _<_}
+use mathlib.Core.Path.{sym}
 use native.Mathlib.Omega.{arith}
 use Rattle.road_layout.specs.Road.{roads}
-use Rattle.road.proofs.Chains.{ChainAt, ChainStep, chain-begin, chain-step, chain-done}
+use Rattle.adjacency.proofs.Chains.{ChainAt, ChainStep, chain-begin, chain-step, chain-done}
 use Rattle.cut_tree.specs.Cut.{outside, isBorder}
 use Rattle.cut_tree.proofs.Landmarks.{outside-low, outside-high, outside-no}
 use Rattle.tree_borders.proofs.Scanning.{border-is}

@@ -2,7 +2,7 @@ use borrow.Author.Needs.{needs}
 use mathlib.Core.Path.{refl}
 use native.Mathlib.Omega.{arith}
 use Rattle.road.specs.Queue.{reach}
-use Rattle.road.proofs.Linking.{Chain, ArcFacts, chain-starts, chain-facts, chain-goes-on, chain-ends}
+use Rattle.road.proofs.Following.{Chain, ArcFacts, chain-starts, chain-facts, chain-goes-on, chain-ends}
 use Rattle.road.proofs.walk.relax.Statement.{statement}
 use Rattle.road.proofs.walk.relax.Tie as tie
 
@@ -20,7 +20,7 @@ facts c = chain-facts _ _ _ _ _ _ _ _ _ (c .before .loop .inv) (c .loop-test .ta
 loop-holds : tie.Need-loop-holds Inv-loop μ-loop
 loop-holds c =
     let p = c .before .before .before .before .before .before .pre in
-    chain-starts _ _ _ _ _ _ _ _ _ (p .0) (p .6) (p .7) (p .4) (p .5)
+    chain-starts _ _ _ _ _ _ _ _ _ (p .0) (p .6) (p .7) (p .4) (p .5) (p .9)
 
 cast-i : tie.Need-cast-i Inv-loop μ-loop
 cast-i c = omega (arith, facts c)
@@ -44,7 +44,7 @@ add-shorten : tie.Need-add-shorten Inv-loop μ-loop
 add-shorten c = omega (arith, facts (c .before .before .before .before))
 
 shorten-requires : tie.Need-shorten-requires Inv-loop μ-loop
-shorten-requires c κs = (c .before .before .before .before .before .loop .inv .distances, c .before .before .before .before .before .loop .inv .words, facts (c .before .before .before .before) .inside)
+shorten-requires c κs = (c .before .before .before .before .before .loop .inv .distances, c .before .before .before .before .before .loop .inv .words, facts (c .before .before .before .before) .inside, c .before .before .before .before .before .loop .inv .ready)
 
 mul-a : tie.Need-mul-a Inv-loop μ-loop
 mul-a c = omega (arith, facts (c .before .before .before .before .before .before .before .before .before))

@@ -1,6 +1,6 @@
 use borrow.Author.Needs.{needs}
 use native.Mathlib.Omega.{arith}
-use Rattle.road.proofs.Shortening.{shortened, short-enough}
+use Rattle.road.proofs.Shortening.{shortened, short-enough, word-falls}
 use Rattle.road.proofs.walk.shorten.Statement.{statement}
 use Rattle.road.proofs.walk.shorten.Tie as tie
 
@@ -16,14 +16,16 @@ mul-ds c = search needs
 slice-write-ds : tie.Need-slice-write-ds
 slice-write-ds c = search needs
 
-mul-put : tie.Need-mul-put
-mul-put c = search needs
+mul-lower : tie.Need-mul-lower
+mul-lower c = search needs
 
-add-put : tie.Need-add-put
-add-put c = search needs
+add-lower : tie.Need-add-lower
+add-lower c = search needs
 
-put-requires : tie.Need-put-requires
-put-requires c κs = search needs
+lower-requires : tie.Need-lower-requires
+lower-requires c κs =
+    let p = c .before .before .before .before .before .pre in
+    (p .1, p .2, p .3 .tournament, word-falls _ _ _ _ (p .2) (p .0) (p .3) (omega arith))
 
 same-length : tie.Need-same-length
 same-length c = search needs
@@ -32,7 +34,7 @@ same-length-2 : tie.Need-same-length-2
 same-length-2 c = search needs
 
 returns : tie.Need-returns
-returns c = shortened _ _ _ _ (omega arith) _ (omega arith) (c .before .before .put .ensures)
+returns c = shortened _ _ _ _ (omega arith) _ (omega arith) (c .before .before .lower .ensures)
 
 returns-2 : tie.Need-returns-2
 returns-2 c = short-enough _ _ _ _ (omega arith) (omega arith)
@@ -45,9 +47,9 @@ shorten-spec =
     slice-read-if1
     mul-ds
     slice-write-ds
-    mul-put
-    add-put
-    put-requires
+    mul-lower
+    add-lower
+    lower-requires
     same-length
     same-length-2
     returns

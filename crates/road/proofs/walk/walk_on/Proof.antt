@@ -1,6 +1,5 @@
 use borrow.Author.Needs.{needs}
 use mathlib.Core.Path.{refl, ap, _∙_}
-use native.Mathlib.Omega.{arith}
 use lib.ListN.{length}
 use Rattle.tournament.proofs.Laws.{put-length}
 use Rattle.road.proofs.Queueing.{relax-from}
@@ -32,6 +31,7 @@ relax-requires c κs =
       a .linked,
       a .newest _ (p .2),
       p .3,
+      rw (c .before .before .before .before .before .put .ensures) (p .4),
     )
 
 same-length : tie.Need-same-length

@@ -12,10 +12,16 @@ slice-read-p : tie.Need-slice-read-p
 slice-read-p c = search needs
 
 cast-result : tie.Need-cast-result
-cast-result c = let s = c .before .before .before .before .before .before .before .before .before .before .before .before .before .before .before .before .before .before .before in record { fits = omega (arith, pick-small _ _ _ _ _ _ _ _ _ _ _ _ (s .pre .0) _ (s .pre .4) _ refl _ _ _ (s .pre .3 .picked _ (s .pre .4 .inside) (s .pre .4 .is) (c .if1 .taken)) refl refl) }
+cast-result c = let s = c .before .before .before .before .before .before .before .before .before .before .before .before in record { fits = omega (arith, pick-small _ _ _ _ _ _ _ _ _ (s .pre .0) _ (s .pre .2) _ refl _ _ _ (s .pre .1 .picked _ (s .pre .2 .inside) (s .pre .2 .is) (c .if1 .taken)) refl refl) }
 
 returns : tie.Need-returns
-returns c = let s = c .before .before .before .before .before .before .before .before .before .before .before .before .before .before .before .before .before .before .before in record { cached = s .pre .3; pick = (s .pre .3 .picked _ (s .pre .4 .inside) (s .pre .4 .is) (c .if1 .taken)); opened = s .pre .3 .opened _ (s .pre .4 .inside) (s .pre .4 .is) (c .if1 .taken) }
+returns c =
+    let s = c .before .before .before .before .before .before .before .before .before .before .before .before in
+    record {
+      cached = s .pre .1;
+      pick = s .pre .1 .picked _ (s .pre .2 .inside) (s .pre .2 .is) (c .if1 .taken);
+      opened = s .pre .1 .opened _ (s .pre .2 .inside) (s .pre .2 .is) (c .if1 .taken);
+    }
 
 open-requires : tie.Need-open-requires
 open-requires c κs = search needs
@@ -28,18 +34,6 @@ same-length-2 c = search needs
 
 same-length-3 : tie.Need-same-length-3
 same-length-3 c = search needs
-
-same-length-4 : tie.Need-same-length-4
-same-length-4 c = search needs
-
-same-length-5 : tie.Need-same-length-5
-same-length-5 c = search needs
-
-same-length-6 : tie.Need-same-length-6
-same-length-6 c = search needs
-
-same-length-7 : tie.Need-same-length-7
-same-length-7 c = search needs
 
 returns-2 : tie.Need-returns-2
 returns-2 c = search needs
@@ -56,8 +50,4 @@ landmark-spec =
     same-length
     same-length-2
     same-length-3
-    same-length-4
-    same-length-5
-    same-length-6
-    same-length-7
     returns-2)

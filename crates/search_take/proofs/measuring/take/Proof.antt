@@ -32,21 +32,10 @@ same-length c = search needs
 same-length-2 : tie.Need-same-length-2
 same-length-2 c = search needs
 
-same-length-3 : tie.Need-same-length-3
-same-length-3 c = search needs
-
-same-length-4 : tie.Need-same-length-4
-same-length-4 c = search needs
-
-same-length-5 : tie.Need-same-length-5
-same-length-5 c = search needs
-
-same-length-6 : tie.Need-same-length-6
-same-length-6 c = search needs
-
 returns : tie.Need-returns
-returns c = let s = c .before .before .before .before .before .before .before .before .before .before .before .before .before .before .before .before .before .before .before .before .before .before .before .before .before .before .before in
-    (refl, (newest-put (s .args .measured .now) (s .args .count) (s .args .y .number) (s .pre .6), (held-by _ _ _ _ _ _ (c .before .before .before .before .before .before .before .before .before .measure .ensures) (c .hold .ensures .0), c .hold .ensures .1)))
+returns c =
+    let s = c .before .before .before .before .before .before .before .before in
+    (refl, (newest-put (s .args .measured .now) (s .args .count) (s .args .y .number) (s .pre .3), (held-by _ _ _ _ _ _ (c .before .measure .ensures) (c .hold .ensures .0), c .hold .ensures .1)))
 
 pub take-spec : {M : Type 1} → statement M
 take-spec =
@@ -61,8 +50,4 @@ take-spec =
     hold-requires
     same-length
     same-length-2
-    same-length-3
-    same-length-4
-    same-length-5
-    same-length-6
     returns)

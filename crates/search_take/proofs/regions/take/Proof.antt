@@ -5,10 +5,13 @@ use Rattle.search_take.proofs.regions.take.Statement.{statement}
 use Rattle.search_take.proofs.regions.take.Tie as tie
 
 fields-requires : tie.Need-fields-requires
-fields-requires c κs = let s = c .before .before .before .before .before .before .before .before .before .before .before .before .before .before .before .before .before .before .before .before .before in (s .pre .0 .laid, region-slot _ _ _ _ _ _ _ _ _ _ _ _ (s .pre .0) _ _ _ _ _ (s .pre .5))
+fields-requires c κs = let s = c .before .before .before .before .before .before .before .before .before .before .before .before .before .before in (s .pre .0 .laid, region-slot _ _ _ _ _ _ _ _ _ (s .pre .0) _ _ _ _ _ (s .pre .3))
 
 take-requires : tie.Need-take-requires
-take-requires c κs = let s = c .before .before .before .before .before .before .before .before .before .before .before .before .before .before .before .before .before .before .before .before .before .before .before .before .before .before .before .before .before .before .before .before .before .before .before in let l = leaf-ready _ _ _ _ _ _ _ _ _ _ _ _ (s .pre .0) _ _ _ _ _ (s .pre .5) (leaf-yes _ _ _ _ _ _ _ _ _ _ _ _ (s .pre .0) _ _ (c .before .before .before .before .before .before .before .before .before .before .before .before .before .fields .ensures) (c .before .before .before .before .before .before .before .before .before .before .before .if1 .taken)) in (s .pre .0, s .pre .1, s .pre .2, s .pre .4, l .0, l .1)
+take-requires c κs =
+    let s = c .before .before .before .before .before .before .before .before .before .before .before .before .before .before .before .before .before .before .before .before .before .before .before .before in
+    let l = leaf-ready _ _ _ _ _ _ _ _ _ (s .pre .0) _ _ _ _ _ (s .pre .3) (leaf-yes _ _ _ _ _ _ _ _ _ (s .pre .0) _ _ (c .before .before .before .before .before .before .before .before .before .fields .ensures) (c .before .before .before .before .before .before .before .if1 .taken)) in
+    (s .pre .0, s .pre .2, l .0, l .1)
 
 same-length : tie.Need-same-length
 same-length c = search needs
@@ -31,32 +34,26 @@ same-length-6 c = search needs
 same-length-7 : tie.Need-same-length-7
 same-length-7 c = search needs
 
+returns : tie.Need-returns
+returns c =
+    let s = c .before .before .before .before .before .before .before .before .before .before .before .before .before .before .before .before .before .before .before .before .before .before .before .before .before .before .before .before .before .before .before .before .before .before .before .before .before in
+    let o = c .before .before .before .before .before .before .before .before .before .before .before .before .take .ensures in
+    (o .0, λ h m k. leaf-is-taken _ _ _ _ _ _ _ _ _ (s .pre .0) _ _ _ _ _ (s .pre .3) (leaf-yes _ _ _ _ _ _ _ _ _ (s .pre .0) _ _ (c .before .before .before .before .before .before .before .before .before .before .before .before .before .before .before .before .before .before .before .before .before .before .fields .ensures) (c .before .before .before .before .before .before .before .before .before .before .before .before .before .before .before .before .before .before .before .before .if1 .taken)) _ _ _ (o .1 h m k))
+
+open-inner-requires : tie.Need-open-inner-requires
+open-inner-requires c κs = let s = c .before .before .before .before .before .before .before .before .before .before .before .before .before .before .before .before .before .before .before in (s .pre .0 .laid, s .pre .1, s .pre .0 .sheeted .limits, sheet-crews _ _ _ _ _ _ _ _ _ (s .pre .0), inner-slots _ _ _ _ _ _ _ _ _ (s .pre .0) _ _ _ _ _ (s .pre .3))
+
 same-length-8 : tie.Need-same-length-8
 same-length-8 c = search needs
 
 same-length-9 : tie.Need-same-length-9
 same-length-9 c = search needs
 
-same-length-10 : tie.Need-same-length-10
-same-length-10 c = search needs
-
-same-length-11 : tie.Need-same-length-11
-same-length-11 c = search needs
-
-returns : tie.Need-returns
-returns c = let s = c .before .before .before .before .before .before .before .before .before .before .before .before .before .before .before .before .before .before .before .before .before .before .before .before .before .before .before .before .before .before .before .before .before .before .before .before .before .before .before .before .before .before .before .before .before .before .before .before .before .before .before .before .before .before .before .before in let o = c .before .before .before .before .before .before .before .before .before .before .before .before .before .before .before .before .before .before .before .before .take .ensures in (o .0, λ h m k. leaf-is-taken _ _ _ _ _ _ _ _ _ _ _ _ (s .pre .0) _ _ _ _ _ (s .pre .5) (leaf-yes _ _ _ _ _ _ _ _ _ _ _ _ (s .pre .0) _ _ (c .before .before .before .before .before .before .before .before .before .before .before .before .before .before .before .before .before .before .before .before .before .before .before .before .before .before .before .before .before .before .before .before .before .before .fields .ensures) (c .before .before .before .before .before .before .before .before .before .before .before .before .before .before .before .before .before .before .before .before .before .before .before .before .before .before .before .before .before .before .before .before .if1 .taken)) _ _ _ (o .1 h m k))
-
-open-inner-requires : tie.Need-open-inner-requires
-open-inner-requires c κs = let s = c .before .before .before .before .before .before .before .before .before .before .before .before .before .before .before .before .before .before .before .before .before .before .before .before .before .before in (s .pre .0 .laid, s .pre .3, s .pre .0 .sheeted .limits, sheet-crews _ _ _ _ _ _ _ _ _ _ _ _ (s .pre .0), inner-slots _ _ _ _ _ _ _ _ _ _ _ _ (s .pre .0) _ _ _ _ _ (s .pre .5))
-
-same-length-12 : tie.Need-same-length-12
-same-length-12 c = search needs
-
-same-length-13 : tie.Need-same-length-13
-same-length-13 c = search needs
-
 returns-2 : tie.Need-returns-2
-returns-2 c = let s = c .before .before .before .before .before .before .before .before .before .before .before .before .before .before .before .before .before .before .before .before .before .before .before .before .before .before .before .before .before .before .before in let o = c .before .before .before .before .open-inner .ensures in (s .pre .4, inner-is-taken _ _ _ _ _ _ _ _ _ _ _ _ (s .pre .0) _ _ _ _ _ (s .pre .5) (leaf-no _ _ _ _ _ _ _ _ _ _ _ _ (s .pre .0) _ _ (c .before .before .before .before .before .before .before .before .before .fields .ensures) (c .before .before .before .before .before .before .before .if1 .left)) _ _ _ (o .0) (o .1))
+returns-2 c =
+    let s = c .before .before .before .before .before .before .before .before .before .before .before .before .before .before .before .before .before .before .before .before .before .before .before .before in
+    let o = c .before .before .before .before .open-inner .ensures in
+    (s .pre .2, inner-is-taken _ _ _ _ _ _ _ _ _ (s .pre .0) _ _ _ _ _ (s .pre .3) (leaf-no _ _ _ _ _ _ _ _ _ (s .pre .0) _ _ (c .before .before .before .before .before .before .before .before .before .fields .ensures) (c .before .before .before .before .before .before .before .if1 .left)) _ _ _ (o .0) (o .1))
 
 pub take-spec : {M : Type 1} → statement M
 take-spec =
@@ -71,12 +68,8 @@ take-spec =
     same-length-5
     same-length-6
     same-length-7
-    same-length-8
-    same-length-9
-    same-length-10
-    same-length-11
     returns
     open-inner-requires
-    same-length-12
-    same-length-13
+    same-length-8
+    same-length-9
     returns-2)

@@ -1,0 +1,3 @@
+pub mod Netting
+pub mod Linking
+pub mod Chains
