@@ -65,6 +65,19 @@ pub struct Plan {
     pub parts: Vec<Plan>,
 }
 
+impl Plan {
+    /// A range with its yards and parts.
+    pub fn new(first: u16, after: u16, yards: &[u16], parts: Vec<Plan>) -> Self {
+        let yards = yards.to_vec();
+        Plan {
+            first,
+            after,
+            yards,
+            parts,
+        }
+    }
+}
+
 /// "Given m (1 to 4) and a leaf limit (1 to 256). The first range is all junctions."
 fn built_tree(road: &RoadBook, yards: &[u16], m: u8, leaf_limit: usize) -> Tree {
     let plan = plan(0, road.junctions, yards, leaf_limit);
@@ -105,13 +118,7 @@ fn plan(first: u16, after: u16, yards: &[u16], leaf_limit: usize) -> Plan {
     if parts.len() == 1 {
         return parts.remove(0);
     }
-    let yards = yards.to_vec();
-    Plan {
-        first,
-        after,
-        yards,
-        parts,
-    }
+    Plan::new(first, after, yards, parts)
 }
 
 /// "it is cut at a + floor(i × s / 4), i from 0 to 4".

@@ -273,20 +273,8 @@ fn greatest_counts_pass() {
 #[test]
 fn any_bytes_are_answered() {
     let mut numbers = Numbers::new(12);
-    let sound = [
-        damage::sound_road(),
-        damage::sound_yard(),
-        damage::sound_tree(),
-        damage::sound_query(),
-    ];
     for _ in 0..20_000 {
-        let [road, yard, tree, query] = [0, 1, 2, 3].map(|place: usize| {
-            let mut book = sound[place].clone();
-            while numbers.once_in(3) && !book.is_empty() {
-                book = damage::random_damage(&mut numbers, &book);
-            }
-            book
-        });
+        let [road, yard, tree, query] = damage::damaged_books(&mut numbers);
         assert!(refusal(&damage::check_of(&road, &yard, &tree)) <= 12);
         assert!(refusal(&damage::build_of(&road, &yard)) <= 12);
         assert!(refusal(&damage::search_of(&road, &tree, &query)) <= 12);
@@ -297,20 +285,8 @@ fn any_bytes_are_answered() {
 #[test]
 fn random_fields_are_answered() {
     let mut numbers = Numbers::new(13);
-    let mut random_book = || {
-        let length = numbers.between(0, 60);
-        let small = |any: u64| {
-            if any & 256 == 0 {
-                any as u8 % 3
-            } else {
-                any as u8
-            }
-        };
-        let fields: Vec<u8> = (0..length).map(|_| small(numbers.any())).collect();
-        compare::book::close(&fields)
-    };
     for _ in 0..20_000 {
-        let [road, yard, tree, query] = [(); 4].map(|_| random_book());
+        let [road, yard, tree, query] = [(); 4].map(|()| damage::random_book(&mut numbers));
         assert!(refusal(&damage::check_of(&road, &yard, &tree)) <= 12);
         let sound = damage::sound_road();
         assert!(refusal(&damage::check_of(&sound, &damage::sound_yard(), &tree)) <= 12);

@@ -2,7 +2,6 @@
 
 use std::collections::BTreeMap;
 
-use compare::book;
 use compare::build::AREA_BYTES;
 use compare::generate::call::{random_build, random_check, random_search};
 use compare::generate::damage::{self, Call};
@@ -94,16 +93,6 @@ fn bytes(numbers: &mut Numbers, length: usize) -> Vec<u8> {
         .collect()
 }
 
-/// The sound district's road, yard, tree and query books.
-fn sound_books() -> [Vec<u8>; 4] {
-    [
-        damage::sound_road(),
-        damage::sound_yard(),
-        damage::sound_tree(),
-        damage::sound_query(),
-    ]
-}
-
 #[test]
 fn every_cause() {
     let mut numbers = Numbers::new(21);
@@ -125,7 +114,7 @@ fn every_cause() {
 fn two_damages() {
     let mut numbers = Numbers::new(22);
     let mut tally = Tally::default();
-    let [road, yard, tree, query] = sound_books();
+    let [road, yard, tree, query] = damage::sound_books();
     let (roads, yards, trees) = (damage::roads(), damage::yards(), damage::trees());
     let queries = damage::queries();
     for r in &roads {
@@ -169,15 +158,8 @@ fn random_districts() {
 fn any_bytes() {
     let mut numbers = Numbers::new(24);
     let mut tally = Tally::default();
-    let sound = sound_books();
     for _ in 0..10_000 {
-        let [road, yard, tree, query] = sound.each_ref().map(|book| {
-            let mut book = book.clone();
-            while numbers.once_in(3) && !book.is_empty() {
-                book = damage::random_damage(&mut numbers, &book);
-            }
-            book
-        });
+        let [road, yard, tree, query] = damage::damaged_books(&mut numbers);
         tally.make(&damage::check_of(&road, &yard, &tree), &mut numbers);
         tally.make(&damage::build_of(&road, &yard), &mut numbers);
         tally.make(&damage::search_of(&road, &tree, &query), &mut numbers);
@@ -188,20 +170,9 @@ fn any_bytes() {
 fn random_fields() {
     let mut numbers = Numbers::new(25);
     let mut tally = Tally::default();
-    let sound = sound_books();
+    let sound = damage::sound_books();
     for _ in 0..10_000 {
-        let [yard, tree, query] = [(); 3].map(|()| {
-            let length = numbers.between(0, 60);
-            let field = |any: u64| {
-                if any & 256 == 0 {
-                    any as u8 % 3
-                } else {
-                    any as u8
-                }
-            };
-            let fields: Vec<u8> = (0..length).map(|_| field(numbers.any())).collect();
-            book::close(&fields)
-        });
+        let [yard, tree, query] = [(); 3].map(|()| damage::random_book(&mut numbers));
         let [road, sound_yard, sound_tree, _] = &sound;
         tally.make(&damage::check_of(road, sound_yard, &tree), &mut numbers);
         tally.make(&damage::build_of(road, &yard), &mut numbers);

@@ -7,7 +7,7 @@ use crate::build::{build, AREA_BYTES};
 use crate::refusal::WORK_WORDS;
 use crate::road::Road;
 use crate::tree::{Landmark, Region, Stored, Tree, MOST_DISTANCE};
-use crate::{query, road, tree, yard};
+use crate::{book, query, road, tree, yard};
 
 /// The sound district's junctions: a chain.
 pub const JUNCTIONS: u16 = 16;
@@ -714,6 +714,32 @@ pub fn accepted() -> [Call; 3] {
         build_of(&road, &yard),
         search_of(&road, &tree, &sound_query()),
     ]
+}
+
+/// The sound road, yard, tree and query books.
+pub fn sound_books() -> [Vec<u8>; 4] {
+    [sound_road(), sound_yard(), sound_tree(), sound_query()]
+}
+
+/// The sound books, each damaged a few times or not at all.
+pub fn damaged_books(numbers: &mut Numbers) -> [Vec<u8>; 4] {
+    sound_books().map(|mut book| {
+        while numbers.once_in(3) && !book.is_empty() {
+            book = random_damage(numbers, &book);
+        }
+        book
+    })
+}
+
+/// A book with a true count and random bytes, half of them below 3.
+pub fn random_book(numbers: &mut Numbers) -> Vec<u8> {
+    let length = numbers.between(0, 60);
+    let byte = |any: u64| match any & 256 {
+        0 => any as u8 % 3,
+        _ => any as u8,
+    };
+    let bytes: Vec<u8> = (0..length).map(|_| byte(numbers.any())).collect();
+    book::close(&bytes)
 }
 
 /// A book with some random damage: cut, longer, another count, or other bytes.

@@ -112,13 +112,7 @@ fn random_plan(numbers: &mut Numbers, first: u16, after: u16, yards: &[u16], lev
             lowest = after;
         }
     }
-    let yards = yards.to_vec();
-    Plan {
-        first,
-        after,
-        yards,
-        parts,
-    }
+    Plan::new(first, after, yards, parts)
 }
 
 /// Yards in so many groups, each with the first yard of the next group.
