@@ -16,8 +16,8 @@ use Rattle.adjacency.specs.Arcs.{Arc, net}
 use Rattle.adjacency.specs.Adjacency.{lastArc, Linked}
 use Rattle.adjacency.proofs.Linking.{last-none, last-own, last-other, last-low, linked-parts, net-length}
 use Rattle.road.specs.Walk.{Sound, Fit}
-use Rattle.road.specs.Queue.{Reach, reach, Ready, shortenBoth, relaxBoth}
-use Rattle.road.proofs.Shortening.{shorten-sizes, shorten-ready}
+use Rattle.road.specs.Queue.{Reach, reach, Above, shortenBoth, relaxBoth}
+use Rattle.road.proofs.Shortening.{shorten-sizes, shorten-above}
 use Rattle.road.proofs.Theorems.{net-sound}
 
 -- arc number a is the newest of the arcs xs that leaves u: what it is, the arcs before it, and what relaxing it leaves to do
@@ -101,12 +101,12 @@ pub record Chain (b next to cost : List ℕ) (u d : ℕ) (s₀ s : Reach) (a : �
   pub sound : Sound (junctions b) rest
   pub distances : length (s .ds) ≡ 1024
   pub words : length (s .queue) ≡ 2048
-  pub ready : Ready (s .ds) (s .queue)
+  pub above : Above (s .ds) (s .queue)
   pub result : relaxBoth u d rest s ≡ relaxBoth u d (net b) s₀
 
 module _ (b next to cost : List ℕ) (u d : ℕ) where
   pub chain-starts : (ds queue : List ℕ) (a : ℕ) → layoutRefusal b ≡ 0 → Linked (net b) next to cost → a ≡ lastArc u (net b)
-      → length ds ≡ 1024 → length queue ≡ 2048 → Ready ds queue → Chain b next to cost u d (reach ds queue) (reach ds queue) a
+      → length ds ≡ 1024 → length queue ≡ 2048 → Above ds queue → Chain b next to cost u d (reach ds queue) (reach ds queue) a
   chain-starts ds queue a pass k e f g r =
       let l = passing-layout b pass in
       record {
@@ -118,7 +118,7 @@ module _ (b next to cost : List ℕ) (u d : ℕ) where
         sound = net-sound b l;
         distances = f;
         words = g;
-        ready = r;
+        above = r;
         result = refl;
       }
 
@@ -156,7 +156,7 @@ module _ (b next to cost : List ℕ) (u d : ℕ) where
           sound = t .sound;
           distances = rw f (n .0 ∙ ch .distances);
           words = rw f (n .1 ∙ ch .words);
-          ready = rw f (shorten-ready s (t .arc .to) (d + t .arc .seconds) (omega (arith, t .fit .to, ch .small)) (ch .distances) (ch .ready));
+          above = rw f (shorten-above s (t .arc .to) (d + t .arc .seconds) (omega (arith, t .fit .to, ch .small)) (ch .distances) (ch .above));
           result = rw f (sym (t .relaxed s) ∙ ch .result);
         }
 

@@ -16,7 +16,7 @@ use Rattle.tournament.proofs.Laws.{put-tournament, put-same, put-other}
 use Rattle.adjacency.specs.Arcs.{Arc}
 use Rattle.road.specs.Walk.{Sound}
 use Rattle.road.specs.Dijkstra.{far, width, at, State, walked, score, shorten, relaxArc, relax}
-use Rattle.road.specs.Queue.{state, mark, word, wordOf, Queued, Reach, reach, Ready, shortenBoth, relaxBoth}
+use Rattle.road.specs.Queue.{state, mark, word, wordOf, Queued, Reach, reach, Above, shortenBoth, relaxBoth}
 use Rattle.road.proofs.Relaxing.{at-set-same, at-set-other}
 use Rattle.road.proofs.Picking.{score-open, score-low}
 
@@ -54,8 +54,8 @@ pub record Fine (done : List Bool) (d : ℕ) (s : Reach) : Type 0 where
   pub queued : Queued (s .queue) (state (s .ds) done)
 
 -- no word is below its junction's distance
-pub fine-ready : (done : List Bool) (d : ℕ) (s : Reach) → Fine done d s → Ready (s .ds) (s .queue)
-fine-ready done d s f = record { tournament = f .queued .tournament; below = λ v b. below v b (decLt (score st v) far) }
+pub fine-above : (done : List Bool) (d : ℕ) (s : Reach) → Fine done d s → Above (s .ds) (s .queue)
+fine-above done d s f = record { tournament = f .queued .tournament; below = λ v b. below v b (decLt (score st v) far) }
   where
     st : State
     st = state (s .ds) done

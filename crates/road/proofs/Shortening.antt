@@ -12,7 +12,7 @@ use Rattle.book.proofs.Choosing.{choose-yes, choose-no, choose-case, false-T}
 use Rattle.tournament.specs.Tournament.{putLeaf, leaf}
 use Rattle.tournament.proofs.Laws.{put-length, put-tournament, put-same, put-other}
 use Rattle.road.specs.Dijkstra.{far, width, at}
-use Rattle.road.specs.Queue.{Reach, reach, word, Ready, shortenBoth}
+use Rattle.road.specs.Queue.{Reach, reach, word, Above, shortenBoth}
 use Rattle.road.proofs.Relaxing.{at-set-same, at-set-other}
 
 -- inside the list the default does not matter
@@ -48,15 +48,15 @@ shorten-sizes s v x =
     (λ t. (length-set (s .ds) v x, put-length (s .queue) v (word x v))) (λ t. (refl, refl))
 
 -- a shorter distance's word is at most the one queued
-pub word-falls : (ds queue : List ℕ) (v x : ℕ) → v < width → length ds ≡ width → Ready ds queue → x < getD ds v 0 → word x v ≤ leaf queue v
+pub word-falls : (ds queue : List ℕ) (v x : ℕ) → v < width → length ds ≡ width → Above ds queue → x < getD ds v 0 → word x v ≤ leaf queue v
 word-falls ds queue v x b n r h = omega (arith, at-inside ds v (omega arith), r .below v b)
 
--- and the queue stays ready for shorter ones
-pub shorten-ready : (s : Reach) (v x : ℕ) → v < width → length (s .ds) ≡ width → Ready (s .ds) (s .queue)
-    → Ready (shortenBoth s v x .ds) (shortenBoth s v x .queue)
+-- and the queue stays so
+pub shorten-above : (s : Reach) (v x : ℕ) → v < width → length (s .ds) ≡ width → Above (s .ds) (s .queue)
+    → Above (shortenBoth s v x .ds) (shortenBoth s v x .queue)
 unfolding shortenBoth
-shorten-ready s v x b n r =
-    choose-case (λ (q : Reach). Ready (q .ds) (q .queue)) (ltb x (at (s .ds) v))
+shorten-above s v x b n r =
+    choose-case (λ (q : Reach). Above (q .ds) (q .queue)) (ltb x (at (s .ds) v))
     (λ t. record { tournament = put-tournament (s .queue) v (word x v) b (r .tournament); below = λ w h. below w h (ℕ-discrete w v) })
     (λ t. r)
   where

@@ -19,11 +19,11 @@ use Rattle.road_layout.proofs.Layouts.{passing-layout}
 use Rattle.adjacency.specs.Arcs.{Arc, net}
 use Rattle.road.specs.Walk.{Walk, stay, step, Sound}
 use Rattle.road.specs.Dijkstra.{far, width, at, State, walked, score, pick, relax, walkOn, roundAt, rounds, start, walkFrom, distances}
-use Rattle.road.specs.Queue.{state, mark, word, wordOf, Queued, Reach, reach, Ready, relaxBoth, Walking, Roomy}
+use Rattle.road.specs.Queue.{state, mark, word, wordOf, Queued, Reach, reach, Above, relaxBoth, Walking, Roomy}
 use Rattle.road.proofs.Picking.{score-open, score-low, pick-below, pick-least, pick-first, walked-same, walked-other, walked-new, walked-start}
 use Rattle.road.proofs.Relaxing.{at-set-same, at-set-other}
 use Rattle.road.proofs.Rounds.{Inv, after-rounds, at-replicate}
-use Rattle.road.proofs.Queueing.{Fine, fine-ready, word-queued, word-marked, word-same, score-same, score-done, relax-fine, relax-ds}
+use Rattle.road.proofs.Queueing.{Fine, fine-above, word-queued, word-marked, word-same, score-same, score-done, relax-fine, relax-ds}
 use Rattle.road.proofs.Theorems.{net-sound}
 
 -- ---- the top of the queue
@@ -213,8 +213,8 @@ module _ (b : List ℕ) (source k : ℕ) (ds : List ℕ) (done : List Bool) (que
   pub near-by : (t : ℕ) → t ≡ top queue → t < mark → k < junctions b → t / 1024 ≤ 67042305
   near-by t e h less = rw e (near-enough (rw e at h) less)
 
-  pub ready-by : (t : ℕ) → t ≡ top queue → t < mark → Ready ds (putLeaf queue (t % 1024) mark)
-  ready-by t e h = rw e (fine-ready _ _ _ (fine-marked (rw e at h)))
+  pub above-by : (t : ℕ) → t ≡ top queue → t < mark → Above ds (putLeaf queue (t % 1024) mark)
+  above-by t e h = rw e (fine-above _ _ _ (fine-marked (rw e at h)))
 
   pub walks-by : (t : ℕ) → t ≡ top queue → (ds′ queue′ : List ℕ) (done′ : List Bool) → t < mark
       → reach ds′ queue′ ≡ relaxBoth (t % 1024) (t / 1024) (net b) (reach ds (putLeaf queue (t % 1024) mark))

@@ -39,8 +39,8 @@ pub record Reach : Type 0 where
 abbrev pub reach : List ℕ → List ℕ → Reach
 reach ds queue = record { ds = ds; queue = queue }
 
--- The queue is ready for shorter distances: no junction's word is below its distance, so that a shorter one's word only falls.
-pub record Ready (ds queue : List ℕ) : Type 0 where
+-- No junction's word is below its distance, so that the word of a shorter one only falls.
+pub record Above (ds queue : List ℕ) : Type 0 where
   pub tournament : Tournament queue
   pub below : (v : ℕ) → v < width → at ds v * 1024 ≤ leaf queue v
 

@@ -12,7 +12,7 @@ ghost use Rattle.road_layout.specs.Layout.{layoutRefusal};
 ghost use Rattle.adjacency.specs.Arcs.{net};
 ghost use Rattle.road.specs.Dijkstra.{far, width, at, walked, walkOn, distances};
 ghost use Rattle.adjacency.specs.Adjacency.{links, lastArc, Linked, Adjacency};
-ghost use Rattle.road.specs.Queue.{state, mark, Queued, reach, Ready, shortenBoth, relaxBoth, Walking, Roomy};
+ghost use Rattle.road.specs.Queue.{state, mark, Queued, reach, Above, shortenBoth, relaxBoth, Walking, Roomy};
 
 // The mark of a junction that is not reached, and the word of one that is not queued.
 pub const FAR: u32 = 4294967295;
@@ -21,7 +21,7 @@ const MARK: u64 = 4398046510080;
 
 // Makes x junction v's distance and queues it, if x is shorter.
 fn shorten(ds: &mut [u32], queue: &mut [u64], v: u16, x: u32)
-    requires { ⌜ (length (now ds) ≡ 1024) × (length (now queue) ≡ 2048) × (v < 1024) × Ready (now ds) (now queue) ⌝ }
+    requires { ⌜ (length (now ds) ≡ 1024) × (length (now queue) ≡ 2048) × (v < 1024) × Above (now ds) (now queue) ⌝ }
     ensures { λ _. ⌜ reach (now (ds .exit)) (now (queue .exit)) ≡ shortenBoth (reach (now (ds .entry)) (now (queue .entry))) v x ⌝ }
 {
     let i = v as usize;
@@ -46,7 +46,7 @@ fn relax(
     requires { ⌜ (layoutRefusal (now b) ≡ 0) × (length (now next) ≡ 8193) × (length (now to) ≡ 8193) × (length (now cost) ≡ 8193)
         × (length (now ds) ≡ 1024) × (length (now queue) ≡ 2048)
         × Linked (net (now b)) (now next) (now to) (now cost) × (first ≡ lastArc u (net (now b))) × (d ≤ 67042305)
-        × Ready (now ds) (now queue) ⌝ }
+        × Above (now ds) (now queue) ⌝ }
     ensures { λ _. ⌜ reach (now (ds .exit)) (now (queue .exit)) ≡ relaxBoth u d (net (now (b .entry))) (reach (now (ds .entry)) (now (queue .entry))) ⌝ }
 {
     let mut a = first;
@@ -71,7 +71,7 @@ fn walk_on(
     d: u32,
 )
     requires { ⌜ Adjacency (now b) (links (now head) (now next) (now to) (now cost)) × Roomy (now ds) (now done) (now queue)
-        × (u < 1024) × (d ≤ 67042305) × Ready (now ds) (putLeaf (now queue) u mark) ⌝ }
+        × (u < 1024) × (d ≤ 67042305) × Above (now ds) (putLeaf (now queue) u mark) ⌝ }
     ensures { λ _. ⌜
         (reach (now (ds .exit)) (now (queue .exit))
         ≡ relaxBoth u d (net (now (b .entry))) (reach (now (ds .entry)) (putLeaf (now (queue .entry)) u mark)))

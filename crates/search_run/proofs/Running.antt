@@ -120,11 +120,11 @@ module _ {road tree : List ℕ} {code wanted : ℕ} {crews drives places sheet :
       unsettled q = record { steps = taken; is = s .is; unsettled = false-T (sym (p ∙ settled-is) ∙ q) }
 
       -- one step more
-      pub runs-on : b ≡ false → {picks′ fs′ bounds′ keys′ yards′ firsts′ : List ℕ} {gone′ : List Bool} {measured′ : List ℕ} {held′ : Held}
-          {count′ : ℕ} → taken < limit → Cached i picks′ fs′ bounds′
+      pub runs-on : b ≡ false → taken < limit → (picks′ fs′ bounds′ keys′ yards′ firsts′ : List ℕ) (gone′ : List Bool) (measured′ : List ℕ)
+          {held′ : Held} {count′ : ℕ} → Cached i picks′ fs′ bounds′
           → stateOf keys′ yards′ firsts′ gone′ held′ measured′ count′ ≡ step i st → held′ .count ≤ wanted → length measured′ ≡ length measured
           → Runs i wanted limit room picks′ fs′ bounds′ keys′ yards′ firsts′ gone′ measured′ held′ count′ (taken + 1)
-      runs-on q h c e f m =
+      runs-on q h picks′ fs′ bounds′ keys′ yards′ firsts′ gone′ measured′ c e f m =
           let o = run-on i taken (rw (s .is) at (unsettled q .unsettled)) in
           record {
             cached = c;

@@ -33,7 +33,7 @@ use Rattle.search_leaf.specs.Ready.{Ready}
 use Rattle.search_leaf.proofs.Landmarks.{well, junctions-of, size-of}
 use Rattle.search_take.specs.Regions.{Queued}
 
-module _ (road tree : List ℕ) (code wanted : ℕ) (crews drives places sheet : List ℕ) (rows : ℕ)
+module _ {road tree : List ℕ} {code wanted : ℕ} {crews drives places sheet : List ℕ} {rows : ℕ}
     (ready : Ready road tree code wanted crews drives places sheet rows)
     (keys yards firsts : List ℕ) (gone : List Bool) (held : Held) (measured : List ℕ) (count : ℕ)
     (u : Unsettled (searchOf road tree code wanted crews) (stateOf keys yards firsts gone held measured count)) where

@@ -44,7 +44,7 @@ add-shorten : tie.Need-add-shorten Inv-loop μ-loop
 add-shorten c = omega (arith, facts (c .before .before .before .before))
 
 shorten-requires : tie.Need-shorten-requires Inv-loop μ-loop
-shorten-requires c κs = (c .before .before .before .before .before .loop .inv .distances, c .before .before .before .before .before .loop .inv .words, facts (c .before .before .before .before) .inside, c .before .before .before .before .before .loop .inv .ready)
+shorten-requires c κs = (c .before .before .before .before .before .loop .inv .distances, c .before .before .before .before .before .loop .inv .words, facts (c .before .before .before .before) .inside, c .before .before .before .before .before .loop .inv .above)
 
 mul-a : tie.Need-mul-a Inv-loop μ-loop
 mul-a c = omega (arith, facts (c .before .before .before .before .before .before .before .before .before))

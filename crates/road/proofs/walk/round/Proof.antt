@@ -1,6 +1,6 @@
 use borrow.Author.Needs.{needs}
 use native.Mathlib.Omega.{arith}
-use Rattle.road.proofs.Stepping.{sizes, near-by, ready-by, walks-by, rests-by}
+use Rattle.road.proofs.Stepping.{sizes, near-by, above-by, walks-by, rests-by}
 use Rattle.road.proofs.walk.round.Statement.{statement}
 use Rattle.road.proofs.walk.round.Tie as tie
 
@@ -20,7 +20,7 @@ walk-on-requires c κs =
       sizes _ _ _ _ _ _ (p .0 .layout) (p .1) (p .3),
       omega arith,
       near-by _ _ _ _ _ _ (p .0 .layout) (p .1) (p .3) _ (c .before .before .before .before .least .ensures) (c .before .before .before .if1 .taken) (p .2),
-      ready-by _ _ _ _ _ _ (p .0 .layout) (p .1) (p .3) _ (c .before .before .before .before .least .ensures) (c .before .before .before .if1 .taken),
+      above-by _ _ _ _ _ _ (p .0 .layout) (p .1) (p .3) _ (c .before .before .before .before .least .ensures) (c .before .before .before .if1 .taken),
     )
 
 same-length : tie.Need-same-length
