@@ -27,6 +27,7 @@ use Rattle.search_bounds.specs.Marks.{markPlace}
 use Rattle.search_leaves.specs.Leaves.{Near, wordsOf, Opened}
 use Rattle.search_leaves.proofs.Opening.{part-list, part-near, part-room, opened-place, opened-f}
 use Rattle.search_next.specs.Next.{nextIn, nextWord}
+use Rattle.search_next.proofs.Nexts.{next-in, next-word}
 use Rattle.search_leaf.specs.Ready.{IsPick, Ready, IsLeaf, Waiting}
 use Rattle.search_leaf.proofs.Landmarks.{junctions-of, record-here, list-room, list-of, list-near}
 
@@ -35,17 +36,16 @@ use Rattle.search_leaf.proofs.Landmarks.{junctions-of, record-here, lis
 module _ (i : Instance) (m : Mark) (fs bounds : List ℕ) (o : Opened i m fs bounds) (gone : List Bool) (n : ℕ) (es : List Element)
     (count : n ≡ length (m .list)) (same : es ≡ m .list) where
   next-is : nextIn fs gone es n ≡ getD (m .list) (nextPlace i gone m) noElement
-  unfolding nextIn
-  next-is = rw (same, ← opened-place i m fs bounds gone o n (pick (wordsOf fs gone (m .list)) n) count refl) refl
+  next-is = rw (next-in fs gone es n, same, ← opened-place i m fs bounds gone o n (pick (wordsOf fs gone (m .list)) n) count refl) refl
 
   word-is : nextWord fs gone es n ≡ nextF i gone m
-  unfolding nextWord
-  word-is = rw same (opened-f i m fs bounds gone o n (pick (wordsOf fs gone (m .list)) n)
+  word-is =
+      sym (next-word fs gone es n (pick (wordsOf fs gone es) n) (wordAt (wordsOf fs gone es) (pick (wordsOf fs gone es) n)) refl refl)
+      ∙ rw same (opened-f i m fs bounds gone o n (pick (wordsOf fs gone (m .list)) n)
       (wordAt (wordsOf fs gone (m .list)) (pick (wordsOf fs gone (m .list)) n)) count refl refl)
 
   next-mem : 1 ≤ n → Mem (nextIn fs gone es n) (m .list)
-  unfolding nextIn
-  next-mem h = rw same (getD-mem (m .list) (pick (wordsOf fs gone (m .list)) n) noElement (rw (← count) (pick-range (wordsOf fs gone (m .list)) n h)))
+  next-mem h = rw (next-in fs gone es n, same) (getD-mem (m .list) (pick (wordsOf fs gone (m .list)) n) noElement (rw (← count) (pick-range (wordsOf fs gone (m .list)) n h)))
 
   bound-is : 1 ≤ n → getD bounds (nextIn fs gone es n .yard) 0 ≡ yardBound i m (nextIn fs gone es n)
   bound-is h = o .keys (nextIn fs gone es n) (next-mem h)

@@ -53,6 +53,11 @@ module _ (p fs : List ℕ) (gone : List Bool) (n place yard : ℕ) (some : 1 ≤
   next-near w e near = rw (next-yard e, ← picked) (near (getD (readList p n 0) place noElement)
       (getD-mem (readList p n 0) place noElement (rw (readList-length p n 0) next-inside)))
 
+-- the next element by its number
+pub next-in : (fs : List ℕ) (gone : List Bool) (es : List Element) (n : ℕ) → nextIn fs gone es n ≡ getD es (pick (wordsOf fs gone es) n) noElement
+unfolding nextIn
+next-in fs gone es n = refl
+
 -- the words of what was read
 pub next-word : (fs : List ℕ) (gone : List Bool) (es : List Element) (n place word : ℕ) → place ≡ pick (wordsOf fs gone es) n
     → word ≡ wordAt (wordsOf fs gone es) place → word ≡ nextWord fs gone es n
