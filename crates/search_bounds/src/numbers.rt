@@ -1,6 +1,6 @@
-// The difference, the aggregate, the greater and the lesser of two numbers.
+// The difference, the aggregate and the greater of two numbers, and a number in 64 bits.
 ghost use mathlib.Core.Path.{_≡_};
-ghost use Prim.Native.Nat.{_+_, _<_, min, max};
+ghost use Prim.Native.Nat.{_+_, _<_, max};
 ghost use Rattle.search_rules.specs.Bounds.{apart, combine};
 
 // The difference of two numbers.
@@ -37,16 +37,6 @@ pub fn greater(a: u32, b: u32) -> u32
     a
 }
 
-// The lesser of two numbers.
-pub fn lesser(a: u64, b: u64) -> u64
-    ensures { λ r. ⌜ r ≡ min a b ⌝ }
-{
-    if b < a {
-        return b;
-    }
-    a
-}
-
 // The greater of two numbers of 64 bits.
 pub fn greater64(a: u64, b: u64) -> u64
     ensures { λ r. ⌜ r ≡ max a b ⌝ }
@@ -55,4 +45,11 @@ pub fn greater64(a: u64, b: u64) -> u64
         return b;
     }
     a
+}
+
+// A number in 64 bits.
+pub fn wide(x: u32) -> u64
+    ensures { λ r. ⌜ (r ≡ x) × (r < 4294967296) ⌝ }
+{
+    x as u64
 }

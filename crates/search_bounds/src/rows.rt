@@ -1,6 +1,8 @@
 // LB and UB by the sheet's rows, and a crew's bound.
 use crate::numbers;
+use crate::numbers::wide;
 use road_rows::cell;
+use tournament::lesser;
 ghost use mathlib.Core.Path.{_≡_};
 ghost use Prim.Native.Nat.{_+_, _-_, _<_};
 ghost use lib.ListN.{length};
@@ -14,12 +16,6 @@ fn row_apart(sheet: &[u32], r: usize, l: u16, q: u16) -> u32
     ensures { λ x. ⌜ x ≡ apart (cell (now (sheet .entry)) r l) (cell (now (sheet .entry)) r q) ⌝ }
 {
     numbers::apart(cell(sheet, r, l), cell(sheet, r, q))
-}
-
-fn wide(x: u32) -> u64
-    ensures { λ r. ⌜ (r ≡ x) × (r < 4294967296) ⌝ }
-{
-    x as u64
 }
 
 // The sum of row r's words for junctions l and q.
@@ -52,7 +48,7 @@ pub fn upper(sheet: &[u32], rows: usize, l: u16, q: u16) -> u64
     let mut x = row_sum(sheet, 0, l, q);
     let mut r: usize = 1;
     while r < rows {
-        x = numbers::lesser(x, row_sum(sheet, r, l, q));
+        x = lesser(x, row_sum(sheet, r, l, q));
         r += 1;
     }
     x

@@ -1,6 +1,7 @@
 // What is computed of a yard: its aggregate by true distances, f, and its bound.
 use book::Junction;
 use search_bounds::numbers;
+use search_bounds::numbers::wide;
 use search_bounds::rows;
 ghost use mathlib.Core.Path.{_≡_};
 ghost use Prim.Native.Nat.{_≤_, _<_};
@@ -9,12 +10,6 @@ ghost use Rattle.road_layout.specs.Road.{junctions};
 ghost use Rattle.search_bounds.specs.Rows.{Rows};
 ghost use Rattle.search_bounds.specs.Bounds.{Crews};
 ghost use Rattle.search_yards.specs.Measures.{Driven, toCrews, totalOf, fBy, crewApart, yardBoundBy};
-
-fn wide(x: u32) -> u64
-    ensures { λ r. ⌜ (r ≡ x) × (r < 4294967296) ⌝ }
-{
-    x as u64
-}
 
 // "f, the aggregate of |d(l, q) − d(l, p)|": of landmark l's distances to the crews and of an element's distance.
 pub fn f_of(out: &[u32], code: u8, distance: u32) -> u64
