@@ -273,7 +273,7 @@ fn greatest_counts_pass() {
 #[test]
 fn any_bytes_are_answered() {
     let mut numbers = Numbers::new(12);
-    for _ in 0..20_000 {
+    for _ in 0..5_000 {
         let [road, yard, tree, query] = damage::damaged_books(&mut numbers);
         assert!(refusal(&damage::check_of(&road, &yard, &tree)) <= 12);
         assert!(refusal(&damage::build_of(&road, &yard)) <= 12);
@@ -285,7 +285,7 @@ fn any_bytes_are_answered() {
 #[test]
 fn random_fields_are_answered() {
     let mut numbers = Numbers::new(13);
-    for _ in 0..20_000 {
+    for _ in 0..5_000 {
         let [road, yard, tree, query] = [(); 4].map(|()| damage::random_book(&mut numbers));
         assert!(refusal(&damage::check_of(&road, &yard, &tree)) <= 12);
         let sound = damage::sound_road();
