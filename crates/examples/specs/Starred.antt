@@ -4,7 +4,8 @@ use mathlib.Core.List.{List, [], _∷_}
 use Prim.Native.Nat.{ℕ, _≤_}
 use Rattle.tree_layout.specs.Values.{Element}
 use Rattle.search_rules.specs.Instance.{Instance}
-use Rattle.search_rules.specs.Bounds.{crewBound, noMark, f}
+use Rattle.search_rules.specs.Bounds.{crewBound, f}
+use Rattle.tree_layout.specs.Values.{noMark}
 use Rattle.examples.specs.Books.{asking, onN, onOne, onThree, row, settledRow, spentRow}
 
 -- crews whose distance from a landmark is their own number

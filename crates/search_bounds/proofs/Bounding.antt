@@ -9,12 +9,13 @@ use Rattle.book.proofs.Lists.{getD-mem}
 use Rattle.tree_layout.specs.Values.{Mark}
 use Rattle.tree_layout.specs.Decode.{landmarkCount}
 use Rattle.tree_layout.proofs.Reading.{landmark-count}
-use Rattle.search_rules.specs.Bounds.{aggregate, greatestOf, crewBound, noMark}
-use Rattle.search_bounds.specs.declared.Landmark.{Landmark}
+use Rattle.search_rules.specs.Bounds.{aggregate, greatestOf, crewBound}
+use Rattle.tree_layout.specs.Values.{noMark}
+use Rattle.tree_layout.specs.declared.Landmark.{Landmark}
 use Rattle.search_bounds.specs.Rows.{rowsLower, rowsUpper}
-use Rattle.search_bounds.specs.Marks.{marksAt, landmarkOf, RecordAt}
+use Rattle.tree_layout.specs.Marks.{marksAt, landmarkOf, RecordAt}
 use Rattle.search_bounds.specs.Bounds.{rowsMark, rowsCrew, rowsBound, rowsWeight, markWeight, firstGreatest, rowsChosen, Crews}
-use Rattle.search_bounds.proofs.Records.{marks-count}
+use Rattle.tree_layout.proofs.RecordFields.{marks-count}
 
 -- a crew's junction has a place in each row
 pub crew-there : (crews : List ℕ) → Crews crews → (j : ℕ) → j < length crews → getD crews j 0 < 1024

@@ -7,7 +7,8 @@ use native.Mathlib.Omega.{arith}
 use lib.ListN.{length, getD, take}
 use lib.Seq.{take-all}
 use Rattle.tree_layout.specs.Values.{Mark}
-use Rattle.search_rules.specs.Bounds.{combine, aggregate, greatestOf, noMark}
+use Rattle.search_rules.specs.Bounds.{combine, aggregate, greatestOf}
+use Rattle.tree_layout.specs.Values.{noMark}
 use Rattle.search_rules.proofs.Turns.{aggregate-take, greatest-take}
 use Rattle.search_rules.proofs.Equations.{aggregate-none, greatest-none, combine-most}
 

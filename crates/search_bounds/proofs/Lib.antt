@@ -1,5 +1,4 @@
 pub mod Cells
-pub mod Records
 pub mod Folds
 pub mod Bounding
 pub mod Picking

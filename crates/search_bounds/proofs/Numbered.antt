@@ -12,7 +12,7 @@ use Rattle.tree_layout.proofs.Places.{region-at, decode-length, record-inside}
 use Rattle.tree_layout.proofs.Formed.{at-mem}
 use Rattle.tree_layout.proofs.Reading.{region-yards}
 use Rattle.tree.specs.Arrays.{Laid}
-use Rattle.search_bounds.specs.Marks.{marksAt, RecordAt}
+use Rattle.tree_layout.specs.Marks.{marksAt, RecordAt}
 
 -- by the place of its record
 module _ (b : List ℕ) (layout : TreeLayout b) (i : ℕ) (h : i < regionCount b) (at : ℕ) (place : at ≡ placeOf b i) where

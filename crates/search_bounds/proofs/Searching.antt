@@ -12,7 +12,8 @@ use Rattle.tree_layout.proofs.Formed.{at-mem, decode-formed}
 use Rattle.tree_layout.proofs.Places.{decode-landmarks}
 use Rattle.search_rules.specs.Instance.{Instance, marks}
 use Rattle.search_rules.specs.Books.{searchOf, Passed}
-use Rattle.search_rules.specs.Bounds.{noMark, lower, bound, chosen}
+use Rattle.search_rules.specs.Bounds.{lower, bound, chosen}
+use Rattle.tree_layout.specs.Values.{noMark}
 use Rattle.search_rules.proofs.Books.{accepted-of, well-of, count}
 use Rattle.search_rules.proofs.Equations.{marks-is, search-of}
 use Rattle.search_bounds.specs.Rows.{rowsLower}

@@ -11,7 +11,8 @@ use Rattle.book.proofs.Choosing.{choose-map}
 use Rattle.book.proofs.Lists.{getD-mem}
 use Rattle.tree_layout.specs.Values.{Mark}
 use Rattle.search_rules.specs.Instance.{Instance, marks}
-use Rattle.search_rules.specs.Bounds.{apart, greatestOf, leastOf, noMark, sheetAt, lower, upper, markBound, bound, weight, bestOf, chosen}
+use Rattle.search_rules.specs.Bounds.{apart, greatestOf, leastOf, sheetAt, lower, upper, markBound, bound, weight, bestOf, chosen}
+use Rattle.tree_layout.specs.Values.{noMark}
 use Rattle.search_rules.specs.Facts.{WellFormed}
 use Rattle.search_rules.proofs.Turns.{greatest-take, least-first, least-take, best-first, best-take}
 use Rattle.search_rules.proofs.Equations.{greatest-none, aggregate-same, greatest-same, lower-is, upper-is, mark-bound-is, bound-is, weight-is, chosen-is}

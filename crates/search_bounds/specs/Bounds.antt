@@ -5,7 +5,8 @@ use lib.ListN.{length, getD}
 use lib.Dec.{ltb}
 use Rattle.book.specs.Choose.{choose}
 use Rattle.tree_layout.specs.Values.{Mark}
-use Rattle.search_rules.specs.Bounds.{aggregate, greatestOf, crewBound, noMark}
+use Rattle.search_rules.specs.Bounds.{aggregate, greatestOf, crewBound}
+use Rattle.tree_layout.specs.Values.{noMark}
 use Rattle.search_bounds.specs.Rows.{rowsLower, rowsUpper}
 
 -- "the crew's bound": of crew q for landmark k

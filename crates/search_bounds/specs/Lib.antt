@@ -1,4 +1,3 @@
 pub mod Rows
-pub mod Marks
 pub mod Bounds
 pub mod Sheet

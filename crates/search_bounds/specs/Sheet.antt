@@ -5,7 +5,8 @@ use Prim.Native.Nat.{ℕ, _<_}
 use lib.ListN.{length, getD}
 use Rattle.road_rows.specs.Rows.{cell}
 use Rattle.search_rules.specs.Instance.{Instance, marks}
-use Rattle.search_rules.specs.Bounds.{noMark, sheetAt}
+use Rattle.search_rules.specs.Bounds.{sheetAt}
+use Rattle.tree_layout.specs.Values.{noMark}
 use Rattle.search_bounds.specs.Rows.{Rows}
 
 -- "The sheet holds d from the root's landmarks r to every junction.": a row for each of the root's landmarks, in their order

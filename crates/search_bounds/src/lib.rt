@@ -1,13 +1,5 @@
 // The bounds of a search, by arrays: the sheet, a region's bound, and the landmark that a leaf picks.
-pub mod marks; // marks.rt: a region's landmarks, read from the tree book
 pub mod numbers; // numbers.rt: the difference, the aggregate and the greater of two numbers, and a number in 64 bits
 pub mod picks; // picks.rt: the landmark that a leaf picks
 pub mod regions; // regions.rt: a region's bound
 pub mod rows; // rows.rt: LB and UB by the rows of the sheet, and a crew's bound
-
-// A region's landmark: its junction, and the least and the greatest distance from it to the region's yards.
-pub struct Landmark {
-    pub place: u16,
-    pub least: u32,
-    pub greatest: u32,
-}

@@ -1,5 +1,5 @@
 // The landmark that a leaf picks.
-use crate::marks;
+use tree_layout::landmarks;
 use crate::numbers;
 use crate::rows;
 use tree_layout::Region;
@@ -12,7 +12,7 @@ ghost use Rattle.tree_layout.specs.Values.{regionAt};
 ghost use Rattle.tree_layout.specs.Decode.{decode, landmarkCount};
 ghost use Rattle.tree.specs.Arrays.{Laid};
 ghost use Rattle.search_bounds.specs.Rows.{Rows};
-ghost use Rattle.search_bounds.specs.Marks.{marksAt, RecordAt};
+ghost use Rattle.tree_layout.specs.Marks.{marksAt, RecordAt};
 ghost use Rattle.search_bounds.specs.Bounds.{rowsWeight, markWeight, rowsChosen, Crews};
 
 // The "sum of LB over crews" of a landmark at junction l.
@@ -35,7 +35,7 @@ fn mark_weight(tree: &[u8], at: usize, j: usize, sheet: &[u32], rows: usize, cre
     requires { ⌜ RecordAt (now tree) at × (j < landmarkCount (now tree)) × Rows (now sheet) rows × Crews (now crews) ⌝ }
     ensures { λ x. ⌜ x ≡ markWeight (now (sheet .entry)) rows (now (crews .entry)) (marksAt (now (tree .entry)) at) j ⌝ }
 {
-    let k = marks::landmark(tree, at, j);
+    let k = landmarks::landmark(tree, at, j);
     weight(sheet, rows, crews, k.place)
 }
 

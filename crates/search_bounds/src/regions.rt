@@ -1,6 +1,6 @@
 // A region's bound.
-use crate::Landmark;
-use crate::marks;
+use tree_layout::Landmark;
+use tree_layout::landmarks;
 use crate::numbers;
 use crate::rows;
 use tree_layout::Region;
@@ -12,7 +12,7 @@ ghost use Rattle.tree_layout.specs.Decode.{decode};
 ghost use Rattle.tree.specs.Arrays.{Laid};
 ghost use Rattle.search_rules.specs.Bounds.{crewBound};
 ghost use Rattle.search_bounds.specs.Rows.{rowsLower, rowsUpper, Rows};
-ghost use Rattle.search_bounds.specs.Marks.{marksAt, RecordAt};
+ghost use Rattle.tree_layout.specs.Marks.{marksAt, RecordAt};
 ghost use Rattle.search_bounds.specs.Bounds.{rowsCrew, rowsBound, Crews};
 
 // "the crew's bound": of crew q for a landmark.
@@ -35,7 +35,7 @@ fn crew_region(tree: &[u8], at: usize, sheet: &[u32], rows: usize, q: u16) -> u3
     let mut x: u32 = 0;
     let mut j: usize = 0;
     while j < m {
-        let k = marks::landmark(tree, at, j);
+        let k = landmarks::landmark(tree, at, j);
         x = numbers::greater(x, mark_bound(sheet, rows, k, q));
         j += 1;
     }

@@ -19,7 +19,8 @@ use Rattle.tree_layout.proofs.MarkPlaces.{listMark, region-marks, leaf-mark-at}
 use Rattle.tree.proofs.Fielding.{laid-region, laid-children}
 use Rattle.search_rules.specs.Instance.{Instance, size, marks, leaf}
 use Rattle.search_rules.specs.Books.{searchOf}
-use Rattle.search_rules.specs.Bounds.{noMark, chosen}
+use Rattle.search_rules.specs.Bounds.{chosen}
+use Rattle.tree_layout.specs.Values.{noMark}
 use Rattle.search_rules.specs.Facts.{WellFormed}
 use Rattle.search_rules.proofs.Books.{well-of, count}
 use Rattle.search_rules.proofs.Equations.{search-of, marks-is}
@@ -27,8 +28,8 @@ use Rattle.search_rules.proofs.Steps.{size-is, leaf-is}
 use Rattle.search_rules.proofs.Taking.{chosen-in}
 use Rattle.search_bounds.specs.Rows.{rowsLower}
 use Rattle.search_bounds.specs.Bounds.{rowsChosen, Crews}
-use Rattle.search_bounds.specs.Marks.{markPlace, RecordAt}
-use Rattle.search_bounds.proofs.Records.{place-is, list-inside}
+use Rattle.tree_layout.specs.Marks.{markPlace, RecordAt}
+use Rattle.tree_layout.proofs.RecordFields.{place-is, list-inside}
 use Rattle.search_bounds.proofs.Numbered.{record-of}
 use Rattle.search_bounds.proofs.Searching.{crews-of as rows-crews, lower-of, chosen-of, chosen-few}
 use Rattle.search_leaves.specs.Leaves.{Near, byYard, fIn, boundIn, listAt, Opened}

@@ -23,7 +23,7 @@ use Rattle.search_held.specs.declared.Held.{Held}
 use Rattle.search_held.specs.Pairs.{heldOf}
 use Rattle.search_state.specs.State.{stateOf, newest}
 use Rattle.search_state.proofs.Newest.{state-is}
-use Rattle.search_bounds.specs.Marks.{markPlace}
+use Rattle.tree_layout.specs.Marks.{markPlace}
 use Rattle.search_leaves.specs.Leaves.{Near, wordsOf, Opened}
 use Rattle.search_leaves.proofs.Opening.{part-list, part-near, part-room, opened-place, opened-f}
 use Rattle.search_next.specs.Next.{nextIn, nextWord}

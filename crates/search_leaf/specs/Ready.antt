@@ -10,7 +10,8 @@ use Rattle.road_rows.specs.Rows.{Rowed}
 use Rattle.tree.specs.Arrays.{Laid}
 use Rattle.search_rules.specs.Instance.{Instance, size, marks, leaf}
 use Rattle.search_rules.specs.Books.{searchOf, Passed}
-use Rattle.search_rules.specs.Bounds.{noMark, chosen}
+use Rattle.search_rules.specs.Bounds.{chosen}
+use Rattle.tree_layout.specs.Values.{noMark}
 use Rattle.search_rules.specs.Queue.{unqueued}
 use Rattle.search_rules.specs.Step.{nextF}
 use Rattle.search_bounds.specs.Sheet.{Sheet}

@@ -1,7 +1,7 @@
 // A leaf is taken: it queues its next yard and, if any remain, itself.
 mod opening; // opening.rt: a leaf that is first taken
 
-use search_bounds::marks;
+use tree_layout::landmarks;
 use tree_layout::Region;
 ghost use mathlib.Core.Path.{_≡_};
 ghost use mathlib.Core.List.{List};
@@ -61,7 +61,7 @@ pub fn take(
     let i = r.number as usize;
     let at = places[i];
     let n = book::u16_at(tree, at + 5) as usize;
-    let place = marks::mark_place(tree, at, p);
+    let place = landmarks::mark_place(tree, at, p);
     let a = place + 2;
     let e = a + 6 * n;
     search_next::queue_next(&tree[a..e], n, fs, bounds, firsts[i], i, keys, yards, gone);

@@ -1,5 +1,5 @@
 // A leaf when first taken picks its landmark, and its yards get their f and their bounds.
-use search_bounds::marks;
+use tree_layout::landmarks;
 use search_bounds::picks;
 use tree_layout::Region;
 ghost use Rattle.search_rules.specs.Books.{searchOf};
@@ -35,7 +35,7 @@ fn open(
     picked[i] = p as u8;
     let at = places[i];
     let n = book::u16_at(tree, at + 5) as usize;
-    let place = marks::mark_place(tree, at, p);
+    let place = landmarks::mark_place(tree, at, p);
     search_leaves::open(
         road,
         drives,

@@ -12,7 +12,8 @@ use Rattle.book.proofs.Choosing.{choose-case, choose-yes, choose-no}
 use Rattle.tree_layout.specs.Values.{Element, Mark, lastFrom}
 use Rattle.tree_layout.specs.Refusal.{comes}
 use Rattle.search_rules.specs.Instance.{Instance}
-use Rattle.search_rules.specs.Bounds.{combine, aggregate, greatestOf, leastFrom, leastOf, noMark, weight, best, bestOf}
+use Rattle.search_rules.specs.Bounds.{combine, aggregate, greatestOf, leastFrom, leastOf, weight, best, bestOf}
+use Rattle.tree_layout.specs.Values.{noMark}
 use Rattle.search_rules.specs.Queue.{unqueued, wordAt, pick}
 use Rattle.search_rules.specs.Held.{insert, hold, greatestHeld}
 use Rattle.search_rules.specs.Step.{left, noElement, step, settled, start}

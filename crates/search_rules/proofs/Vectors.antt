@@ -11,7 +11,8 @@ use Rattle.tree_leaf.specs.Leaf.{names, once, inRange, namedBy, firstList, agre
 use Rattle.tree.specs.Shape.{childFits, siblings, subtree}
 use Rattle.tree.specs.Yards.{endOf, starts, childrenOf}
 use Rattle.search_rules.specs.Instance.{Instance, size, children, marks, leaf}
-use Rattle.search_rules.specs.Bounds.{apart, combine, aggregate, greatestOf, leastFrom, leastOf, crewBound, noMark, sheetAt, lower, upper, over, total, markBound, bound, weight, best, bestOf, chosen, listApart, f, yardBound}
+use Rattle.search_rules.specs.Bounds.{apart, combine, aggregate, greatestOf, leastFrom, leastOf, crewBound, sheetAt, lower, upper, over, total, markBound, bound, weight, best, bestOf, chosen, listApart, f, yardBound}
+use Rattle.tree_layout.specs.Values.{noMark}
 use Rattle.search_rules.specs.Queue.{unqueued, queued, wordAt, pick}
 use Rattle.search_rules.specs.Held.{insert, hold, greatestHeld, entry, ranked}
 use Rattle.search_rules.specs.Step.{State, left, noElement, againKey, waiting, nextPlace, nextF, queueChildren, openInner, queueNext, closeLeaf, openLeaf, takeRegion, takeYard, nextRegion, nextYard, leastKey, step, settled, start}

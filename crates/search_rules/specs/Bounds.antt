@@ -3,7 +3,7 @@ use mathlib.Core.List.{List, [], _∷_}
 use Prim.Native.Nat.{ℕ, _+_, _-_, min, max}
 use lib.Dec.{ltb, leb, eqb}
 use Rattle.book.specs.Choose.{choose}
-use Rattle.tree_layout.specs.Values.{Element, Mark}
+use Rattle.tree_layout.specs.Values.{Element, Mark, noMark}
 use Rattle.search_rules.specs.Instance.{Instance, marks}
 
 -- the difference of two numbers
@@ -36,10 +36,6 @@ leastOf g (m ∷ ms) = leastFrom g m ms
 -- "the crew's bound is LB − B if LB ≥ B, A − UB if UB ≤ A, else 0."
 unfoldable pub crewBound : (lb ub a b : ℕ) → ℕ
 crewBound lb ub a b = choose (leb b lb) (lb - b) (choose (leb ub a) (a - ub) 0)
-
--- what stands for the landmark of a region that has none
-unfoldable pub noMark : Mark
-noMark = record { place = 0; least = 0; greatest = 0; list = [] }
 
 module _ (i : Instance) where
   -- "The sheet holds d from the root's landmarks r to every junction." Its rows are the root's landmarks; this is row r at junction v.

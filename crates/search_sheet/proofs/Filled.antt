@@ -16,11 +16,12 @@ use Rattle.tree_layout.proofs.Places.{place-first, decode-junctions}
 use Rattle.tree_layout.proofs.Reading.{landmark-count}
 use Rattle.search_rules.specs.Instance.{Instance, marks}
 use Rattle.search_rules.specs.Books.{searchOf}
-use Rattle.search_rules.specs.Bounds.{noMark, sheetAt}
+use Rattle.search_rules.specs.Bounds.{sheetAt}
+use Rattle.tree_layout.specs.Values.{noMark}
 use Rattle.search_rules.proofs.Equations.{sheet-at, search-of}
-use Rattle.search_bounds.specs.Marks.{marksAt, RecordAt}
+use Rattle.tree_layout.specs.Marks.{marksAt, RecordAt}
 use Rattle.search_bounds.specs.Sheet.{Sheet}
-use Rattle.search_bounds.proofs.Records.{marks-count}
+use Rattle.tree_layout.proofs.RecordFields.{marks-count}
 use Rattle.search_bounds.proofs.Numbered.{layout-marks, layout-record, layout-placed}
 use Rattle.search_bounds.proofs.Searching.{marks-book}
 use Rattle.search_sheet.specs.Filling.{rootPlaces}

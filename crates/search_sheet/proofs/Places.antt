@@ -10,10 +10,10 @@ use Rattle.tree_layout.specs.Values.{Mark}
 use Rattle.tree_layout.specs.Decode.{landmarkCount}
 use Rattle.tree.specs.Arrays.{overwrite}
 use Rattle.tree.proofs.Filling.{overwrite-length, overwrite-new, overwrite-none, overwrite-next}
-use Rattle.search_rules.specs.Bounds.{noMark}
-use Rattle.search_bounds.specs.declared.Landmark.{Landmark}
-use Rattle.search_bounds.specs.Marks.{marksAt, landmarkOf, RecordAt}
-use Rattle.search_bounds.proofs.Records.{marks-count}
+use Rattle.tree_layout.specs.Values.{noMark}
+use Rattle.tree_layout.specs.declared.Landmark.{Landmark}
+use Rattle.tree_layout.specs.Marks.{marksAt, landmarkOf, RecordAt}
+use Rattle.tree_layout.proofs.RecordFields.{marks-count}
 use Rattle.search_bounds.proofs.Bounding.{place-read}
 use Rattle.search_sheet.specs.Filling.{placesOf, rootPlaces}
 

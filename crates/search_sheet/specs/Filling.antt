@@ -2,7 +2,7 @@
 use mathlib.Core.List.{List, [], _∷_}
 use Prim.Native.Nat.{ℕ}
 use Rattle.tree_layout.specs.Values.{Mark}
-use Rattle.search_bounds.specs.Marks.{marksAt}
+use Rattle.tree_layout.specs.Marks.{marksAt}
 
 -- the junctions of some landmarks
 unfoldable pub placesOf : List Mark → List ℕ

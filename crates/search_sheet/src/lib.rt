@@ -9,7 +9,7 @@ ghost use Rattle.road.specs.Queue.{Roomy};
 ghost use Rattle.road_rows.specs.Rows.{AreJunctions, Rowed};
 ghost use Rattle.tree_layout.specs.Decode.{junctionCount, landmarkCount};
 ghost use Rattle.tree_layout.specs.Facts.{TreeLayout};
-ghost use Rattle.search_bounds.specs.Marks.{RecordAt};
+ghost use Rattle.tree_layout.specs.Marks.{RecordAt};
 ghost use Rattle.search_sheet.specs.Filling.{rootPlaces};
 
 // The junctions of the root's landmarks.
@@ -19,7 +19,7 @@ fn root_places(tree: &[u8], places: &mut [u16])
 {
     let mut r: usize = 0;
     while r < places.len() {
-        let k = search_bounds::marks::landmark(tree, 12, r);
+        let k = tree_layout::landmarks::landmark(tree, 12, r);
         places[r] = k.place;
         r += 1;
     }

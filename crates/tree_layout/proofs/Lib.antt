@@ -16,3 +16,4 @@ pub mod Decoding
 pub mod Rising
 pub mod MarkFields
 pub mod Numbered
+pub mod RecordFields

@@ -6,6 +6,7 @@ use lib.Dec.{eqb}
 use Rattle.book.specs.Choose.{choose}
 use Rattle.book.specs.Bytes.{u8At, u16At, u32At}
 use Rattle.tree_layout.specs.Values.{Element, Mark, Region, Tree, leafMark, innerMark}
+use Rattle.tree_layout.specs.Sizes.{headerSize, fieldsSize, junctionSize, elementSize, leafMarkSize, innerMarkSize}
 
 -- ---- a list
 
@@ -16,23 +17,26 @@ elementAt p at = record { distance = u32At p at; yard = u16At p (at + 4) }
 -- n pairs from a place on
 unfoldable pub readList : List ℕ → ℕ → ℕ → List Element
 readList p zero at = []
-readList p (suc n) at = elementAt p at ∷ readList p n (at + 6)
+readList p (suc n) at = elementAt p at ∷ readList p n (at + elementSize)
 
 -- "A leaf's list is read as a part of the book that starts where its record puts it": the part of n pairs
 unfoldable pub listPart : List ℕ → ℕ → ℕ → List ℕ
-listPart b n at = take (6 * n) (drop at b)
+listPart b n at = take (elementSize * n) (drop at b)
 
 -- ---- landmarks
 
 -- k landmarks of a leaf from a place on: "per landmark its junction u16 and, in a leaf, one pair .. per yard"
 unfoldable pub readLists : List ℕ → ℕ → ℕ → ℕ → List Mark
 readLists b yards zero at = []
-readLists b yards (suc k) at = leafMark (u16At b at) (readList (listPart b yards (at + 2)) yards 0) ∷ readLists b yards k (at + (2 + 6 * yards))
+readLists b yards (suc k) at =
+    leafMark (u16At b at) (readList (listPart b yards (at + junctionSize)) yards 0)
+    ∷ readLists b yards k (at + leafMarkSize yards)
 
 -- k landmarks of an inner region: "in an inner region, least and greatest distance to its yards, u32 each"
 unfoldable pub readSpans : List ℕ → ℕ → ℕ → List Mark
 readSpans b zero at = []
-readSpans b (suc k) at = innerMark (u16At b at) (u32At b (at + 2)) (u32At b (at + 6)) ∷ readSpans b k (at + 10)
+readSpans b (suc k) at =
+    innerMark (u16At b at) (u32At b (at + 2)) (u32At b (at + 6)) ∷ readSpans b k (at + innerMarkSize)
 
 -- "Any children count but 0 has an inner region's layout."
 unfoldable pub readMarks : List ℕ → ℕ → ℕ → ℕ → ℕ → List Mark
@@ -42,11 +46,11 @@ readMarks b m children yards at = choose (eqb children 0) (readLists b yards m a
 
 -- the bytes of one landmark
 unfoldable pub markSize : ℕ → ℕ → ℕ
-markSize children yards = choose (eqb children 0) (2 + 6 * yards) 10
+markSize children yards = choose (eqb children 0) (leafMarkSize yards) innerMarkSize
 
 -- the bytes of a region's record with m landmarks
 unfoldable pub recordSize : ℕ → ℕ → ℕ → ℕ
-recordSize m children yards = 7 + m * markSize children yards
+recordSize m children yards = fieldsSize + m * markSize children yards
 
 -- the bytes of the record at a place, by its own fields
 unfoldable pub sizeAt : List ℕ → ℕ → ℕ → ℕ
@@ -59,7 +63,7 @@ readRegion b m at = record {
   after = u16At b (at + 2);
   children = u8At b (at + 4);
   yards = u16At b (at + 5);
-  marks = readMarks b m (u8At b (at + 4)) (u16At b (at + 5)) (at + 7);
+  marks = readMarks b m (u8At b (at + 4)) (u16At b (at + 5)) (at + fieldsSize);
 }
 
 -- n regions from a place on: "then regions in preorder"
@@ -89,7 +93,7 @@ landmarkCount b = u8At b 11
 
 -- where region i's record stands
 unfoldable pub placeOf : List ℕ → ℕ → ℕ
-placeOf b i = placeFrom b (landmarkCount b) i 12
+placeOf b i = placeFrom b (landmarkCount b) i headerSize
 
 -- the tree that a book holds
 unfoldable pub decode : List ℕ → Tree
@@ -97,5 +101,5 @@ decode b = record {
   junctions = junctionCount b;
   yards = yardCount b;
   landmarks = landmarkCount b;
-  regions = readRegions b (landmarkCount b) (regionCount b) 12;
+  regions = readRegions b (landmarkCount b) (regionCount b) headerSize;
 }

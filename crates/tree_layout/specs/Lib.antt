@@ -1,6 +1,9 @@
 pub mod Values
+pub mod Sizes
 pub mod Decode
 pub mod Refusal
 pub mod Facts
 pub mod Reading
 pub mod Formed
+pub mod Accessors
+pub mod Marks

@@ -48,6 +48,10 @@ leafMark place list = record { place = place; least = firstDistance list; greate
 unfoldable pub innerMark : ℕ → ℕ → ℕ → Mark
 innerMark place least greatest = record { place = place; least = least; greatest = greatest; list = [] }
 
+-- what stands for the landmark of a region that has none
+unfoldable pub noMark : Mark
+noMark = record { place = 0; least = 0; greatest = 0; list = [] }
+
 -- what stands for a region of no number
 unfoldable pub noRegion : Region
 noRegion = record { first = 0; after = 0; children = 0; yards = 0; marks = [] }

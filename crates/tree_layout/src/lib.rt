@@ -1,4 +1,7 @@
 // The tree book's layout: tests 1 to 5 and the header.
+pub mod landmarks; // landmarks.rt: a region's landmarks
+pub mod records; // records.rt: where a tree book's fields stand
+
 use book::Opened;
 ghost use mathlib.Core.Path.{_≡_};
 ghost use mathlib.Core.Bool.{true};
@@ -21,6 +24,34 @@ pub struct Header {
     pub regions: u16,
     pub yards: u16,
     pub landmarks: u8,
+}
+
+// A region's fields, and the place of its record in the book.
+pub struct Fields {
+    pub at: usize,
+    pub first: u16,
+    pub after: u16,
+    pub children: u8,
+    pub yards: u16,
+}
+
+// The least and the greatest distance from a landmark to its region's yards.
+pub struct Span {
+    pub least: u32,
+    pub greatest: u32,
+}
+
+// An element of a leaf's list: a yard and its distance from the landmark.
+pub struct Listed {
+    pub distance: u32,
+    pub yard: u16,
+}
+
+// A region's landmark: its junction, and the least and the greatest distance from it to the region's yards.
+pub struct Landmark {
+    pub place: u16,
+    pub least: u32,
+    pub greatest: u32,
 }
 
 // What reading a tree book's layout finds: its header, or the number of the test that turns it back.

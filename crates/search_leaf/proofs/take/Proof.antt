@@ -1,6 +1,6 @@
 use mathlib.Core.Path.{refl}
 use native.Mathlib.Omega.{arith}
-use Rattle.search_bounds.proofs.Records.{fields-inside}
+use Rattle.tree_layout.proofs.RecordFields.{fields-inside}
 use Rattle.search_leaf.proofs.Landmarks.{slot, record-here, pick-inside, list-room}
 use Rattle.search_leaf.proofs.Leaving.{list-some, list-whole, list-end, list-words, leaf-taken}
 use borrow.Author.Needs.{needs}

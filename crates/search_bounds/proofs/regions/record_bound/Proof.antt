@@ -1,7 +1,7 @@
 use Prim.Native.Nat.{_-_}
 use lib.ListN.{length}
 use native.Mathlib.Omega.{arith}
-use Rattle.search_bounds.specs.Marks.{marksAt}
+use Rattle.tree_layout.specs.Marks.{marksAt}
 use Rattle.search_bounds.specs.Bounds.{rowsCrew}
 use Rattle.search_bounds.proofs.Folds.{Summed, summed-none, summed-room, summed-turn, summed-all}
 use Rattle.search_bounds.proofs.Bounding.{crew-there, bound-made}

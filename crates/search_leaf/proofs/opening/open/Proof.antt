@@ -1,6 +1,6 @@
 use mathlib.Core.Path.{refl}
 use native.Mathlib.Omega.{arith}
-use Rattle.search_bounds.proofs.Records.{fields-inside}
+use Rattle.tree_layout.proofs.RecordFields.{fields-inside}
 use Rattle.search_leaf.proofs.Landmarks.{driven-of, sheet-crews, pick-of, words-room, slot, record-here, pick-inside, pick-small, list-room, place-near, list-near, opens}
 use borrow.Author.Needs.{needs}
 use Rattle.search_leaf.proofs.opening.open.Statement.{statement}

@@ -1,8 +1,8 @@
 use native.Mathlib.Omega.{arith}
-use Rattle.search_bounds.proofs.Records.{fields-inside, mark-inside, place-is}
+use Rattle.tree_layout.proofs.RecordFields.{fields-inside, mark-inside, place-is}
 use borrow.Author.Needs.{needs}
-use Rattle.search_bounds.proofs.marks.mark_place.Statement.{statement}
-use Rattle.search_bounds.proofs.marks.mark_place.Tie as tie
+use Rattle.tree_layout.proofs.landmarks.mark_place.Statement.{statement}
+use Rattle.tree_layout.proofs.landmarks.mark_place.Tie as tie
 
 mark-size-requires : tie.Need-mark-size-requires
 mark-size-requires c κs = fields-inside _ _ (c .before .pre .0)

@@ -6,15 +6,14 @@ use native.Mathlib.Nat.{suc-mul, mul-le-mul-right}
 use native.Mathlib.Omega.{arith}
 use lib.ListN.{length, getD, take, drop}
 use Rattle.book.specs.Bytes.{u8At, u16At, u32At}
-use Rattle.tree_layout.specs.Values.{leafMark, innerMark, firstDistance, lastFrom}
+use Rattle.tree_layout.specs.Values.{noMark, leafMark, innerMark, firstDistance, lastFrom}
 use Rattle.tree_layout.specs.Decode.{markSize, sizeAt, readList, listPart, landmarkCount}
 use Rattle.tree_layout.proofs.Places.{mark-size-leaf, mark-size-inner, size-at, size-least}
 use Rattle.tree_layout.proofs.Reading.{list-part}
 use Rattle.tree_layout.proofs.Ends.{leaf-is, inner-is, first-read, last-read}
 use Rattle.tree_layout.proofs.MarkPlaces.{region-marks, leaf-mark-at, inner-mark-at}
-use Rattle.search_rules.specs.Bounds.{noMark}
-use Rattle.search_bounds.specs.declared.Landmark.{Landmark}
-use Rattle.search_bounds.specs.Marks.{markPlace, marksAt, landmarkOf, RecordAt}
+use Rattle.tree_layout.specs.declared.Landmark.{Landmark}
+use Rattle.tree_layout.specs.Marks.{markPlace, marksAt, landmarkOf, RecordAt}
 
 -- ---- a landmark's bytes
 

@@ -1,8 +1,8 @@
 use mathlib.Core.Path.{refl}
-use Rattle.search_bounds.proofs.Records.{span-ends}
+use Rattle.tree_layout.proofs.RecordFields.{span-ends}
 use borrow.Author.Needs.{needs}
-use Rattle.search_bounds.proofs.marks.of_span.Statement.{statement}
-use Rattle.search_bounds.proofs.marks.of_span.Tie as tie
+use Rattle.tree_layout.proofs.landmarks.of_span.Statement.{statement}
+use Rattle.tree_layout.proofs.landmarks.of_span.Tie as tie
 
 u16-at-requires : tie.Need-u16-at-requires
 u16-at-requires c κs = search needs

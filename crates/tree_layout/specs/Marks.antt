@@ -3,9 +3,9 @@ use mathlib.Core.List.{List, List·Memᴰ as Mem}
 use Prim.Native.Nat.{ℕ, _+_, _*_, _≤_, _<_}
 use lib.ListN.{length}
 use Rattle.book.specs.Bytes.{u8At, u16At}
 use Rattle.tree_layout.specs.Values.{Mark}
 use Rattle.tree_layout.specs.Decode.{markSize, sizeAt, readRegion, landmarkCount}
-use Rattle.search_bounds.specs.declared.Landmark.{Landmark}
+use Rattle.tree_layout.specs.declared.Landmark.{Landmark}
 
 -- where landmark j of the record at a place stands
 unfoldable pub markPlace : List ℕ → ℕ → ℕ → ℕ

@@ -1,7 +1,7 @@
-use Rattle.search_bounds.proofs.Records.{size-inner, size-leaf}
+use Rattle.tree_layout.proofs.RecordFields.{size-inner, size-leaf}
 use borrow.Author.Needs.{needs}
-use Rattle.search_bounds.proofs.marks.mark_size.Statement.{statement}
-use Rattle.search_bounds.proofs.marks.mark_size.Tie as tie
+use Rattle.tree_layout.proofs.landmarks.mark_size.Statement.{statement}
+use Rattle.tree_layout.proofs.landmarks.mark_size.Tie as tie
 
 add-u8-at : tie.Need-add-u8-at
 add-u8-at c = search needs

@@ -2,10 +2,10 @@ use mathlib.Core.Path.{refl}
 use Prim.Native.Nat.{_+_, _*_, _≤_}
 use native.Mathlib.Omega.{arith}
 use lib.ListN.{length}
-use Rattle.search_bounds.proofs.Records.{fields-inside, span-inside, span-is, list-inside, list-is}
+use Rattle.tree_layout.proofs.RecordFields.{fields-inside, span-inside, span-is, list-inside, list-is}
 use borrow.Author.Needs.{needs}
-use Rattle.search_bounds.proofs.marks.landmark.Statement.{statement}
-use Rattle.search_bounds.proofs.marks.landmark.Tie as tie
+use Rattle.tree_layout.proofs.landmarks.landmark.Statement.{statement}
+use Rattle.tree_layout.proofs.landmarks.landmark.Tie as tie
 
 -- the list of a leaf's landmark lies in the book
 list-there : (c : tie.After-u16-at) → c .before .before .before .mark-place .result + (2 + 6 * c .u16-at .result) ≤ length (c .before .before .before .before .before .args .tree .now)

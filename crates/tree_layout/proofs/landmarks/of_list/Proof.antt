@@ -1,8 +1,8 @@
 use mathlib.Core.Path.{refl}
-use Rattle.search_bounds.proofs.Records.{list-ends}
+use Rattle.tree_layout.proofs.RecordFields.{list-ends}
 use borrow.Author.Needs.{needs}
-use Rattle.search_bounds.proofs.marks.of_list.Statement.{statement}
-use Rattle.search_bounds.proofs.marks.of_list.Tie as tie
+use Rattle.tree_layout.proofs.landmarks.of_list.Statement.{statement}
+use Rattle.tree_layout.proofs.landmarks.of_list.Tie as tie
 
 u32-at-requires : tie.Need-u32-at-requires
 u32-at-requires c κs = search needs

@@ -1,0 +1,27 @@
+-- What the accessors of a tree book's fields give. Assumes nothing: these are definitions.
+use mathlib.Core.List.{List}
+use Prim.Native.Nat.{ℕ, _+_, _*_}
+use Rattle.book.specs.Bytes.{u8At, u16At, u32At}
+use Rattle.tree_layout.specs.Values.{Element}
+use Rattle.tree_layout.specs.Decode.{elementAt}
+use Rattle.tree_layout.specs.declared.Fields.{Fields}
+use Rattle.tree_layout.specs.declared.Span.{Span}
+use Rattle.tree_layout.specs.declared.Listed.{Listed}
+
+-- the fields of the record at a place, and the place
+abbrev pub fieldsAt : List ℕ → ℕ → Fields
+fieldsAt b at = record {
+  at = at;
+  first = u16At b at;
+  after = u16At b (at + 2);
+  children = u8At b (at + 4);
+  yards = u16At b (at + 5);
+}
+
+-- an inner region's least and greatest, of the landmark at a place
+abbrev pub spanAt : List ℕ → ℕ → Span
+spanAt b at = record { least = u32At b (at + 2); greatest = u32At b (at + 6) }
+
+-- element number k of a list
+abbrev pub listedAt : List ℕ → ℕ → Listed
+listedAt p k = record { distance = u32At p (6 * k); yard = u16At p (6 * k + 4) }

@@ -1,0 +1,104 @@
+// Where a tree book's fields stand. No other crate knows.
+use crate::Fields;
+use crate::Header;
+use crate::Listed;
+use crate::Span;
+use book::Junction;
+ghost use mathlib.Core.Path.{_≡_};
+ghost use Prim.Native.Nat.{ℕ, _+_, _*_, _≤_, _<_};
+ghost use lib.ListN.{length};
+ghost use Rattle.book.specs.Bytes.{u16At};
+ghost use Rattle.tree_layout.specs.Decode.{listPart};
+ghost use Rattle.tree_layout.specs.Accessors.{fieldsAt, spanAt, listedAt};
+ghost use Rattle.tree_layout.specs.Reading.{headerOf};
+
+// Where the first region's record stands, after the header.
+pub const FIRST_RECORD: usize = 12;
+
+// The bytes of a landmark of an inner region.
+pub const INNER_MARK: usize = 10;
+
+// The bytes of a landmark of a leaf with so many yards.
+pub fn leaf_mark(yards: usize) -> usize
+    requires { ⌜ yards ≤ 65535 ⌝ }
+    ensures { λ r. ⌜ r ≡ 2 + 6 * yards ⌝ }
+{
+    2 + 6 * yards
+}
+
+// Where the landmarks of the record at a place stand.
+pub fn marks_at(at: usize) -> usize
+    requires { ⌜ at ≤ 4294967295 ⌝ }
+    ensures { λ r. ⌜ r ≡ at + 7 ⌝ }
+{
+    at + 7
+}
+
+// The header's counts.
+pub fn header(b: &[u8]) -> Header
+    requires { ⌜ 12 ≤ length (now b) ⌝ }
+    ensures { λ r. ⌜ r ≡ headerOf (now (b .entry)) ⌝ }
+{
+    Header {
+        junctions: book::u16_at(b, 5),
+        regions: book::u16_at(b, 7),
+        yards: book::u16_at(b, 9),
+        landmarks: book::u8_at(b, 11),
+    }
+}
+
+// The fields of the region whose record is at a place.
+pub fn fields(b: &[u8], at: usize) -> Fields
+    requires { ⌜ at + 7 ≤ length (now b) ⌝ }
+    ensures { λ f. ⌜ f ≡ fieldsAt (now (b .entry)) at ⌝ }
+{
+    Fields {
+        at,
+        first: book::u16_at(b, at),
+        after: book::u16_at(b, at + 2),
+        children: book::u8_at(b, at + 4),
+        yards: book::u16_at(b, at + 5),
+    }
+}
+
+// The junction of the landmark at a place.
+pub fn junction(b: &[u8], at: usize) -> Junction
+    requires { ⌜ at + 2 ≤ length (now b) ⌝ }
+    ensures { λ r. ⌜ r .number ≡ u16At (now (b .entry)) at ⌝ }
+{
+    Junction {
+        number: book::u16_at(b, at),
+    }
+}
+
+// The least and greatest of an inner region's landmark at a place.
+pub fn span(b: &[u8], at: usize) -> Span
+    requires { ⌜ at + 10 ≤ length (now b) ⌝ }
+    ensures { λ r. ⌜ r ≡ spanAt (now (b .entry)) at ⌝ }
+{
+    Span {
+        least: book::u32_at(b, at + 2),
+        greatest: book::u32_at(b, at + 6),
+    }
+}
+
+// The list of a leaf's landmark at a place: the part of the book that starts where its record puts it.
+pub fn list(b: &[u8], at: usize, yards: usize) -> &[u8]
+    requires { ⌜ at + (2 + 6 * yards) ≤ length (now b) ⌝ }
+    ensures { λ p. ⌜ now p ≡ listPart (now (b .entry)) yards (at + 2) ⌝ }
+{
+    let start = at + 2;
+    let end = start + 6 * yards;
+    &b[start..end]
+}
+
+// Element number k of a list.
+pub fn element(p: &[u8], k: usize) -> Listed
+    requires { ⌜ 6 * k + 6 ≤ length (now p) ⌝ }
+    ensures { λ e. ⌜ e ≡ listedAt (now (p .entry)) k ⌝ }
+{
+    Listed {
+        distance: book::u32_at(p, 6 * k),
+        yard: book::u16_at(p, 6 * k + 4),
+    }
+}
