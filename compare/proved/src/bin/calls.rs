@@ -1,6 +1,10 @@
-//! The command `calls`: how long the proved calls take beside the plain ones, on the grid district with 256 yards.
+//! The command `calls`: how long the proved calls take beside the plain ones, on the grid district with 256 yards; searches also beside brute force, in Rust and,
+//! where LEMON is installed, with its Dijkstra in C++.
 #![forbid(unsafe_code)]
 
+use std::fs;
+use std::path::Path;
+use std::process::Command;
 use std::time::Duration;
 
 use compare::build::AREA_BYTES;
@@ -30,8 +34,9 @@ struct District {
     yard: Vec<u8>,
 }
 
-/// Prints a row for each call: the proved call's time, the plain one's, and the ratio.
+/// Prints a row for each call: the proved call's time, the plain one's, and the ratio. The argument, if any, is the LEMON peer.
 fn main() {
+    let peer = std::env::args().nth(1);
     let district = District {
         road: standard::road_book("grid", SEED).expect("the kind is known"),
         yard: standard::yard_book(YARDS, SEED).expect("a book may have so many"),
@@ -43,12 +48,12 @@ fn main() {
     for leaf_limit in LEAF_LIMITS {
         build_row(&district, leaf_limit);
     }
-    println!("search crews  k aggregate   proved ms   plain ms   ratio   wanted   brute force ms   ratio");
+    println!("search crews  k aggregate   proved ms   plain ms   ratio   wanted   brute force ms   ratio   LEMON ms   ratio");
     let tree = built(&district, LEAF_LIMIT);
     for crews in CREWS {
         for k in KS {
             for aggregate in 0..AGGREGATES.len() {
-                search_row(&district, &tree, crews, k, aggregate);
+                search_row(&district, &tree, (crews, k, aggregate), peer.as_deref());
             }
         }
     }
@@ -89,8 +94,9 @@ fn row(call: &str, leaf_limit: u32, ours: Call, theirs: Call) {
     println!("{call:<6} {leaf_limit:>10} {best:>11.2} {plain:>10.2} {ratio:>7.2} {WANTED:>8.1}");
 }
 
-/// One search's row, also beside brute force. All three must give the same list.
-fn search_row(district: &District, tree: &[u8], crews: usize, k: u8, aggregate: usize) {
+/// One search's row, also beside brute force. All must give the same list.
+fn search_row(district: &District, tree: &[u8], asked: (usize, u8, usize), peer: Option<&str>) {
+    let (crews, k, aggregate) = asked;
     let query = some_query(crews, k, aggregate);
     let District { road, yard } = district;
     let mut lists = [[0; 128]; 3];
@@ -101,9 +107,48 @@ fn search_row(district: &District, tree: &[u8], crews: usize, k: u8, aggregate: 
     let [best, plain, brute] = shortest(SEARCH_TURNS, [ours, theirs, brute]);
     assert!(lists[0] == lists[1] && lists[1] == lists[2]);
     let (aggregate, ratio, gain) = (AGGREGATES[aggregate], best / plain, best / brute);
-    println!(
+    print!(
         "search {crews:>5} {k:>2} {aggregate:<9} {best:>11.3} {plain:>10.3} {ratio:>7.2} {WANTED:>8.1} {brute:>16.3} {gain:>7.2}"
     );
+    if let Some(peer) = peer {
+        let lemon = by_peer(
+            Path::new(peer),
+            [road, yard, &query],
+            &lists[0][..2 * usize::from(k)],
+        );
+        print!(" {lemon:>10.3} {:>7.2}", best / lemon);
+    }
+    println!();
+}
+
+/// The shortest time of brute force by the LEMON peer, which must give the same list.
+fn by_peer(peer: &Path, books: [&[u8]; 3], list: &[u32]) -> f64 {
+    let names = ["road", "yard", "query"]
+        .map(|name| std::env::temp_dir().join(format!("calls-{}-{name}", std::process::id())));
+    for (name, book) in names.iter().zip(books) {
+        fs::write(name, book).expect("there is a folder for temporary files");
+    }
+    let seconds = (SEARCH_TURNS / 4).as_secs_f64().to_string();
+    let output = Command::new(peer)
+        .arg("search")
+        .args(&names)
+        .arg(seconds)
+        .output()
+        .expect("the peer runs");
+    for name in &names {
+        let _ = fs::remove_file(name);
+    }
+    let text = String::from_utf8(output.stdout).expect("the peer prints text");
+    let mut words = text.split_whitespace();
+    let time = words
+        .next()
+        .and_then(|word| word.parse().ok())
+        .expect("the peer prints its time");
+    let theirs: Vec<u32> = words
+        .map(|word| word.parse().expect("the peer prints numbers"))
+        .collect();
+    assert_eq!(theirs, list);
+    time
 }
 
 /// A query with so many crews anywhere in the district, and steps enough.
