@@ -1,10 +1,10 @@
 -- `roadsOk`, one road at a time, as a loop counts: `count - k` roads are left. Assumes nothing.
-use mathlib.Core.Path.{_≡_, refl, sym, _∙_}
+use mathlib.Core.Path.{_≡_}
 use mathlib.Core.Bool.{true, false}
 use mathlib.Core.List.{List}
-use Prim.Native.Nat.{ℕ, zero, suc, _+_, _-_, _≤_, _<_}
+use Prim.Native.Nat.{ℕ, suc, _+_, _-_, _≤_, _<_}
 use native.Mathlib.Omega.{arith}
-use Rattle.road_layout.specs.Road.{Road, roadAt}
+use Rattle.road_layout.specs.Road.{roadAt}
 use Rattle.road_layout.specs.Layout.{roadOk, roadsOk}
 use Rattle.road_layout.proofs.Roads.{read-road}
 

@@ -1,6 +1,6 @@
 use book::Opened;
 ghost use mathlib.Core.Path.{_≡_};
-ghost use Prim.Native.Nat.{ℕ, _+_, _*_, _≤_, _<_};
+ghost use Prim.Native.Nat.{_+_, _*_, _≤_};
 ghost use lib.ListN.{length};
 ghost use Rattle.road_layout.specs.Road.{junctions, roadCount, roadAt};
 ghost use Rattle.road_layout.specs.Layout.{roadOk, roadsOk, layoutRefusal, told};
