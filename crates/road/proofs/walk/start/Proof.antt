@@ -12,11 +12,11 @@ clear-requires c κs = search needs
 cast-s : tie.Need-cast-s
 cast-s c = search needs
 
-mul-ds : tie.Need-mul-ds
-mul-ds c = search needs
+mul-row : tie.Need-mul-row
+mul-row c = search needs
 
-slice-write-ds : tie.Need-slice-write-ds
-slice-write-ds c = search needs
+slice-write-row : tie.Need-slice-write-row
+slice-write-row c = search needs
 
 cast-put : tie.Need-cast-put
 cast-put c = search needs
@@ -43,8 +43,8 @@ start-spec =
     reset-requires
     clear-requires
     cast-s
-    mul-ds
-    slice-write-ds
+    mul-row
+    slice-write-row
     cast-put
     put-requires
     same-length

@@ -1,7 +1,7 @@
-use Rattle.road_rows.proofs.Copying.{cell-is}
+use Rattle.road.proofs.Filling.{cell-is}
 use borrow.Author.Needs.{needs}
-use Rattle.road_rows.proofs.cell.Statement.{statement}
-use Rattle.road_rows.proofs.cell.Tie as tie
+use Rattle.road.proofs.rows.cell.Statement.{statement}
+use Rattle.road.proofs.rows.cell.Tie as tie
 
 mul-result : tie.Need-mul-result
 mul-result c = search needs
