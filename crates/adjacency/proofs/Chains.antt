@@ -25,7 +25,8 @@ pub roads-none : (test : ℕ → Bool) (u : ℕ) → anyFrom test u (arcs []) �
 unfolding anyFrom arcs
 roads-none test u = refl
 
-pub roads-next : (test : ℕ → Bool) (u : ℕ) (r : Road) (rs : List Road) → anyFrom test u (arcs (r ∷ rs)) ≡ ((eqb (r .high) u && test (r .low)) || ((eqb (r .low) u && test (r .high)) || anyFrom test u (arcs rs)))
+pub roads-next : (test : ℕ → Bool) (u : ℕ) (r : Road) (rs : List Road)
+    → anyFrom test u (arcs (r ∷ rs)) ≡ ((eqb (r .high) u && test (r .low)) || ((eqb (r .low) u && test (r .high)) || anyFrom test u (arcs rs)))
 unfolding anyFrom arcs along back
 roads-next test u r rs = refl
 
@@ -37,7 +38,8 @@ pub record ChainAt (test : ℕ → Bool) (u : ℕ) (adj : List ℕ) (whole : Boo
   pub number : x ≡ lastArc u rest
   pub same : anyFrom test u rest ≡ whole
 
-pub chain-begin : (test : ℕ → Bool) (b : List ℕ) (adj : List ℕ) (u : ℕ) → Adjacency b adj → u < 1024 → ChainAt test u adj (anyFrom test u (net b)) (headAt adj u)
+pub chain-begin : (test : ℕ → Bool) (b : List ℕ) (adj : List ℕ) (u : ℕ) → Adjacency b adj → u < 1024
+    → ChainAt test u adj (anyFrom test u (net b)) (headAt adj u)
 chain-begin test b adj u a h = record {
   rest = net b;
   linked = a .linked;

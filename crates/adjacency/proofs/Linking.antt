@@ -16,7 +16,8 @@ use Rattle.road_layout.specs.Layout.{layoutRefusal}
 use Rattle.road_layout.proofs.Roads.{roads-none, roads-more, roads-all}
 use Rattle.road_layout.proofs.Layouts.{passing-layout}
 use Rattle.adjacency.specs.Arcs.{Arc, along, back, arcs, net}
-use Rattle.adjacency.specs.Adjacency.{adjacencyWords, headPlace, arcPlace, countIn, headAt, nextAt, toAt, costAt, pushArc, pushRoad, lastArc, Linked, Bare, Adjacency}
+use Rattle.adjacency.specs.Adjacency.{adjacencyWords, headPlace, arcPlace, countIn, headAt, nextAt, toAt, costAt}
+use Rattle.adjacency.specs.Adjacency.{pushArc, pushRoad, lastArc, Linked, Bare, Adjacency}
 
 -- no arc, no newest
 pub last-none : (u : ℕ) → lastArc u [] ≡ 0
@@ -116,13 +117,15 @@ module _ (adj : List ℕ) (i u v s : ℕ) where
       to-same : toAt (pushArc adj i u v s) i ≡ v
       unfolding toAt pushArc
       to-same =
-          getD-set-other cost-put (headPlace u) (arcPlace i + 1) i 0 (λ e. omega arith) ∙ getD-set-other to-put (arcPlace i + 2) (arcPlace i + 1) s 0 (λ e. omega arith)
+          getD-set-other cost-put (headPlace u) (arcPlace i + 1) i 0 (λ e. omega arith)
+          ∙ getD-set-other to-put (arcPlace i + 2) (arcPlace i + 1) s 0 (λ e. omega arith)
           ∙ getD-set-same next-put (arcPlace i + 1) v 0 (simp length-set (omega arith))
 
       cost-same : costAt (pushArc adj i u v s) i ≡ s
       unfolding costAt pushArc
       cost-same =
-          getD-set-other cost-put (headPlace u) (arcPlace i + 2) i 0 (λ e. omega arith) ∙ getD-set-same to-put (arcPlace i + 2) s 0 (simp length-set (omega arith))
+          getD-set-other cost-put (headPlace u) (arcPlace i + 2) i 0 (λ e. omega arith)
+          ∙ getD-set-same to-put (arcPlace i + 2) s 0 (simp length-set (omega arith))
 
 -- the array is the adjacency of a list of arcs between n junctions
 pub record Holds (n : ℕ) (xs : List Arc) (adj : List ℕ) : Type 0 where

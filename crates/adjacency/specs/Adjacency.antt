@@ -1,4 +1,4 @@
--- A road book's adjacency in one array of words: its junction count, and for each junction the chain of its arcs, newest first.
+-- A road book's adjacency in one array of words: its junction count, and for each junction its arcs, newest first.
 -- Arcs count from 1, in the order in which they are written; 0 is none. Assumes nothing: these are definitions.
 use mathlib.Core.Path.{_≡_}
 use mathlib.Core.List.{List, [], _∷_}

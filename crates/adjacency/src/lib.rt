@@ -1,10 +1,11 @@
-// A road book's adjacency in one array of words: its junction count, and for each junction the chain of its arcs, newest first.
+// A road book's adjacency in one array of words: its junction count, and for each junction its arcs, newest first.
 ghost use mathlib.Core.Path.{_≡_};
 ghost use Prim.Native.Nat.{_+_, _*_, _≤_, _<_};
 ghost use lib.ListN.{length};
 ghost use Rattle.road_layout.specs.Road.{roadAt};
 ghost use Rattle.road_layout.specs.Layout.{layoutRefusal};
-ghost use Rattle.adjacency.specs.Adjacency.{adjacencyWords, countIn, headAt, nextAt, toAt, costAt, pushArc, pushRoad, Bare, Adjacency};
+ghost use Rattle.adjacency.specs.Adjacency.{adjacencyWords, countIn, headAt, nextAt, toAt, costAt};
+ghost use Rattle.adjacency.specs.Adjacency.{pushArc, pushRoad, Bare, Adjacency};
 
 // How many words there are.
 pub const WORDS: usize = 25601;

@@ -1,9 +1,10 @@
-// Reads a road book from standard input, and writes for each junction its greatest distance to any junction and the sum of its distances to all.
+// Reads a road book from standard input, and writes for each junction its greatest distance to any junction and the sum
+// of its distances to all.
 use book::Junction;
 use libc::STDOUT_FILENO;
 use road_layout::RoadBook;
 ghost use mathlib.Core.Path.{_≡_};
-ghost use Prim.Native.Nat.{ℕ, _≤_, _<_, max};
+ghost use Prim.Native.Nat.{_≤_, _<_, max};
 ghost use lib.ListN.{length};
 ghost use Rattle.adjacency.specs.Adjacency.{countIn, IsAdjacency};
 ghost use Rattle.eccentricity.specs.Rows.{furthestOf, totalOf};

@@ -1,4 +1,5 @@
--- The walk's queue: a tournament tree over the junctions, by distance and then number. Assumes nothing: these are definitions.
+-- The walk's queue: a tournament over the junctions, by distance and then number.
+-- Assumes nothing: these are definitions.
 use mathlib.Core.Path.{_≡_}
 use mathlib.Core.Bool.{Bool}
 use mathlib.Core.List.{List, [], _∷_}

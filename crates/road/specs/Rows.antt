@@ -1,4 +1,5 @@
--- Rows of distances: an array with 1,024 words to a row, and a row for each of some sources. Assumes nothing: these are definitions.
+-- Rows of distances: an array with 1,024 words to a row, and a row for each of some sources.
+-- Assumes nothing: these are definitions.
 use mathlib.Core.Path.{_≡_}
 use mathlib.Core.List.{List, List·Memᴰ as Mem}
 use Prim.Native.Nat.{ℕ, _+_, _*_, _≤_, _<_}

@@ -43,7 +43,8 @@ fn connected(adj: &[u16]) -> bool
 // Reads a road book through tests 1 to 6, and keeps its adjacency.
 pub fn read(b: &[u8], adj: &mut [u16]) -> RoadBook
     requires { ⌜ length (now adj) ≡ adjacencyWords ⌝ }
-    ensures answer { λ r. ⌜ r ≡ told (roadRefusal (now (b .entry))) (junctions (now (b .entry))) (roadCount (now (b .entry))) ⌝ }
+    ensures answer { λ r. ⌜ r
+        ≡ told (roadRefusal (now (b .entry))) (junctions (now (b .entry))) (roadCount (now (b .entry))) ⌝ }
     ensures adjacency { λ _. ⌜ (roadRefusal (now (b .entry)) ≡ 0 → Adjacency (now (b .entry)) (now (adj .exit))) ⌝ }
 {
     let layout = road_layout::read(b);

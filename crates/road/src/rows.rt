@@ -18,8 +18,10 @@ pub fn cell(rows: &[u32], r: usize, v: u16) -> u32
 
 // Fills in a row for each source: its distances to every junction.
 pub fn fill(adj: &[u16], sources: &[u16], rows: &mut [u32])
-    requires { ⌜ IsAdjacency (now adj) × Within (countIn (now adj)) (now sources) × (1024 * length (now sources) ≤ length (now rows)) ⌝ }
-    ensures { λ _. ⌜ ((road : List ℕ) → Adjacency road (now (adj .entry)) → Rowed road (now (sources .entry)) (now (rows .exit))) ⌝ }
+    requires { ⌜ IsAdjacency (now adj) × Within (countIn (now adj)) (now sources)
+        × (1024 * length (now sources) ≤ length (now rows)) ⌝ }
+    ensures { λ _. ⌜ ((road : List ℕ) → Adjacency road (now (adj .entry))
+        → Rowed road (now (sources .entry)) (now (rows .exit))) ⌝ }
 {
     let mut r: usize = 0;
     while r < sources.len() {

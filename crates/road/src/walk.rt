@@ -30,8 +30,10 @@ pub fn distance_to(ds: &[u32], v: u16) -> u32
 
 // Makes x junction v's distance and queues it, if x is shorter.
 fn shorten(row: &mut [u32], queue: &mut [u64], v: u16, x: u32)
-    requires { ⌜ (length (now row) ≡ 1024) × (length (now queue) ≡ queueWords) × (v < 1024) × Above (now row) (now queue) ⌝ }
-    ensures { λ _. ⌜ reach (now (row .exit)) (now (queue .exit)) ≡ shortenBoth (reach (now (row .entry)) (now (queue .entry))) v x ⌝ }
+    requires { ⌜ (length (now row) ≡ 1024) × (length (now queue) ≡ queueWords) × (v < 1024)
+        × Above (now row) (now queue) ⌝ }
+    ensures { λ _. ⌜ reach (now (row .exit)) (now (queue .exit))
+        ≡ shortenBoth (reach (now (row .entry)) (now (queue .entry))) v x ⌝ }
 {
     let i = v as usize;
     if x < row[i] {
@@ -82,18 +84,12 @@ pub fn round(
 )
     requires { ⌜ IsAdjacency (now adj) × (source .number < countIn (now adj)) × (k < countIn (now adj))
         × WalkingIn (now adj) (source .number) k (now row) (now done) (now queue) ⌝ }
-    ensures { λ _. ⌜ WalkingIn (now (adj .entry)) (source .number) (k + 1) (now (row .exit)) (now (done .exit)) (now (queue .exit)) ⌝ }
+    ensures { λ _. ⌜ WalkingIn (now (adj .entry)) (source .number) (k + 1)
+        (now (row .exit)) (now (done .exit)) (now (queue .exit)) ⌝ }
 {
     let t = tournament::least(queue);
     if t < MARK {
-        walk_on(
-            adj,
-            row,
-            done,
-            queue,
-            (t % 1024) as u16,
-            (t / 1024) as u32,
-        );
+        walk_on(adj, row, done, queue, (t % 1024) as u16, (t / 1024) as u32);
     }
 }
 
@@ -113,7 +109,8 @@ fn reset(row: &mut [u32], done: &mut [bool])
 // Starts a walk from a source: only the source is reached, at 0.
 pub fn start(row: &mut [u32], done: &mut [bool], queue: &mut [u64], source: Junction)
     requires { ⌜ Roomy (now row) (now done) (now queue) × (source .number < 1024) ⌝ }
-    ensures { λ _. ⌜ ((b : List ℕ) → Walking b (source .number) 0 (now (row .exit)) (now (done .exit)) (now (queue .exit))) ⌝ }
+    ensures { λ _. ⌜ ((b : List ℕ)
+        → Walking b (source .number) 0 (now (row .exit)) (now (done .exit)) (now (queue .exit))) ⌝ }
 {
     reset(row, done);
     tournament::clear(queue, MARK);

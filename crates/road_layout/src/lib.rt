@@ -94,7 +94,8 @@ fn roads_ok(b: &[u8], count: usize, n: u16) -> bool
 
 // Reads a road book through tests 1 to 5.
 pub fn read(b: &[u8]) -> RoadBook
-    ensures { λ r. ⌜ r ≡ told (layoutRefusal (now (b .entry))) (junctions (now (b .entry))) (roadCount (now (b .entry))) ⌝ }
+    ensures { λ r. ⌜ r
+        ≡ told (layoutRefusal (now (b .entry))) (junctions (now (b .entry))) (roadCount (now (b .entry))) ⌝ }
 {
     let o = book::open(b, 4);
     let Opened::Body = o else {

@@ -31,7 +31,8 @@ loop-holds c = (omega arith, none-holds _ _ _ (c .before .before .before .before
 
 push-road-requires : tie.Need-push-road-requires Inv-loop μ-loop
 push-road-requires c κs =
-    let r = road-ready _ _ _ (c .before .before .before .before .before .before .before .before .before .before .before .pre .0) (c .before .before .before .road-count .ensures) (c .before .loop-test .taken) in
+    let far = c .before .before .before .before .before .before .before .before in
+    let r = road-ready _ _ _ (far .before .before .before .pre .0) (c .before .before .before .road-count .ensures) (c .before .loop-test .taken) in
     (r .place, r .few, r .low, r .high, c .before .before .loop .inv .1 .size)
 
 add-k : tie.Need-add-k Inv-loop μ-loop
@@ -42,14 +43,18 @@ loop-less c = search needs
 
 loop-again : tie.Need-loop-again Inv-loop μ-loop
 loop-again c =
-    let r = road-ready _ _ _ (c .before .before .before .before .before .before .before .before .before .before .before .before .before .before .pre .0) (c .before .before .before .before .before .before .road-count .ensures) (c .before .before .before .before .loop-test .taken) in
+    let far = c .before .before .before .before .before .before .before .before in
+    let r = road-ready _ _ _ (far .before .before .before .before .before .before .pre .0)
+    (c .before .before .before .before .before .before .road-count .ensures) (c .before .before .before .before .loop-test .taken) in
     (omega arith, road-put _ _ _ _ r (c .before .before .push-road .ensures) (c .before .before .before .before .before .loop .inv .1))
 
 same-length : tie.Need-same-length Inv-loop μ-loop
 same-length c = search needs
 
 returns : tie.Need-returns Inv-loop μ-loop
-returns c = all-put _ _ _ (c .before .before .before .before .before .before .before .before .before .before .pre .0) (c .before .before .road-count .ensures) _ (omega arith) (c .before .loop .inv .1)
+returns c =
+    let far = c .before .before .before .before .before .before .before .before in
+    all-put _ _ _ (far .before .before .pre .0) (c .before .before .road-count .ensures) _ (omega arith) (c .before .loop .inv .1)
 
 pub fill-spec : {M : Type 1} → statement M
 fill-spec =

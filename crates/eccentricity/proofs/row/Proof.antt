@@ -29,7 +29,9 @@ slice-aggregate-furthest : tie.Need-slice-aggregate-furthest
 slice-aggregate-furthest c = search needs
 
 furthest-requires : tie.Need-furthest-requires
-furthest-requires c κs = omega (arith, few-junctions (c .before .before .before .before .before .before .before .before .before .pre .0 .adjacent), c .before .before .before .before .junctions .ensures, c .before .before .before .before .before .before .distances .kept)
+furthest-requires c κs =
+    let few = few-junctions (c .before .before .before .before .before .before .before .before .before .pre .0 .adjacent) in
+    omega (arith, c .before .before .before .before .junctions .ensures, c .before .before .before .before .before .before .distances .kept)
 
 print-decimal-requires-2 : tie.Need-print-decimal-requires-2
 print-decimal-requires-2 c κs = search needs
@@ -45,9 +47,10 @@ slice-aggregate-total c = search needs
 
 total-requires : tie.Need-total-requires
 total-requires c κs =
-    let few = few-junctions (c .before .before .before .before .before .before .before .before .before .before .before .before .before .before .pre .0 .adjacent) in
-    let e = c .before .before .before .before .before .before .before .before .before .junctions .ensures in
-    (omega (arith, few, e, c .before .before .before .before .before .before .before .before .before .before .before .distances .kept), omega (arith, few, e))
+    let far = c .before .before .before .before .before .before .before .before in
+    let few = few-junctions (far .before .before .before .before .before .before .pre .0 .adjacent) in
+    let e = far .before .junctions .ensures in
+    (omega (arith, few, e, far .before .before .before .distances .kept), omega (arith, few, e))
 
 print-decimal-requires-3 : tie.Need-print-decimal-requires-3
 print-decimal-requires-3 c κs = search needs

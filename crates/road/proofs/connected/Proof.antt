@@ -22,10 +22,14 @@ cast-all-reached : tie.Need-cast-all-reached
 cast-all-reached c = search needs
 
 all-reached-requires : tie.Need-all-reached-requires
-all-reached-requires c κs = omega (arith, few-junctions (c .before .before .before .before .before .before .pre .adjacent), c .junctions .ensures, c .before .before .before .distances .kept)
+all-reached-requires c κs =
+    omega
+    (arith, few-junctions (c .before .before .before .before .before .before .pre .adjacent), c .junctions .ensures, c .before .before .before .distances .kept)
 
 returns : tie.Need-returns
-returns c = λ b ad. reached-by _ _ _ _ _ (c .all-reached .ensures) (c .before .before .before .before .distances .ensures b ad) (c .before .junctions .ensures ∙ ad .count)
+returns c =
+    λ b ad. reached-by _ _ _ _ _ (c .all-reached .ensures) (c .before .before .before .before .distances .ensures b ad)
+    (c .before .junctions .ensures ∙ ad .count)
 
 pub connected-spec : {M : Type 1} → statement M
 connected-spec =

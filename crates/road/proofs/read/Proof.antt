@@ -21,7 +21,10 @@ returns c =
     (layout-refused _ _ _ e f, λ z. absurd (layout-fails _ _ _ e f z))
 
 fill-requires : tie.Need-fill-requires
-fill-requires c κs = (layout-sound _ _ _ _ (c .before .before .before .before .read .ensures) (c .before .before .layout .given .1) .0, c .before .before .before .before .before .before .before .pre)
+fill-requires c κs = (
+  layout-sound _ _ _ _ (c .before .before .before .before .read .ensures) (c .before .before .layout .given .1) .0,
+  c .before .before .before .before .before .before .before .pre,
+)
 
 connected-requires : tie.Need-connected-requires
 connected-requires c κs = search needs
@@ -31,7 +34,8 @@ same-length c = search needs
 
 returns-2 : tie.Need-returns-2
 returns-2 c =
-    let s = layout-sound _ _ _ _ (c .before .before .before .before .before .before .before .before .before .before .read .ensures) (c .before .before .before .before .before .before .before .before .layout .given .1) in
+    let far = c .before .before .before .before .before .before .before .before in
+    let s = layout-sound _ _ _ _ (far .before .before .read .ensures) (far .layout .given .1) in
     let a = c .before .before .before .before .before .fill .ensures in
     (cut-off _ (s .0) (sym (c .before .connected .ensures _ a) ∙ not-true _ (c .if1 .taken)), λ z. a)
 
@@ -40,7 +44,8 @@ same-length-2 c = search needs
 
 returns-3 : tie.Need-returns-3
 returns-3 c =
-    let s = layout-sound _ _ _ _ (c .before .before .before .before .before .before .before .before .before .before .read .ensures) (c .before .before .before .before .before .before .before .before .layout .given .1) in
+    let far = c .before .before .before .before .before .before .before .before in
+    let s = layout-sound _ _ _ _ (far .before .before .read .ensures) (far .layout .given .1) in
     let a = c .before .before .before .before .before .fill .ensures in
     (sound _ (s .0) _ _ (sym (c .before .connected .ensures _ a) ∙ not-false _ (c .if1 .left)) (s .1) (s .2), λ z. a)
 

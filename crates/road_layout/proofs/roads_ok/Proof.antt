@@ -27,8 +27,9 @@ road-ok-requires c κs = search needs
 returns : tie.Need-returns Inv-loop μ-loop
 returns c =
     let r = c .before .before .road-at .ensures in
-    sym (stops _ _ _ _ _ _ _ _ _ (r .0) (r .1) (r .2) (c .before .before .before .loop-test .taken) (sym (c .before .road-ok .ensures) ∙ not-true _ (c .if1 .taken)))
-    ∙ c .before .before .before .before .loop .inv .1
+    let t = c .before .before .before .loop-test .taken in
+    let e = sym (c .before .road-ok .ensures) ∙ not-true _ (c .if1 .taken) in
+    sym (stops _ _ _ _ _ _ _ _ _ (r .0) (r .1) (r .2) t e) ∙ c .before .before .before .before .loop .inv .1
 
 add-k : tie.Need-add-k Inv-loop μ-loop
 add-k c = search needs
@@ -38,11 +39,10 @@ loop-less c = search needs
 
 loop-again : tie.Need-loop-again Inv-loop μ-loop
 loop-again c =
-    let r = c .before .before .road-at .ensures in (
-      omega arith,
-      goes-on _ _ _ _ _ _ _ _ _ (r .0) (r .1) (r .2) (c .before .before .before .loop-test .taken) (sym (c .before .road-ok .ensures) ∙ not-false _ (c .if1 .left))
-          ∙ c .before .before .before .before .loop .inv .1,
-    )
+    let r = c .before .before .road-at .ensures in
+    let t = c .before .before .before .loop-test .taken in
+    let e = sym (c .before .road-ok .ensures) ∙ not-false _ (c .if1 .left) in
+    (omega arith, goes-on _ _ _ _ _ _ _ _ _ (r .0) (r .1) (r .2) t e ∙ c .before .before .before .before .loop .inv .1)
 
 returns-2 : tie.Need-returns-2 Inv-loop μ-loop
 returns-2 c = sym (ends _ _ _ _ _ _ (c .loop-test .left)) ∙ c .before .loop .inv .1

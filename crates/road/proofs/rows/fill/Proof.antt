@@ -11,7 +11,7 @@ use Rattle.road.proofs.rows.fill.Statement.{statement}
 use Rattle.road.proofs.rows.fill.Tie as tie
 
 abbrev Inv-loop : tie.InvT-loop
-Inv-loop adj sources rows₀ r₀ rows r = 
+Inv-loop adj sources rows₀ r₀ rows r =
     (r ≤ length sources) × (length rows ≡ length rows₀) × ((road : List ℕ) → Adjacency road adj → RowedTo r road sources rows)
 
 abbrev μ-loop : tie.MeasureT-loop
@@ -47,8 +47,11 @@ part-distances-end c = search needs
 distances-requires : tie.Need-distances-requires Inv-loop μ-loop
 distances-requires c κs =
     let p = c .before .before .before .before .before .before .before .pre in
-    let i = c .before .before .before .loop .inv in
-    (p .0, part-size _ _ (row-inside _ _ _ (c .before .before .loop-test .taken) (omega (arith, i .1, p .2))), p .1 _ (getD-mem _ _ _ (c .before .before .loop-test .taken)))
+    let i = c .before .before .before .loop .inv in (
+      p .0,
+      part-size _ _ (row-inside _ _ _ (c .before .before .loop-test .taken) (omega (arith, i .1, p .2))),
+      p .1 _ (getD-mem _ _ _ (c .before .before .loop-test .taken)),
+    )
 
 add-r : tie.Need-add-r Inv-loop μ-loop
 add-r c = search needs
@@ -58,12 +61,16 @@ loop-less c = search needs
 
 loop-again : tie.Need-loop-again Inv-loop μ-loop
 loop-again c =
+    let far = c .before .before .before .before .before .before .before .before in
     let l = c .before .before .before .before .before .before .loop in
-    let p = c .before .before .before .before .before .before .before .before .before .before .pre in
+    let p = far .before .before .pre in
     let w = c .before .before .distances in
     let h : l .r * 1024 + 1024 ≤ length (l .rows) = omega (arith, c .before .before .before .before .before .loop-test .taken, l .inv .1, p .2) in
-    let z = w .kept .1 .0 ∙ part-size _ _ h in
-    (omega arith, put-size _ (w .last .1 .0) _ h z ∙ l .inv .1, λ road ad. rowed-more road _ _ _ _ _ _ refl (omega arith) z (w .ensures road ad) (l .inv .2 road ad))
+    let z = w .kept .1 .0 ∙ part-size _ _ h in (
+      omega arith,
+      put-size _ (w .last .1 .0) _ h z ∙ l .inv .1,
+      λ road ad. rowed-more road _ _ _ _ _ _ refl (omega arith) z (w .ensures road ad) (l .inv .2 road ad),
+    )
 
 same-length : tie.Need-same-length Inv-loop μ-loop
 same-length c = c .before .loop .inv .1

@@ -11,7 +11,7 @@ use Rattle.road.proofs.walk.distances.Statement.{statement}
 use Rattle.road.proofs.walk.distances.Tie as tie
 
 abbrev Inv-loop : tie.InvT-loop
-Inv-loop adj row₀ source done₀ queue₀ n k₀ row done queue k = 
+Inv-loop adj row₀ source done₀ queue₀ n k₀ row done queue k =
     (k ≤ n) × (length row ≡ 1024) × (length done ≡ 1024) × (length queue ≡ queueWords) × WalkingIn adj (source .number) k row done queue
 
 abbrev μ-loop : tie.MeasureT-loop
@@ -36,8 +36,9 @@ cast-n c = search needs
 
 loop-holds : tie.Need-loop-holds Inv-loop μ-loop
 loop-holds c =
-    let p = c .before .before .before .before .before .before .before .before .before .before .before .pre in
-    let w = walking-start (c .before .before .before .before .before .before .before .before .before .before .before .args .adj .now) (c .before .before .before .before .before .start .ensures) in
+    let far = c .before .before .before .before .before .before .before .before in
+    let p = far .before .before .before .pre in
+    let w = walking-start (far .before .before .before .args .adj .now) (c .before .before .before .before .before .start .ensures) in
     let z = walking-sizes _ _ _ _ _ _ (p .2) w (p .0) in
     (omega arith, z .distances, z .marks, z .words, w)
 
@@ -49,8 +50,13 @@ slice-aggregate-round-2 c = search needs
 
 round-requires : tie.Need-round-requires Inv-loop μ-loop
 round-requires c κs =
-    let p = c .before .before .before .before .before .before .before .before .before .before .before .before .before .before .before .before .pre in
-    (p .0, p .2, omega (arith, c .before .before .before .before .before .junctions .ensures, c .before .before .before .loop-test .taken), c .before .before .before .before .loop .inv .4)
+    let far = c .before .before .before .before .before .before .before .before in
+    let p = far .before .before .before .before .before .before .before .before .pre in (
+      p .0,
+      p .2,
+      omega (arith, c .before .before .before .before .before .junctions .ensures, c .before .before .before .loop-test .taken),
+      c .before .before .before .before .loop .inv .4,
+    )
 
 add-k : tie.Need-add-k Inv-loop μ-loop
 add-k c = search needs
@@ -60,13 +66,16 @@ loop-less c = search needs
 
 loop-again : tie.Need-loop-again Inv-loop μ-loop
 loop-again c =
-    let p = c .before .before .before .before .before .before .before .before .before .before .before .before .before .before .before .before .before .before .before .before .before .pre in
+    let far = c .before .before .before .before .before .before .before .before in
+    let p = far .before .before .before .before .before .before .before .before .before .before .before .before .before .pre in
     let w = c .before .before .before .before .round .ensures in
     let z = walking-sizes _ _ _ _ _ _ (p .2) w (p .0) in
     (omega arith, z .distances, z .marks, z .words, w)
 
 same-length : tie.Need-same-length Inv-loop μ-loop
-same-length c = c .before .loop .inv .1 ∙ sym (c .before .before .before .before .before .before .before .before .before .before .before .before .before .pre .1)
+same-length c =
+    let far = c .before .before .before .before .before .before .before .before in
+    c .before .loop .inv .1 ∙ sym (far .before .before .before .before .before .pre .1)
 
 returns : tie.Need-returns Inv-loop μ-loop
 returns c = finished _ _ _ _ _ _ (omega (arith, c .before .before .junctions .ensures)) (c .before .loop .inv .4)

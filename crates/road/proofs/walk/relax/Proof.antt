@@ -17,7 +17,9 @@ abbrev μ-loop : tie.MeasureT-loop
 
 -- what is known of the arc that the loop has come to
 facts : (c : tie.In-loop Inv-loop μ-loop) → ArcFacts (c .before .before .before .before .before .before .args .adj .now) (c .before .loop .a)
-facts c = chain-facts _ _ _ _ _ _ _ (c .before .loop .inv (c .before .before .before .before .before .before .pre .0 .book) (c .before .before .before .before .before .before .pre .0 .adjacent)) (c .loop-test .taken)
+facts c =
+    let i = c .before .before .before .before .before .before .pre .0 in
+    chain-facts _ _ _ _ _ _ _ (c .before .loop .inv (i .book) (i .adjacent)) (c .loop-test .taken)
 
 head-requires : tie.Need-head-requires Inv-loop μ-loop
 head-requires c κs = (c .before .before .before .pre .0 .adjacent .size, c .before .before .before .pre .3)
@@ -41,25 +43,33 @@ add-shorten c = omega (arith, facts (c .before .before .before .before) .cheap, 
 
 shorten-requires : tie.Need-shorten-requires Inv-loop μ-loop
 shorten-requires c κs =
-    let ch = c .before .before .before .before .before .loop .inv (c .before .before .before .before .before .before .before .before .before .before .pre .0 .book) (c .before .before .before .before .before .before .before .before .before .before .pre .0 .adjacent) in
+    let far = c .before .before .before .before .before .before .before .before in
+    let ch = c .before .before .before .before .before .loop .inv (far .before .before .pre .0 .book) (far .before .before .pre .0 .adjacent) in
     (ch .distances, ch .words, omega (arith, facts (c .before .before .before .before) .inside, c .before .before .before .to .ensures), ch .above)
 
 next-requires : tie.Need-next-requires Inv-loop μ-loop
-next-requires c κs = (c .before .before .before .before .before .before .before .before .before .before .before .before .before .before .before .pre .0 .adjacent .size, facts (c .before .before .before .before .before .before .before .before .before) .some, facts (c .before .before .before .before .before .before .before .before .before) .few)
+next-requires c κs =
+    let far = c .before .before .before .before .before .before .before .before in
+    (far .before .before .before .before .before .before .before .pre .0 .adjacent .size, facts (far .before) .some, facts (far .before) .few)
 
 loop-less : tie.Need-loop-less Inv-loop μ-loop
 loop-less c = omega (arith, facts (c .before .before .before .before .before .before .before .before .before .before) .falls, c .next .ensures)
 
 loop-again : tie.Need-loop-again Inv-loop μ-loop
 loop-again c =
-    λ b ad. chain-goes-on _ _ _ _ _ _ _ (c .before .before .before .before .before .before .before .before .before .before .before .loop .inv b ad) (c .before .before .before .before .before .before .before .before .before .before .loop-test .taken) _ _ _ _ (c .before .before .before .before .before .before .before .before .before .to .ensures) (c .before .before .before .before .before .before .before .before .cost .ensures)
-    (c .next .ensures) (c .before .before .before .before .before .shorten .ensures)
+    let far = c .before .before .before .before .before .before .before .before in
+    λ b ad. chain-goes-on _ _ _ _ _ _ _ (far .before .before .before .loop .inv b ad) (far .before .before .loop-test .taken) _ _ _ _
+    (far .before .to .ensures) (far .cost .ensures) (c .next .ensures) (c .before .before .before .before .before .shorten .ensures)
 
 same-length : tie.Need-same-length Inv-loop μ-loop
-same-length c = c .before .loop .inv (c .before .before .before .before .before .before .pre .0 .book) (c .before .before .before .before .before .before .pre .0 .adjacent) .distances ∙ sym (c .before .before .before .before .before .before .pre .1)
+same-length c =
+    let p = c .before .before .before .before .before .before .pre in
+    c .before .loop .inv (p .0 .book) (p .0 .adjacent) .distances ∙ sym (p .1)
 
 same-length-2 : tie.Need-same-length-2 Inv-loop μ-loop
-same-length-2 c = c .before .loop .inv (c .before .before .before .before .before .before .pre .0 .book) (c .before .before .before .before .before .before .pre .0 .adjacent) .words ∙ sym (c .before .before .before .before .before .before .pre .2)
+same-length-2 c =
+    let p = c .before .before .before .before .before .before .pre in
+    c .before .loop .inv (p .0 .book) (p .0 .adjacent) .words ∙ sym (p .2)
 
 returns : tie.Need-returns Inv-loop μ-loop
 returns c = λ b ad. chain-ends _ _ _ _ _ _ _ (c .before .loop .inv b ad) (c .loop-test .left)

@@ -38,9 +38,10 @@ same-length-3 c = search needs
 
 returns : tie.Need-returns
 returns c =
-    let p = c .before .before .before .before .before .before .before .before .before .before .before .before .before .before .before .before .before .pre in
+    let far = c .before .before .before .before .before .before .before .before in
+    let p = far .before .before .before .before .before .before .before .before .before .pre in
     let w = c .before .before .before .before .before .before .walk-on .ensures in
-    walking-on _ _ _ _ _ _ (p .1) (p .3) _ (c .before .before .before .before .before .before .before .before .before .before .before .least .ensures) _ _ _ (c .before .before .before .before .before .before .before .before .before .before .if1 .taken) (w .0) (w .1)
+    walking-on _ _ _ _ _ _ (p .1) (p .3) _ (far .before .before .before .least .ensures) _ _ _ (far .before .before .if1 .taken) (w .0) (w .1)
 
 same-length-4 : tie.Need-same-length-4
 same-length-4 c = search needs

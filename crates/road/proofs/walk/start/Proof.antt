@@ -34,7 +34,11 @@ same-length-3 : tie.Need-same-length-3
 same-length-3 c = search needs
 
 returns : tie.Need-returns
-returns c = λ b. starts-by b _ _ _ _ _ (c .before .before .before .before .before .before .before .before .before .before .before .before .before .before .before .before .before .before .before .before .pre .1) (c .before .before .before .before .before .before .before .before .before .before .before .before .before .before .reset .ensures .0) (c .before .before .before .before .before .before .before .before .before .before .before .before .before .before .reset .ensures .1) (c .before .before .before .before .before .before .before .before .clear .ensures) (c .before .before .put .ensures)
+returns c =
+    let far = c .before .before .before .before .before .before .before .before in
+    λ b. starts-by b _ _ _ _ _ (far .before .before .before .before .before .before .before .before .before .before .before .before .pre .1)
+    (far .before .before .before .before .before .before .reset .ensures .0) (far .before .before .before .before .before .before .reset .ensures .1)
+    (far .clear .ensures) (c .before .before .put .ensures)
 
 pub start-spec : {M : Type 1} → statement M
 start-spec =

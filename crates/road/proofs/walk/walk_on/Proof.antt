@@ -28,7 +28,11 @@ same-length-3 : tie.Need-same-length-3
 same-length-3 c = search needs
 
 returns : tie.Need-returns
-returns c = (λ b ad. relax-from _ _ _ _ _ _ _ (c .before .before .before .before .relax .ensures b ad) (c .before .before .before .before .before .before .before .before .before .put .ensures), refl)
+returns c = (
+  λ b ad. relax-from _ _ _ _ _ _ _ (c .before .before .before .before .relax .ensures b ad)
+      (c .before .before .before .before .before .before .before .before .before .put .ensures),
+  refl,
+)
 
 pub walk-on-spec : {M : Type 1} → statement M
 walk-on-spec =
