@@ -1,3 +1,4 @@
 pub mod Netting
 pub mod Linking
+pub mod Clearing
 pub mod Chains

@@ -1,82 +1,108 @@
-// For each junction the chain of its arcs, newest first.
+// A road book's adjacency in one array of words: its junction count, and for each junction its arcs, newest first.
 ghost use mathlib.Core.Path.{_≡_};
-ghost use Prim.Native.Nat.{ℕ, _+_, _*_, _≤_, _<_};
-ghost use lib.ListN.{length, replicate};
+ghost use Prim.Native.Nat.{_+_, _*_, _≤_, _<_};
+ghost use lib.ListN.{length};
 ghost use Rattle.road_layout.specs.Road.{roadAt};
 ghost use Rattle.road_layout.specs.Layout.{layoutRefusal};
-ghost use Rattle.adjacency.specs.Adjacency.{links, pushArc, pushRoad, Sized, Adjacency};
+ghost use Rattle.adjacency.specs.Adjacency.{adjacencyWords, countIn, headAt, nextAt, toAt, costAt};
+ghost use Rattle.adjacency.specs.Adjacency.{pushArc, pushRoad, Bare, Adjacency};
+
+// How many words there are.
+pub const WORDS: usize = 25601;
+
+// Where the words of the junctions begin, and three words before those of arc 1.
+const HEADS: usize = 1;
+
+const ARCS: usize = 1022;
+
+// How many junctions there are.
+pub fn junctions(adj: &[u16]) -> u16
+    requires { ⌜ length (now adj) ≡ adjacencyWords ⌝ }
+    ensures { λ r. ⌜ r ≡ countIn (now (adj .entry)) ⌝ }
+{
+    adj[0]
+}
+
+// The newest arc of junction u, 0 if it has none.
+pub fn head(adj: &[u16], u: usize) -> u16
+    requires { ⌜ (length (now adj) ≡ adjacencyWords) × (u < 1024) ⌝ }
+    ensures { λ r. ⌜ r ≡ headAt (now (adj .entry)) u ⌝ }
+{
+    adj[HEADS + u]
+}
+
+// The arc of the same junction before arc a, 0 if there is none.
+pub fn next(adj: &[u16], a: u16) -> u16
+    requires { ⌜ (length (now adj) ≡ adjacencyWords) × (1 ≤ a) × (a ≤ 8192) ⌝ }
+    ensures { λ r. ⌜ r ≡ nextAt (now (adj .entry)) a ⌝ }
+{
+    adj[ARCS + 3 * a as usize]
+}
+
+// The junction that arc a leads to.
+pub fn to(adj: &[u16], a: u16) -> u16
+    requires { ⌜ (length (now adj) ≡ adjacencyWords) × (1 ≤ a) × (a ≤ 8192) ⌝ }
+    ensures { λ r. ⌜ r ≡ toAt (now (adj .entry)) a ⌝ }
+{
+    adj[ARCS + 3 * a as usize + 1]
+}
+
+// The seconds of arc a.
+pub fn cost(adj: &[u16], a: u16) -> u16
+    requires { ⌜ (length (now adj) ≡ adjacencyWords) × (1 ≤ a) × (a ≤ 8192) ⌝ }
+    ensures { λ r. ⌜ r ≡ costAt (now (adj .entry)) a ⌝ }
+{
+    adj[ARCS + 3 * a as usize + 2]
+}
 
 // Puts arc a, from u to v in s seconds, before the arcs of u.
-fn push_arc(
-    head: &mut [u16],
-    next: &mut [u16],
-    to: &mut [u16],
-    cost: &mut [u16],
-    a: u16,
-    u: u16,
-    v: u16,
-    s: u16,
-)
-    requires { ⌜ (u < length (now head)) × (a < length (now next)) × (a < length (now to)) × (a < length (now cost)) ⌝ }
-    ensures { λ _. ⌜
-        links (now (head .exit)) (now (next .exit)) (now (to .exit)) (now (cost .exit))
-        ≡ pushArc (links (now (head .entry)) (now (next .entry)) (now (to .entry)) (now (cost .entry))) a u v s ⌝ }
+fn push_arc(adj: &mut [u16], a: u16, u: u16, v: u16, s: u16)
+    requires { ⌜ (length (now adj) ≡ adjacencyWords) × (1 ≤ a) × (a ≤ 8192) × (u < 1024) ⌝ }
+    ensures { λ _. ⌜ now (adj .exit) ≡ pushArc (now (adj .entry)) a u v s ⌝ }
 {
-    let i = a as usize;
-    let j = u as usize;
-    next[i] = head[j];
-    head[j] = a;
-    to[i] = v;
-    cost[i] = s;
+    let i = ARCS + 3 * a as usize;
+    let j = HEADS + u as usize;
+    adj[i] = adj[j];
+    adj[i + 1] = v;
+    adj[i + 2] = s;
+    adj[j] = a;
 }
 
 // Puts both arcs of road k: 2 k + 1 from low to high, and 2 k + 2 back.
-fn push_road(
-    b: &[u8],
-    k: usize,
-    head: &mut [u16],
-    next: &mut [u16],
-    to: &mut [u16],
-    cost: &mut [u16],
-)
+fn push_road(b: &[u8], k: usize, adj: &mut [u16])
     requires { ⌜ (9 + 6 * k + 6 ≤ length (now b)) × (k < 4096)
-        × (roadAt (now b) k .low < 1024) × (roadAt (now b) k .high < 1024)
-        × Sized (links (now head) (now next) (now to) (now cost)) ⌝ }
-    ensures { λ _. ⌜
-        links (now (head .exit)) (now (next .exit)) (now (to .exit)) (now (cost .exit))
-        ≡ pushRoad (links (now (head .entry)) (now (next .entry)) (now (to .entry)) (now (cost .entry)))
-        (roadAt (now (b .entry)) k) k ⌝ }
+        × (roadAt (now b) k .low < 1024) × (roadAt (now b) k .high < 1024) × (length (now adj) ≡ adjacencyWords) ⌝ }
+    ensures { λ _. ⌜ now (adj .exit) ≡ pushRoad (now (adj .entry)) (roadAt (now (b .entry)) k) k ⌝ }
 {
-    let at = 9 + 6 * k;
-    let low = book::u16_at(b, at);
-    let high = book::u16_at(b, at + 2);
-    let seconds = book::u16_at(b, at + 4);
-    push_arc(head, next, to, cost, (2 * k + 1) as u16, low, high, seconds);
-    push_arc(head, next, to, cost, (2 * k + 2) as u16, high, low, seconds);
+    let road = road_layout::road_at(b, k);
+    let a = (2 * k + 1) as u16;
+    push_arc(adj, a, road.low, road.high, road.seconds);
+    push_arc(adj, a + 1, road.high, road.low, road.seconds);
 }
 
-// Makes every head 0: no junction has an arc.
-fn clear(head: &mut [u16])
-    requires { ⌜ length (now head) ≡ 1024 ⌝ }
-    ensures { λ _. ⌜ now (head .exit) ≡ replicate 1024 0 ⌝ }
+// Makes it n junctions, none of which has an arc.
+fn clear(adj: &mut [u16], n: u16)
+    requires { ⌜ length (now adj) ≡ adjacencyWords ⌝ }
+    ensures { λ _. ⌜ Bare n (now (adj .exit)) ⌝ }
 {
-    let mut i: usize = 0;
-    while i < 1024 {
-        head[i] = 0;
-        i += 1;
+    adj[0] = n;
+    let mut u: usize = 0;
+    while u < 1024 {
+        adj[HEADS + u] = 0;
+        u += 1;
     }
 }
 
-// Makes the arrays the adjacency of a road book of sound layout.
-pub fn fill(b: &[u8], head: &mut [u16], next: &mut [u16], to: &mut [u16], cost: &mut [u16])
-    requires { ⌜ (layoutRefusal (now b) ≡ 0) × Sized (links (now head) (now next) (now to) (now cost)) ⌝ }
-    ensures { λ _. ⌜ Adjacency (now (b .entry)) (links (now (head .exit)) (now (next .exit)) (now (to .exit)) (now (cost .exit))) ⌝ }
+// Makes the array the adjacency of a road book of sound layout.
+pub fn fill(b: &[u8], adj: &mut [u16])
+    requires { ⌜ (layoutRefusal (now b) ≡ 0) × (length (now adj) ≡ adjacencyWords) ⌝ }
+    ensures { λ _. ⌜ Adjacency (now (b .entry)) (now (adj .exit)) ⌝ }
 {
-    clear(head);
-    let count = book::u16_at(b, 7) as usize;
+    clear(adj, road_layout::junction_count(b));
+    let count = road_layout::road_count(b) as usize;
     let mut k: usize = 0;
     while k < count {
-        push_road(b, k, head, next, to, cost);
+        push_road(b, k, adj);
         k += 1;
     }
 }

@@ -1,4 +1,5 @@
--- The numbers of a row: a junction's greatest distance to any junction, and the sum of its distances to all. Assumes nothing: these are definitions.
+-- The numbers of a row: a junction's greatest distance to any junction, and the sum of its distances to all.
+-- Assumes nothing: these are definitions.
 use mathlib.Core.List.{List}
 use Prim.Native.Nat.{ℕ, zero, suc, _+_, max}
 use lib.ListN.{getD}

@@ -1,13 +1,12 @@
-// Reads a road book from standard input, and writes for each junction its greatest distance to any junction and the sum of its distances to all.
+// Reads a road book from standard input, and writes for each junction its greatest distance to any junction and the sum
+// of its distances to all.
 use book::Junction;
 use libc::STDOUT_FILENO;
 use road_layout::RoadBook;
 ghost use mathlib.Core.Path.{_≡_};
-ghost use Prim.Native.Nat.{ℕ, _≤_, _<_, max};
+ghost use Prim.Native.Nat.{_≤_, _<_, max};
 ghost use lib.ListN.{length};
-ghost use Rattle.road_layout.specs.Road.{junctions};
-ghost use Rattle.road_layout.specs.Layout.{layoutRefusal};
-ghost use Rattle.adjacency.specs.Adjacency.{links, Adjacency};
+ghost use Rattle.adjacency.specs.Adjacency.{countIn, IsAdjacency};
 ghost use Rattle.eccentricity.specs.Rows.{furthestOf, totalOf};
 
 fn wide(x: u32) -> u64
@@ -51,50 +50,29 @@ fn total(ds: &[u32], n: usize) -> u64
 }
 
 // Writes junction u's row.
-fn row(b: &[u8], head: &[u16], next: &[u16], to: &[u16], cost: &[u16], n: u16, u: u16)
-    requires { ⌜ Adjacency (now b) (links (now head) (now next) (now to) (now cost)) × (n ≡ junctions (now b)) × (u < n) ⌝ }
+fn row(adj: &[u16], u: u16)
+    requires { ⌜ IsAdjacency (now adj) × (u < countIn (now adj)) ⌝ }
 {
     let mut ds = [0u32; 1024];
-    let mut done = [false; 1024];
-    let mut queue = [0u64; 2048];
-    road::walk::distances(
-        b,
-        head,
-        next,
-        to,
-        cost,
-        &mut ds,
-        &mut done,
-        &mut queue,
-        Junction { number: u },
-    );
+    road::walk::distances(adj, &mut ds, Junction { number: u });
+    let n = adjacency::junctions(adj) as usize;
     io::print_decimal(STDOUT_FILENO, u as u64);
     io::write_all(STDOUT_FILENO, b" ");
-    io::print_decimal(STDOUT_FILENO, furthest(&ds, n as usize));
+    io::print_decimal(STDOUT_FILENO, furthest(&ds, n));
     io::write_all(STDOUT_FILENO, b" ");
-    io::print_decimal(STDOUT_FILENO, total(&ds, n as usize));
+    io::print_decimal(STDOUT_FILENO, total(&ds, n));
     io::write_all(STDOUT_FILENO, b"\n");
 }
 
-// Writes a row for each junction, in order.
-fn rows(b: &[u8], n: u16)
-    requires { ⌜ (layoutRefusal (now b) ≡ 0) × (n ≡ junctions (now b)) ⌝ }
+// Writes a row for each junction, in order, below a line of names.
+fn rows(adj: &[u16])
+    requires { ⌜ IsAdjacency (now adj) ⌝ }
 {
-    let mut head = [0u16; 1024];
-    let mut next = [0u16; 8193];
-    let mut to = [0u16; 8193];
-    let mut cost = [0u16; 8193];
-    adjacency::fill(b, &mut head, &mut next, &mut to, &mut cost);
     io::write_all(STDOUT_FILENO, b"junction furthest total\n");
-    all_rows(b, &head, &next, &to, &cost, n);
-}
-
-fn all_rows(b: &[u8], head: &[u16], next: &[u16], to: &[u16], cost: &[u16], n: u16)
-    requires { ⌜ Adjacency (now b) (links (now head) (now next) (now to) (now cost)) × (n ≡ junctions (now b)) ⌝ }
-{
+    let n = adjacency::junctions(adj);
     let mut u: u16 = 0;
     while u < n {
-        row(b, head, next, to, cost, n, u);
+        row(adj, u);
         u += 1;
     }
 }
@@ -108,9 +86,10 @@ fn refused(why: u8) {
 
 // Writes what a road book's bytes lead to.
 fn report(b: &[u8]) {
-    let read = road::read(b);
+    let mut adj = [0u16; adjacency::WORDS];
+    let read = road::read(b, &mut adj);
     let RoadBook::Sound {
-        junctions,
+        junctions: _,
         roads: _,
     } = read
     else {
@@ -120,7 +99,7 @@ fn report(b: &[u8]) {
         refused(why);
         return;
     };
-    rows(b, junctions);
+    rows(&adj);
 }
 
 fn main() {

@@ -23,6 +23,13 @@ module _ (b : List ℕ) where
       let p = told-why (layoutRefusal b) (junctions b) (roadCount b) why (sym e ∙ f) in
       e ∙ ap (λ (x : ℕ). told x (junctions b) (roadCount b)) (sym (first-earlier (layoutRefusal b) _ (omega (arith, p .0, p .1))))
 
+  -- and then the book does not pass
+  pub layout-fails : (o : RoadBook) (why : ℕ) → o ≡ told (layoutRefusal b) (junctions b) (roadCount b) → o ≡ Refused why → roadRefusal b ≡ 0 → ⊥
+  unfolding roadRefusal
+  layout-fails o why e f z =
+      let p = told-why (layoutRefusal b) (junctions b) (roadCount b) why (sym e ∙ f) in
+      omega (arith, p .0, p .1, first-none (layoutRefusal b) _ z .0)
+
   -- a sound layout, and what it counts
   pub layout-sound : (o : RoadBook) (n r : ℕ) → o ≡ told (layoutRefusal b) (junctions b) (roadCount b) → o ≡ Sound n r
       → (layoutRefusal b ≡ 0) × (n ≡ junctions b) × (r ≡ roadCount b)

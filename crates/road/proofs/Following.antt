@@ -1,19 +1,19 @@
 -- How a junction's chain is walked, arc by arc. Assumes nothing.
 use mathlib.Core.Path.{_≡_, refl, sym, ap, _∙_}
 use mathlib.Core.Logic.{_≢_}
-use mathlib.Core.List.{List, [], _∷_, List·Memᴰ, List·Memᴰ·head, List·Memᴰ·tail}
+use mathlib.Core.List.{List, [], _∷_, List·Memᴰ·head, List·Memᴰ·tail}
 use Prim.Native.Nat.{ℕ, suc, _+_, _≤_, _<_}
 use native.Mathlib.Decide.{ℕ-discrete}
 use native.Mathlib.Omega.{arith}
-use lib.ListN.{length, getD}
+use lib.ListN.{length}
 use lib.Dec.{eqb}
 use Rattle.book.proofs.Choosing.{choose-yes, choose-no, eq→eqb}
 use Rattle.book.proofs.Tests.{ne→neqb}
+use Rattle.tournament.specs.Tournament.{queueWords}
 use Rattle.road_layout.specs.Road.{junctions}
-use Rattle.road_layout.specs.Layout.{layoutRefusal}
 use Rattle.road_layout.proofs.Layouts.{passing-layout}
 use Rattle.adjacency.specs.Arcs.{Arc, net}
-use Rattle.adjacency.specs.Adjacency.{lastArc, Linked}
+use Rattle.adjacency.specs.Adjacency.{headAt, nextAt, toAt, costAt, lastArc, Linked, Adjacency}
 use Rattle.adjacency.proofs.Linking.{last-none, last-own, last-other, last-low, linked-parts, net-length}
 use Rattle.road.specs.Walk.{Sound, Fit}
 use Rattle.road.specs.Queue.{Reach, reach, Above, shortenBoth, relaxBoth}
@@ -21,29 +21,29 @@ use Rattle.road.proofs.Shortening.{shorten-sizes, shorten-above}
 use Rattle.road.proofs.Theorems.{net-sound}
 
 -- arc number a is the newest of the arcs xs that leaves u: what it is, the arcs before it, and what relaxing it leaves to do
-pub record Turn (n u d : ℕ) (xs : List Arc) (next to cost : List ℕ) (a : ℕ) : Type 0 where
+pub record Turn (n u d : ℕ) (xs : List Arc) (adj : List ℕ) (a : ℕ) : Type 0 where
   pub arc : Arc
   pub rest : List Arc
   pub number : a ≡ suc (length rest)
   pub fit : Fit n arc
-  pub to-is : getD to a 0 ≡ arc .to
-  pub cost-is : getD cost a 0 ≡ arc .seconds
-  pub next-is : getD next a 0 ≡ lastArc u rest
-  pub linked : Linked rest next to cost
+  pub to-is : toAt adj a ≡ arc .to
+  pub cost-is : costAt adj a ≡ arc .seconds
+  pub next-is : nextAt adj a ≡ lastArc u rest
+  pub linked : Linked rest adj
   pub sound : Sound n rest
   pub relaxed : (s : Reach) → relaxBoth u d xs s ≡ relaxBoth u d rest (shortenBoth s (arc .to) (d + arc .seconds))
 
-module _ (n u d : ℕ) (next to cost : List ℕ) where
-  pub turn : (xs : List Arc) (a : ℕ) → Linked xs next to cost → Sound n xs → a ≡ lastArc u xs → a ≢ 0 → Turn n u d xs next to cost a
+module _ (n u d : ℕ) (adj : List ℕ) where
+  pub turn : (xs : List Arc) (a : ℕ) → Linked xs adj → Sound n xs → a ≡ lastArc u xs → a ≢ 0 → Turn n u d xs adj a
   unfolding relaxBoth
   turn [] a k sound e z = absurd (z (e ∙ last-none u))
   turn (x ∷ xs) a k sound e z = go (ℕ-discrete (x .from) u) (λ f. turn xs a (parts .3) (λ y q. sound y (List·Memᴰ·tail q)) f z)
     where
-      parts : (getD to (suc (length xs)) 0 ≡ x .to) × (getD cost (suc (length xs)) 0 ≡ x .seconds)
-          × (getD next (suc (length xs)) 0 ≡ lastArc (x .from) xs) × Linked xs next to cost
-      parts = linked-parts x xs next to cost k
+      parts : (toAt adj (suc (length xs)) ≡ x .to) × (costAt adj (suc (length xs)) ≡ x .seconds)
+          × (nextAt adj (suc (length xs)) ≡ lastArc (x .from) xs) × Linked xs adj
+      parts = linked-parts x xs adj k
 
-      go : Dec (x .from ≡ u) → (a ≡ lastArc u xs → Turn n u d xs next to cost a) → Turn n u d (x ∷ xs) next to cost a
+      go : Dec (x .from ≡ u) → (a ≡ lastArc u xs → Turn n u d xs adj a) → Turn n u d (x ∷ xs) adj a
       go (yes f) later =
           let i : a ≡ suc (length xs) = e ∙ last-own u x xs f in
           record {
@@ -85,36 +85,37 @@ module _ (n u d : ℕ) (next to cost : List ℕ) where
           ap (relaxBoth u d xs) (choose-no (eqb (x .from) u) _ s (ne→neqb _ _ f)) ∙ later (sym (last-other u x xs f) ∙ e)
 
 -- what is known of an arc of a chain
-pub record ArcFacts (next to cost : List ℕ) (a : ℕ) : Type 0 where
+pub record ArcFacts (adj : List ℕ) (a : ℕ) : Type 0 where
+  pub some : 1 ≤ a
   pub few : a ≤ 8192
-  pub inside : getD to a 0 < 1024
-  pub cheap : getD cost a 0 ≤ 65535
-  pub falls : getD next a 0 < a
+  pub inside : toAt adj a < 1024
+  pub cheap : costAt adj a ≤ 65535
+  pub falls : nextAt adj a < a
 
 -- The walk along u's chain has come to arc a: some arcs are left, of which it is the newest that leaves u, and relaxing them gives what relaxing all gave.
-pub record Chain (b next to cost : List ℕ) (u d : ℕ) (s₀ s : Reach) (a : ℕ) : Type 0 where
+pub record Chain (b adj : List ℕ) (u d : ℕ) (s₀ s : Reach) (a : ℕ) : Type 0 where
   pub rest : List Arc
   pub few : length rest ≤ 8192
   pub small : junctions b ≤ 1024
   pub newest : a ≡ lastArc u rest
-  pub linked : Linked rest next to cost
+  pub linked : Linked rest adj
   pub sound : Sound (junctions b) rest
   pub distances : length (s .ds) ≡ 1024
-  pub words : length (s .queue) ≡ 2048
+  pub words : length (s .queue) ≡ queueWords
   pub above : Above (s .ds) (s .queue)
   pub result : relaxBoth u d rest s ≡ relaxBoth u d (net b) s₀
 
-module _ (b next to cost : List ℕ) (u d : ℕ) where
-  pub chain-starts : (ds queue : List ℕ) (a : ℕ) → layoutRefusal b ≡ 0 → Linked (net b) next to cost → a ≡ lastArc u (net b)
-      → length ds ≡ 1024 → length queue ≡ 2048 → Above ds queue → Chain b next to cost u d (reach ds queue) (reach ds queue) a
-  chain-starts ds queue a pass k e f g r =
-      let l = passing-layout b pass in
+module _ (b adj : List ℕ) (u d : ℕ) where
+  pub chain-starts : (ds queue : List ℕ) (a : ℕ) → Adjacency b adj → u < 1024 → a ≡ headAt adj u
+      → length ds ≡ 1024 → length queue ≡ queueWords → Above ds queue → Chain b adj u d (reach ds queue) (reach ds queue) a
+  chain-starts ds queue a ad h e f g r =
+      let l = passing-layout b (ad .layout) in
       record {
         rest = net b;
         few = omega (arith, net-length b, l .few-roads);
         small = l .few-junctions;
-        newest = e;
-        linked = k;
+        newest = e ∙ ad .newest u h;
+        linked = ad .linked;
         sound = net-sound b l;
         distances = f;
         words = g;
@@ -122,18 +123,19 @@ module _ (b next to cost : List ℕ) (u d : ℕ) where
         result = refl;
       }
 
-  module _ (s₀ s : Reach) (a : ℕ) (ch : Chain b next to cost u d s₀ s a) where
+  module _ (s₀ s : Reach) (a : ℕ) (ch : Chain b adj u d s₀ s a) where
     -- the next arc
-    pub chain-turn : a ≢ 0 → Turn (junctions b) u d (ch .rest) next to cost a
-    chain-turn z = turn (junctions b) u d next to cost (ch .rest) a (ch .linked) (ch .sound) (ch .newest) z
+    pub chain-turn : a ≢ 0 → Turn (junctions b) u d (ch .rest) adj a
+    chain-turn z = turn (junctions b) u d adj (ch .rest) a (ch .linked) (ch .sound) (ch .newest) z
 
     pub chain-low : a ≤ 8192
     chain-low = omega (arith, last-low u (ch .rest), ch .newest, ch .few)
 
-    pub chain-facts : a ≢ 0 → ArcFacts next to cost a
+    pub chain-facts : a ≢ 0 → ArcFacts adj a
     chain-facts z =
         let t = chain-turn z in
         record {
+          some = omega (arith, t .number);
           few = chain-low;
           inside = omega (arith, t .to-is, t .fit .to, ch .small);
           cheap = omega (arith, t .cost-is, t .fit .few);
@@ -141,9 +143,9 @@ module _ (b next to cost : List ℕ) (u d : ℕ) where
         }
 
     -- the chain after it
-    pub chain-goes-on : (z : a ≢ 0) (s′ : Reach) (x y : ℕ) → x ≡ getD to a 0 → y ≡ d + getD cost a 0 → s′ ≡ shortenBoth s x y
-        → Chain b next to cost u d s₀ s′ (getD next a 0)
-    chain-goes-on z s′ x y ex ey e =
+    pub chain-goes-on : (z : a ≢ 0) (s′ : Reach) (x y on : ℕ) → x ≡ toAt adj a → y ≡ costAt adj a → on ≡ nextAt adj a
+        → s′ ≡ shortenBoth s x (d + y) → Chain b adj u d s₀ s′ on
+    chain-goes-on z s′ x y on ex ey eo e =
         let t = chain-turn z in
         let f : s′ ≡ shortenBoth s (t .arc .to) (d + t .arc .seconds) = rw (e, ex, ey, t .to-is, t .cost-is) refl in
         let n = shorten-sizes s (t .arc .to) (d + t .arc .seconds) in
@@ -151,7 +153,7 @@ module _ (b next to cost : List ℕ) (u d : ℕ) where
           rest = t .rest;
           few = omega (arith, t .number, chain-low);
           small = ch .small;
-          newest = t .next-is;
+          newest = eo ∙ t .next-is;
           linked = t .linked;
           sound = t .sound;
           distances = rw f (n .0 ∙ ch .distances);
@@ -162,4 +164,4 @@ module _ (b next to cost : List ℕ) (u d : ℕ) where
 
     -- its end
     pub chain-ends : a ≡ 0 → s ≡ relaxBoth u d (net b) s₀
-    chain-ends z = sym (ended (junctions b) u d next to cost (ch .rest) s (sym (ch .newest) ∙ z)) ∙ ch .result
+    chain-ends z = sym (ended (junctions b) u d adj (ch .rest) s (sym (ch .newest) ∙ z)) ∙ ch .result

@@ -11,3 +11,4 @@ pub mod Stepping
 pub mod Reaching
 pub mod Answering
 pub mod Reading
+pub mod Filling

@@ -2,7 +2,7 @@
 use mathlib.Core.Path.{_≡_, refl, sym, ap, _∙_}
 use mathlib.Core.Logic.{_⊎_, inl, inr}
 use mathlib.Core.Bool.{Bool, not}
-use mathlib.Core.List.{List, [], _∷_, List·Memᴰ, List·Memᴰ·head, List·Memᴰ·tail}
+use mathlib.Core.List.{List, [], _∷_, List·Memᴰ·head, List·Memᴰ·tail}
 use Prim.Native.Nat.{ℕ, _+_, _*_, _≤_, _<_}
 use native.Mathlib.Decide.{ℕ-discrete, decLt}
 use native.Mathlib.Omega.{arith}
@@ -11,7 +11,7 @@ use lib.Dec.{T, T-not, ltb, eqb, ltb→lt, lt→ltb}
 use borrow.Author.Tests.{le-ltb}
 use Rattle.book.specs.Choose.{choose}
 use Rattle.book.proofs.Choosing.{choose-case, choose-yes, choose-no, choose-map, false-T, T-split}
-use Rattle.tournament.specs.Tournament.{putLeaf, leaf, top}
+use Rattle.tournament.specs.Tournament.{putLeaf, leaf}
 use Rattle.tournament.proofs.Laws.{put-tournament, put-same, put-other}
 use Rattle.adjacency.specs.Arcs.{Arc}
 use Rattle.road.specs.Walk.{Sound}

@@ -12,7 +12,7 @@ use lib.Dec.{T, ltb, ltb→lt, nltb→le, T-not}
 use Rattle.book.proofs.Choosing.{choose-case}
 use Rattle.adjacency.specs.Arcs.{Arc}
 use Rattle.road.specs.Walk.{Walk, stay, Sound}
-use Rattle.road.specs.Dijkstra.{far, width, at, State, walked, score, pick, relax, walkOn, roundAt, rounds, start, distances}
+use Rattle.road.specs.Dijkstra.{far, width, at, State, walked, score, pick, relax, walkOn, roundAt, rounds, start}
 use Rattle.road.proofs.Walks.{snoc}
 use Rattle.road.proofs.Relaxing.{Arrival, Relaxed, relax-is, at-set-same, at-set-other}
 use Rattle.road.proofs.Picking.{score-open, score-low, pick-below, pick-least, tally, tally-start, tally-set, walked-start, walked-new, walked-not}

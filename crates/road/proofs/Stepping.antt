@@ -11,15 +11,16 @@ use lib.ListN.{length, set, replicate, length-replicate}
 use lib.Dec.{T, ltb, lt→ltb}
 use borrow.Author.Tests.{le-ltb}
 use Rattle.book.proofs.Choosing.{choose-yes, choose-no, false-T}
-use Rattle.tournament.specs.Tournament.{putLeaf, leaf, top}
+use Rattle.tournament.specs.Tournament.{queueWords, putLeaf, leaf, top}
 use Rattle.tournament.proofs.Laws.{put-tournament, put-same, put-other, top-least, top-leaf, cleared, cleared-leaf}
 use Rattle.road_layout.specs.Road.{junctions}
 use Rattle.road_layout.specs.Layout.{layoutRefusal}
 use Rattle.road_layout.proofs.Layouts.{passing-layout}
 use Rattle.adjacency.specs.Arcs.{Arc, net}
+use Rattle.adjacency.specs.Adjacency.{countIn, Adjacency, IsAdjacency}
 use Rattle.road.specs.Walk.{Walk, stay, step, Sound}
 use Rattle.road.specs.Dijkstra.{far, width, at, State, walked, score, pick, relax, walkOn, roundAt, rounds, start, walkFrom, distances}
-use Rattle.road.specs.Queue.{state, mark, word, wordOf, Queued, Reach, reach, Above, relaxBoth, Walking, Roomy}
+use Rattle.road.specs.Queue.{state, mark, word, wordOf, Queued, Reach, reach, Above, relaxBoth, Walking, WalkingIn, Roomy}
 use Rattle.road.proofs.Picking.{score-open, score-low, pick-below, pick-least, pick-first, walked-same, walked-other, walked-new, walked-start}
 use Rattle.road.proofs.Relaxing.{at-set-same, at-set-other}
 use Rattle.road.proofs.Rounds.{Inv, after-rounds, at-replicate}
@@ -145,7 +146,7 @@ module _ (b : List ℕ) (source k : ℕ) (ds : List ℕ) (done : List Bool) (que
   inv : Inv (net b) (junctions b) source k st
   inv = rw (w .rounded) (after-rounds (net b) (junctions b) source small sound below k .inv)
 
-  pub sizes : Roomy ds done queue
+  sizes : Roomy ds done queue
   sizes = record { distances = inv .size; marks = inv .marks; words = w .queued .tournament .size }
 
   within : (v : ℕ) → v < width → score st v < far → v < junctions b
@@ -210,19 +211,49 @@ module _ (b : List ℕ) (source k : ℕ) (ds : List ℕ) (done : List Bool) (que
   }
 
   -- the same, by the word that was read
-  pub near-by : (t : ℕ) → t ≡ top queue → t < mark → k < junctions b → t / 1024 ≤ 67042305
+  near-by : (t : ℕ) → t ≡ top queue → t < mark → k < junctions b → t / 1024 ≤ 67042305
   near-by t e h less = rw e (near-enough (rw e at h) less)
 
-  pub above-by : (t : ℕ) → t ≡ top queue → t < mark → Above ds (putLeaf queue (t % 1024) mark)
+  above-by : (t : ℕ) → t ≡ top queue → t < mark → Above ds (putLeaf queue (t % 1024) mark)
   above-by t e h = rw e (fine-above _ _ _ (fine-marked (rw e at h)))
 
-  pub walks-by : (t : ℕ) → t ≡ top queue → (ds′ queue′ : List ℕ) (done′ : List Bool) → t < mark
+  walks-by : (t : ℕ) → t ≡ top queue → (ds′ queue′ : List ℕ) (done′ : List Bool) → t < mark
       → reach ds′ queue′ ≡ relaxBoth (t % 1024) (t / 1024) (net b) (reach ds (putLeaf queue (t % 1024) mark))
       → done′ ≡ set done (t % 1024) true → Walking b source (k + 1) ds′ done′ queue′
   walks-by t e ds′ queue′ done′ h f g = round-walks ds′ queue′ done′ (rw e at h) (rw e at f) (rw e at g)
 
-  pub rests-by : (t : ℕ) → t ≡ top queue → mark ≤ t → Walking b source (k + 1) ds done queue
+  rests-by : (t : ℕ) → t ≡ top queue → mark ≤ t → Walking b source (k + 1) ds done queue
   rests-by t e h = round-rests (rw e at h)
+
+-- the same, along an adjacency
+module _ (adj : List ℕ) (source k : ℕ) (ds : List ℕ) (done : List Bool) (queue : List ℕ)
+    (below : source < countIn adj) (w : WalkingIn adj source k ds done queue) where
+  junction-below : (b : List ℕ) → Adjacency b adj → source < junctions b
+  junction-below b a = omega (arith, a .count)
+
+  pub walking-sizes : IsAdjacency adj → Roomy ds done queue
+  walking-sizes i =
+      let a = i .adjacent in
+      sizes (i .book) source k ds done queue (a .layout) (junction-below (i .book) a) (w (i .book) a)
+
+  module _ (t : ℕ) (e : t ≡ top queue) where
+    pub walking-near : IsAdjacency adj → t < mark → k < countIn adj → t / 1024 ≤ 67042305
+    walking-near i h less =
+        let a = i .adjacent in
+        near-by (i .book) source k ds done queue (a .layout) (junction-below (i .book) a) (w (i .book) a) t e h (omega (arith, a .count))
+
+    pub walking-above : IsAdjacency adj → t < mark → Above ds (putLeaf queue (t % 1024) mark)
+    walking-above i h =
+        let a = i .adjacent in
+        above-by (i .book) source k ds done queue (a .layout) (junction-below (i .book) a) (w (i .book) a) t e h
+
+    pub walking-on : (ds′ queue′ : List ℕ) (done′ : List Bool) → t < mark
+        → ((b : List ℕ) → Adjacency b adj → reach ds′ queue′ ≡ relaxBoth (t % 1024) (t / 1024) (net b) (reach ds (putLeaf queue (t % 1024) mark)))
+        → done′ ≡ set done (t % 1024) true → WalkingIn adj source (k + 1) ds′ done′ queue′
+    walking-on ds′ queue′ done′ h f g b a = walks-by b source k ds done queue (a .layout) (junction-below b a) (w b a) t e ds′ queue′ done′ h (f b a) g
+
+    pub walking-rests : mark ≤ t → WalkingIn adj source (k + 1) ds done queue
+    walking-rests h b a = rests-by b source k ds done queue (a .layout) (junction-below b a) (w b a) t e h
 
 -- ---- the start and the end
 
@@ -231,7 +262,7 @@ unfolding rounds start
 start-state b source = refl
 
 started : (b : List ℕ) (source : ℕ) → source < width
-    → Walking b source 0 (set (replicate 1024 far) source 0) (replicate 1024 false) (putLeaf (replicate 2048 mark) source source)
+    → Walking b source 0 (set (replicate 1024 far) source 0) (replicate 1024 false) (putLeaf (replicate queueWords mark) source source)
 started b source h = record {
   rounded = start-state b source;
   queued = record { tournament = put-tournament _ source source h (cleared mark); words = λ v l. words v l (ℕ-discrete v source) };
@@ -249,23 +280,32 @@ started b source h = record {
     home : at ds source ≡ 0
     home = at-set-same (replicate 1024 far) source 0 (rw length-replicate h)
 
-    words : (v : ℕ) → v < width → Dec (v ≡ source) → leaf (putLeaf (replicate 2048 mark) source source) v ≡ wordOf (state ds done) v
+    words : (v : ℕ) → v < width → Dec (v ≡ source) → leaf (putLeaf (replicate queueWords mark) source source) v ≡ wordOf (state ds done) v
     words v l (yes e) =
         let s : score (state ds done) source ≡ 0 = score-open (state ds done) source (none source) ∙ home in
         let z : source ≡ word 0 source = omega arith in
-        rw e (put-same (replicate 2048 mark) source source h (cleared mark .size) ∙ z
+        rw e (put-same (replicate queueWords mark) source source h (cleared mark .size) ∙ z
         ∙ sym (word-queued (state ds done) source (rw s (omega arith)) ∙ ap (λ (y : ℕ). word y source) s))
     words v l (no n) =
-        put-other (replicate 2048 mark) source source v h n ∙ cleared-leaf mark v l
+        put-other (replicate queueWords mark) source source v h n ∙ cleared-leaf mark v l
         ∙ sym (word-marked (state ds done) v (rw (score-open (state ds done) v (none v) ∙ at-set-other (replicate 1024 far) source v 0 n ∙ at-replicate 1024 v) (omega arith)))
 
 -- the same, by the parts that were written
 pub starts-by : (b : List ℕ) (source : ℕ) (ds queue queue′ : List ℕ) (done : List Bool) → source < width → ds ≡ replicate 1024 far → done ≡ replicate 1024 false
-    → queue ≡ replicate 2048 mark → queue′ ≡ putLeaf queue source source → Walking b source 0 (set ds source 0) done queue′
+    → queue ≡ replicate queueWords mark → queue′ ≡ putLeaf queue source source → Walking b source 0 (set ds source 0) done queue′
 starts-by b source ds queue queue′ done h e f g i = rw (e, f, i, g) (started b source h)
 
+-- a start is one along any adjacency
+pub walking-start : (adj : List ℕ) {source : ℕ} {ds : List ℕ} {done : List Bool} {queue : List ℕ}
+    → ((b : List ℕ) → Walking b source 0 ds done queue) → WalkingIn adj source 0 ds done queue
+walking-start adj w b a = w b
+
 -- after as many rounds as there are junctions
-pub finished : (b : List ℕ) (source k : ℕ) (ds : List ℕ) (done : List Bool) (queue : List ℕ) → k ≡ junctions b
+ended : (b : List ℕ) (source k : ℕ) (ds : List ℕ) (done : List Bool) (queue : List ℕ) → k ≡ junctions b
     → Walking b source k ds done queue → ds ≡ distances (net b) (junctions b) source
 unfolding distances walkFrom
-finished b source k ds done queue e w = ap (λ (s : State). s .ds) (rw e at (w .rounded))
+ended b source k ds done queue e w = ap (λ (s : State). s .ds) (rw e at (w .rounded))
+
+pub finished : (adj : List ℕ) (source k : ℕ) (ds : List ℕ) (done : List Bool) (queue : List ℕ) → k ≡ countIn adj
+    → WalkingIn adj source k ds done queue → (b : List ℕ) → Adjacency b adj → ds ≡ distances (net b) (junctions b) source
+finished adj source k ds done queue e w b a = ended b source k ds done queue (e ∙ a .count) (w b a)

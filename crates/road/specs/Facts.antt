@@ -1,4 +1,5 @@
--- What a road book that passes is, and what holds of its distances, to be held against the paper. Assumes nothing: these are definitions.
+-- What a road book that passes is, and what holds of its distances, to be held against the paper.
+-- Assumes nothing: these are definitions.
 use mathlib.Core.Path.{_≡_}
 use mathlib.Core.List.{List}
 use Prim.Native.Nat.{ℕ, _+_, _*_, _≤_, _<_}

@@ -3,3 +3,4 @@ pub mod Dijkstra
 pub mod Queue
 pub mod Refusal
 pub mod Facts
+pub mod Rows

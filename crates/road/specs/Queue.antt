@@ -1,4 +1,5 @@
--- The walk's queue: a tournament tree over the junctions, by distance and then number. Assumes nothing: these are definitions.
+-- The walk's queue: a tournament over the junctions, by distance and then number.
+-- Assumes nothing: these are definitions.
 use mathlib.Core.Path.{_≡_}
 use mathlib.Core.Bool.{Bool}
 use mathlib.Core.List.{List, [], _∷_}
@@ -6,9 +7,10 @@ use Prim.Native.Nat.{ℕ, _+_, _*_, _≤_, _<_}
 use lib.ListN.{length, set}
 use lib.Dec.{ltb, eqb}
 use Rattle.book.specs.Choose.{choose}
-use Rattle.tournament.specs.Tournament.{putLeaf, leaf, Tournament}
+use Rattle.tournament.specs.Tournament.{queueWords, putLeaf, leaf, Tournament}
 use Rattle.road_layout.specs.Road.{junctions}
 use Rattle.adjacency.specs.Arcs.{Arc, net}
+use Rattle.adjacency.specs.Adjacency.{Adjacency}
 use Rattle.road.specs.Dijkstra.{far, width, at, State, score, start, rounds}
 
 abbrev pub state : List ℕ → List Bool → State
@@ -58,8 +60,12 @@ pub record Walking (b : List ℕ) (source k : ℕ) (ds : List ℕ) (done : List 
   pub rounded : state ds done ≡ rounds (net b) (junctions b) k (start source)
   pub queued : Queued queue (state ds done)
 
+-- They do so in every road book whose adjacency the array is.
+abbrev pub WalkingIn : List ℕ → ℕ → ℕ → List ℕ → List Bool → List ℕ → Type 0
+WalkingIn adj source k ds done queue = (b : List ℕ) → Adjacency b adj → Walking b source k ds done queue
+
 -- The arrays' lengths.
 pub record Roomy (ds : List ℕ) (done : List Bool) (queue : List ℕ) : Type 0 where
   pub distances : length ds ≡ width
   pub marks : length done ≡ width
-  pub words : length queue ≡ 2048
+  pub words : length queue ≡ queueWords

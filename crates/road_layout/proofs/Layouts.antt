@@ -1,17 +1,16 @@
 -- A road book passes tests 1 to 5 exactly if it has the stated layout. Assumes nothing.
-use mathlib.Core.Path.{_≡_, refl, sym, ap, _∙_}
+use mathlib.Core.Path.{_≡_, _∙_}
 use mathlib.Core.Logic.{_⊎_, inl, inr, _↔_}
-use mathlib.Core.Bool.{true, false, _&&_}
+use mathlib.Core.Bool.{_&&_}
 use mathlib.Core.List.{List, List·Memᴰ, List·Memᴰ·head, List·Memᴰ·tail, List·Memᴰ·not-nil}
-use Prim.Native.Nat.{ℕ, zero, suc, _+_, _*_, _≤_, _<_}
+use Prim.Native.Nat.{ℕ, zero, suc, _+_, _≤_, _<_}
 use native.Mathlib.Decide.{ℕ-discrete}
 use native.Mathlib.Numerals.{add-one}
 use native.Mathlib.Omega.{arith}
-use lib.ListN.{length}
 use lib.Dec.{T, ltb, leb, eqb, ltb→lt, lt→ltb, leb→le, le→leb, eqb→eq}
-use Rattle.book.specs.Choose.{refuse, firstOf}
 use Rattle.book.specs.Open.{openRefusal}
-use Rattle.book.proofs.Choosing.{and-left, and-right, and-both, or-cases, or-left, or-right, eq→eqb, passes, passed, first-none, first-later, first-low, refuse-low}
+use Rattle.book.proofs.Choosing.{and-left, and-right, and-both, or-cases, or-left, or-right, eq→eqb}
+use Rattle.book.proofs.Choosing.{passes, passed, first-none, first-later, first-low, refuse-low}
 use Rattle.book.proofs.Opening.{opens, open-zero, open-most}
 use Rattle.road_layout.specs.Road.{Road, junctions, roadCount, roadAt, roadsTo, roads}
 use Rattle.road_layout.specs.Layout.{after, roadOk, roadsOk, layoutRefusal}

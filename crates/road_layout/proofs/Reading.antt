@@ -1,5 +1,5 @@
 -- Which facts lead to which answer of `layoutRefusal`. Assumes nothing.
-use mathlib.Core.Path.{_≡_, refl, sym, ap, _∙_}
+use mathlib.Core.Path.{_≡_, refl, sym, _∙_}
 use mathlib.Core.Bool.{true, false}
 use mathlib.Core.List.{List}
 use Prim.Native.Nat.{ℕ, zero, suc, _+_, _*_, _≤_, _<_}
@@ -7,8 +7,7 @@ use native.Mathlib.Omega.{arith}
 use borrow.Author.Tests.{le-leb, lt-leb, eq-eqb, ne-eqb}
 use lib.ListN.{length}
 use lib.Dec.{leb, eqb}
-use Rattle.book.specs.Choose.{refuse, firstOf}
-use Rattle.book.specs.Bytes.{u16At}
+use Rattle.book.specs.Choose.{refuse}
 use Rattle.book.specs.Open.{openRefusal, opened}
 use Rattle.book.specs.declared.Opened.the-variants as Opened
 use Rattle.book.proofs.Choosing.{first-later, first-earlier, passes-if, fails-if}
@@ -48,21 +47,21 @@ unopened b why e =
     let p = opened-refused (openRefusal b 4) why e in
     rw (first-earlier (openRefusal b 4) _ (omega (arith, p .0, p .1)), p .0) (sym (told-refused why (junctions b) (roadCount b) (p .1)))
 
-module _ (b : List ℕ) (o : openRefusal b 4 ≡ 0) (n count : ℕ) (en : n ≡ u16At b 5) (ec : count ≡ u16At b 7) where
+module _ (b : List ℕ) (o : openRefusal b 4 ≡ 0) (n count : ℕ) (en : n ≡ junctions b) (ec : count ≡ roadCount b) where
   -- an answer, from the number that the tests give
   pub refused : (x : ℕ) → layoutRefusal b ≡ x → 1 ≤ x → Refused x ≡ told (layoutRefusal b) (junctions b) (roadCount b)
   refused x e h = rw e (sym (told-refused x (junctions b) (roadCount b) h))
 
   pub sound : layoutRefusal b ≡ 0 → Sound n count ≡ told (layoutRefusal b) (junctions b) (roadCount b)
-  unfolding told junctions roadCount
+  unfolding told
   sound e = rw (e, en, ec) refl
 
   pub no-junction : n < 1 → layoutRefusal b ≡ 3
-  unfolding layoutRefusal junctions
+  unfolding layoutRefusal
   no-junction p = first-later _ _ o ∙ fails-if _ _ _ (lt-leb _ _ (rw en at p))
 
   pub many-junctions : 1 ≤ n → 1024 < n → layoutRefusal b ≡ 3
-  unfolding layoutRefusal junctions
+  unfolding layoutRefusal
   many-junctions p q =
       first-later _ _ o ∙ passes-if _ _ _ (le-leb _ _ (rw en at p)) ∙ fails-if _ _ _ (lt-leb _ _ (rw en at q))
 
@@ -70,7 +69,7 @@ module _ (b : List ℕ) (o : openRefusal b 4 ≡ 0) (n count : ℕ) (en : n ≡ 
     counted : layoutRefusal b
         ≡ refuse (leb count 4096) 3
         (refuse (eqb (length b) (9 + 6 * count)) 4 (refuse (roadsOk b n count 0 0 0) 5 0))
-    unfolding layoutRefusal junctions roadCount
+    unfolding layoutRefusal
     counted =
         first-later _ _ o ∙ passes-if _ _ _ (le-leb _ _ (rw en at p)) ∙ passes-if _ _ _ (le-leb _ _ (rw en at q)) ∙ rw (en, ec) refl
 

@@ -1,19 +1,18 @@
 -- `roadsOk`, one road at a time, as a loop counts: `count - k` roads are left. Assumes nothing.
-use mathlib.Core.Path.{_≡_, refl, sym, _∙_}
+use mathlib.Core.Path.{_≡_}
 use mathlib.Core.Bool.{true, false}
 use mathlib.Core.List.{List}
-use Prim.Native.Nat.{ℕ, zero, suc, _+_, _-_, _*_, _≤_, _<_}
+use Prim.Native.Nat.{ℕ, suc, _+_, _-_, _≤_, _<_}
 use native.Mathlib.Omega.{arith}
-use Rattle.book.specs.Bytes.{u16At}
-use Rattle.road_layout.specs.Road.{Road, roadAt}
+use Rattle.road_layout.specs.Road.{roadAt}
 use Rattle.road_layout.specs.Layout.{roadOk, roadsOk}
 use Rattle.road_layout.proofs.Roads.{read-road}
 
-module _ (b : List ℕ) (n count k at l h low high seconds : ℕ) (place : at ≡ 9 + 6 * k)
-    (el : low ≡ u16At b at) (eh : high ≡ u16At b (at + 2)) (es : seconds ≡ u16At b (at + 4)) where
+module _ (b : List ℕ) (n count k l h low high seconds : ℕ)
+    (el : low ≡ roadAt b k .low) (eh : high ≡ roadAt b k .high) (es : seconds ≡ roadAt b k .seconds) where
   -- what was read is road k
   road-k : record { low = low; high = high; seconds = seconds } ≡ roadAt b k
-  road-k = read-road b k at low high seconds place el eh es
+  road-k = read-road b k low high seconds el eh es
 
   -- a good road: the rest decides
   pub goes-on : k < count → roadOk n l h (record { low = low; high = high; seconds = seconds }) ≡ true

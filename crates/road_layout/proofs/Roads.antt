@@ -1,23 +1,18 @@
--- What stands at a road's place is the road. Assumes nothing.
+-- What is read of a road is the road. Assumes nothing.
 use mathlib.Core.Path.{_≡_, refl}
 use mathlib.Core.List.{List, [], _∷_}
-use Prim.Native.Nat.{ℕ, suc, _+_, _*_}
+use Prim.Native.Nat.{ℕ, suc}
 use Rattle.book.specs.Bytes.{u16At}
-use Rattle.road_layout.specs.Road.{Road, junctions, roadCount, roadAt, roadsTo, roads}
+use Rattle.road_layout.specs.Road.{junctions, roadCount, roadAt, roadsTo, roads}
 
-pub read-road : (b : List ℕ) (k at low high seconds : ℕ) → at ≡ 9 + 6 * k → low ≡ u16At b at → high ≡ u16At b (at + 2) → seconds ≡ u16At b (at + 4)
+pub read-road : (b : List ℕ) (k low high seconds : ℕ) → low ≡ roadAt b k .low → high ≡ roadAt b k .high → seconds ≡ roadAt b k .seconds
     → record { low = low; high = high; seconds = seconds } ≡ roadAt b k
-unfolding roadAt
-read-road b k at low high seconds place el eh es = rw (el, eh, es, place) refl
+read-road b k low high seconds el eh es = rw (el, eh, es) refl
 
--- the counts
+-- the junction count
 pub read-junctions : (b : List ℕ) → u16At b 5 ≡ junctions b
 unfolding junctions
 read-junctions b = refl
-
-pub read-count : (b : List ℕ) → u16At b 7 ≡ roadCount b
-unfolding roadCount
-read-count b = refl
 
 -- the roads, one more at a time
 pub roads-none : (b : List ℕ) → roadsTo b 0 ≡ []

@@ -1,4 +1,5 @@
--- What a road book of sound layout is, to be held against "Road book" of the paper. Assumes nothing: these are definitions.
+-- What a road book of sound layout is, to be held against "Road book" of the paper.
+-- Assumes nothing: these are definitions.
 use mathlib.Core.Path.{_≡_}
 use mathlib.Core.Logic.{_⊎_}
 use mathlib.Core.List.{List}

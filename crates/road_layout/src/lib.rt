@@ -1,8 +1,8 @@
 use book::Opened;
 ghost use mathlib.Core.Path.{_≡_};
-ghost use Prim.Native.Nat.{ℕ, _+_, _*_, _≤_};
+ghost use Prim.Native.Nat.{_+_, _*_, _≤_};
 ghost use lib.ListN.{length};
-ghost use Rattle.road_layout.specs.Road.{Road, junctions, roadCount};
+ghost use Rattle.road_layout.specs.Road.{junctions, roadCount, roadAt};
 ghost use Rattle.road_layout.specs.Layout.{roadOk, roadsOk, layoutRefusal, told};
 
 // What reading a road book finds: its counts, or the number of the test that turns it back.
@@ -11,17 +11,56 @@ pub enum RoadBook {
     Refused(u8),
 }
 
-// Whether a road fits n junctions, and its pair of ends comes after the pair (l, h).
-fn road_ok(n: u16, l: u16, h: u16, low: u16, high: u16, seconds: u16) -> bool
-    ensures { λ r. ⌜ r ≡ roadOk n l h (record { low = low; high = high; seconds = seconds }) ⌝ }
+// A road: its low end, its high end and its seconds.
+pub struct Road {
+    pub low: u16,
+    pub high: u16,
+    pub seconds: u16,
+}
+
+// How many junctions a book's header says there are.
+pub fn junction_count(b: &[u8]) -> u16
+    requires { ⌜ 9 ≤ length (now b) ⌝ }
+    ensures { λ r. ⌜ r ≡ junctions (now (b .entry)) ⌝ }
 {
+    book::u16_at(b, 5)
+}
+
+// How many roads it says there are.
+pub fn road_count(b: &[u8]) -> u16
+    requires { ⌜ 9 ≤ length (now b) ⌝ }
+    ensures { λ r. ⌜ r ≡ roadCount (now (b .entry)) ⌝ }
+{
+    book::u16_at(b, 7)
+}
+
+// Road k, counted from 0.
+pub fn road_at(b: &[u8], k: usize) -> Road
+    requires { ⌜ 9 + 6 * k + 6 ≤ length (now b) ⌝ }
+    ensures { λ r. ⌜ (r .low ≡ roadAt (now (b .entry)) k .low) × (r .high ≡ roadAt (now (b .entry)) k .high)
+        × (r .seconds ≡ roadAt (now (b .entry)) k .seconds) ⌝ }
+{
+    let at = 9 + 6 * k;
+    Road {
+        low: book::u16_at(b, at),
+        high: book::u16_at(b, at + 2),
+        seconds: book::u16_at(b, at + 4),
+    }
+}
+
+// Whether a road fits n junctions, and its pair of ends comes after the pair (l, h).
+fn road_ok(n: u16, l: u16, h: u16, road: Road) -> bool
+    ensures { λ r. ⌜ r ≡ roadOk n l h (record { low = road .low; high = road .high; seconds = road .seconds }) ⌝ }
+{
+    let low = road.low;
+    let high = road.high;
     if high <= low {
         return false;
     }
     if n <= high {
         return false;
     }
-    if seconds < 1 {
+    if road.seconds < 1 {
         return false;
     }
     if l < low {
@@ -38,20 +77,16 @@ fn roads_ok(b: &[u8], count: usize, n: u16) -> bool
     requires { ⌜ 9 + 6 * count ≤ length (now b) ⌝ }
     ensures { λ r. ⌜ r ≡ roadsOk (now (b .entry)) n count 0 0 0 ⌝ }
 {
-    let mut k = 0;
-    let mut at = 9;
+    let mut k: usize = 0;
     let mut l: u16 = 0;
     let mut h: u16 = 0;
     while k < count {
-        let low = book::u16_at(b, at);
-        let high = book::u16_at(b, at + 2);
-        let seconds = book::u16_at(b, at + 4);
-        if !road_ok(n, l, h, low, high, seconds) {
+        let road = road_at(b, k);
+        if !road_ok(n, l, h, road) {
             return false;
         }
-        l = low;
-        h = high;
-        at += 6;
+        l = road.low;
+        h = road.high;
         k += 1;
     }
     true
@@ -59,7 +94,8 @@ fn roads_ok(b: &[u8], count: usize, n: u16) -> bool
 
 // Reads a road book through tests 1 to 5.
 pub fn read(b: &[u8]) -> RoadBook
-    ensures { λ r. ⌜ r ≡ told (layoutRefusal (now (b .entry))) (junctions (now (b .entry))) (roadCount (now (b .entry))) ⌝ }
+    ensures { λ r. ⌜ r
+        ≡ told (layoutRefusal (now (b .entry))) (junctions (now (b .entry))) (roadCount (now (b .entry))) ⌝ }
 {
     let o = book::open(b, 4);
     let Opened::Body = o else {
@@ -68,8 +104,8 @@ pub fn read(b: &[u8]) -> RoadBook
         };
         return RoadBook::Refused(why);
     };
-    let n = book::u16_at(b, 5);
-    let roads = book::u16_at(b, 7);
+    let n = junction_count(b);
+    let roads = road_count(b);
     if n < 1 {
         return RoadBook::Refused(3);
     }

@@ -6,6 +6,10 @@ use lib.ListN.{length, getD, set}
 use lib.Dec.{eqb}
 use Rattle.book.specs.Choose.{choose}
 
+-- how many words
+abbrev pub queueWords : ℕ
+queueWords = 2048
+
 -- leaf v's word
 unfoldable pub leaf : List ℕ → ℕ → ℕ
 leaf t v = getD t (1024 + v) 0

@@ -3,6 +3,9 @@ ghost use Prim.Native.Nat.{ℕ, _≤_, _<_, min};
 ghost use lib.ListN.{length, replicate};
 ghost use Rattle.tournament.specs.Tournament.{leaf, top, putLeaf, Tournament};
 
+// How many words a tournament has.
+pub const WORDS: usize = 2048;
+
 // The lesser of two words.
 pub fn lesser(a: u64, b: u64) -> u64
     ensures { λ r. ⌜ r ≡ min a b ⌝ }

@@ -1,45 +1,45 @@
 use borrow.Author.Needs.{needs}
-use mathlib.Core.Path.{_≡_}
 use Prim.Native.Nat.{_-_, _≤_}
 use native.Mathlib.Omega.{arith}
-use lib.ListN.{length, length-set}
-use Rattle.book.proofs.Filling.{filled, filled-none, filled-more, filled-all}
+use Rattle.adjacency.proofs.Clearing.{Cleared, cleared-none, cleared-more, cleared-all}
 use Rattle.adjacency.proofs.clear.Statement.{statement}
 use Rattle.adjacency.proofs.clear.Tie as tie
 
 abbrev Inv-loop : tie.InvT-loop
-Inv-loop head₀ i₀ head i = (i ≤ 1024) × (length head₀ ≡ 1024) × (length head ≡ 1024) × (head ≡ filled i 0 head₀)
+Inv-loop adj₀ n u₀ adj u = (u ≤ 1024) × Cleared u n adj
 
 abbrev μ-loop : tie.MeasureT-loop
-μ-loop head₀ i₀ head i = 1024 - i
+μ-loop adj₀ n u₀ adj u = 1024 - u
+
+slice-write-adj : tie.Need-slice-write-adj Inv-loop μ-loop
+slice-write-adj c = search needs
 
 loop-holds : tie.Need-loop-holds Inv-loop μ-loop
-loop-holds c = (omega arith, omega arith, omega arith, filled-none _ _)
+loop-holds c = (omega arith, cleared-none (c .args .adj .now) _ (c .pre))
 
-mul-head : tie.Need-mul-head Inv-loop μ-loop
-mul-head c = search needs
+add-adj : tie.Need-add-adj Inv-loop μ-loop
+add-adj c = search needs
 
-slice-write-head : tie.Need-slice-write-head Inv-loop μ-loop
-slice-write-head c = search needs
+mul-adj : tie.Need-mul-adj Inv-loop μ-loop
+mul-adj c = search needs
 
-add-i : tie.Need-add-i Inv-loop μ-loop
-add-i c = search needs
+slice-write-adj-2 : tie.Need-slice-write-adj-2 Inv-loop μ-loop
+slice-write-adj-2 c = search needs
+
+add-u : tie.Need-add-u Inv-loop μ-loop
+add-u c = search needs
 
 loop-less : tie.Need-loop-less Inv-loop μ-loop
 loop-less c = search needs
 
 loop-again : tie.Need-loop-again Inv-loop μ-loop
-loop-again c =
-    let l = c .before .loop in
-    (omega arith, omega arith, simp length-set (omega arith), filled-more _ _ _ _ (l .inv .3) (omega arith))
+loop-again c = (omega arith, cleared-more _ _ _ (c .loop-test .taken) (c .before .loop .inv .1))
 
 same-length : tie.Need-same-length Inv-loop μ-loop
 same-length c = search needs
 
 returns : tie.Need-returns Inv-loop μ-loop
-returns c =
-    let l = c .before .loop in
-    filled-all 1024 _ _ _ _ (l .inv .3) (l .inv .1) (omega arith)
+returns c = cleared-all _ _ _ (c .loop-test .left) (c .before .loop .inv .1)
 
 pub clear-spec : {M : Type 1} → statement M
 clear-spec =
@@ -47,10 +47,12 @@ clear-spec =
     (tie.spec
     Inv-loop
     μ-loop
+    slice-write-adj
     loop-holds
-    mul-head
-    slice-write-head
-    add-i
+    add-adj
+    mul-adj
+    slice-write-adj-2
+    add-u
     loop-less
     loop-again
     same-length

@@ -1,20 +1,20 @@
 use borrow.Author.Needs.{needs}
 use native.Mathlib.Omega.{arith}
-use Rattle.road_layout.proofs.Layouts.{passing-layout}
+use Rattle.adjacency.proofs.Linking.{few-junctions}
 use Rattle.eccentricity.proofs.row.Statement.{statement}
 use Rattle.eccentricity.proofs.row.Tie as tie
 
 slice-aggregate-distances : tie.Need-slice-aggregate-distances
 slice-aggregate-distances c = search needs
 
-slice-aggregate-distances-2 : tie.Need-slice-aggregate-distances-2
-slice-aggregate-distances-2 c = search needs
-
-slice-aggregate-distances-3 : tie.Need-slice-aggregate-distances-3
-slice-aggregate-distances-3 c = search needs
-
 distances-requires : tie.Need-distances-requires
 distances-requires c κs = search needs
+
+junctions-requires : tie.Need-junctions-requires
+junctions-requires c κs = search needs
+
+cast-n : tie.Need-cast-n
+cast-n c = search needs
 
 print-decimal-requires : tie.Need-print-decimal-requires
 print-decimal-requires c κs = search needs
@@ -29,7 +29,9 @@ slice-aggregate-furthest : tie.Need-slice-aggregate-furthest
 slice-aggregate-furthest c = search needs
 
 furthest-requires : tie.Need-furthest-requires
-furthest-requires c κs = omega (arith, c .before .before .before .before .before .before .before .before .before .before .before .before .before .before .before .before .pre .1, passing-layout _ (c .before .before .before .before .before .before .before .before .before .before .before .before .before .before .before .before .pre .0 .layout) .few-junctions, c .before .before .before .before .before .before .before .distances .kept)
+furthest-requires c κs =
+    let few = few-junctions (c .before .before .before .before .before .before .before .before .before .pre .0 .adjacent) in
+    omega (arith, c .before .before .before .before .junctions .ensures, c .before .before .before .before .before .before .distances .kept)
 
 print-decimal-requires-2 : tie.Need-print-decimal-requires-2
 print-decimal-requires-2 c κs = search needs
@@ -45,8 +47,10 @@ slice-aggregate-total c = search needs
 
 total-requires : tie.Need-total-requires
 total-requires c κs =
-    let few = passing-layout _ (c .before .before .before .before .before .before .before .before .before .before .before .before .before .before .before .before .before .before .before .before .before .pre .0 .layout) .few-junctions in
-    (omega (arith, c .before .before .before .before .before .before .before .before .before .before .before .before .before .before .before .before .before .before .before .before .before .pre .1, few, c .before .before .before .before .before .before .before .before .before .before .before .before .distances .kept), omega (arith, c .before .before .before .before .before .before .before .before .before .before .before .before .before .before .before .before .before .before .before .before .before .pre .1, few))
+    let far = c .before .before .before .before .before .before .before .before in
+    let few = few-junctions (far .before .before .before .before .before .before .pre .0 .adjacent) in
+    let e = far .before .junctions .ensures in
+    (omega (arith, few, e, far .before .before .before .distances .kept), omega (arith, few, e))
 
 print-decimal-requires-3 : tie.Need-print-decimal-requires-3
 print-decimal-requires-3 c κs = search needs
@@ -65,9 +69,9 @@ row-spec =
     tie.close
     (tie.spec
     slice-aggregate-distances
-    slice-aggregate-distances-2
-    slice-aggregate-distances-3
     distances-requires
+    junctions-requires
+    cast-n
     print-decimal-requires
     slice-aggregate-write-all
     write-all-requires

@@ -1,7 +1,7 @@
 use borrow.Author.Needs.{needs}
 use mathlib.Core.Path.{sym, _∙_}
 use borrow.Author.Tests.{not-true, not-false}
-use Rattle.road.proofs.Answering.{layout-refused, layout-sound, cut-off, sound}
+use Rattle.road.proofs.Answering.{layout-refused, layout-fails, layout-sound, cut-off, sound}
 use Rattle.road.proofs.read.Statement.{statement}
 use Rattle.road.proofs.read.Tie as tie
 
@@ -15,22 +15,39 @@ enum-told : tie.Need-enum-told
 enum-told c = search needs
 
 returns : tie.Need-returns
-returns c = layout-refused _ _ _ (c .before .before .read .ensures) (c .enum-told .given .1)
+returns c =
+    let e = c .before .before .read .ensures in
+    let f = c .enum-told .given .1 in
+    (layout-refused _ _ _ e f, λ z. absurd (layout-fails _ _ _ e f z))
+
+fill-requires : tie.Need-fill-requires
+fill-requires c κs = (
+  layout-sound _ _ _ _ (c .before .before .before .before .read .ensures) (c .before .before .layout .given .1) .0,
+  c .before .before .before .before .before .before .before .pre,
+)
 
 connected-requires : tie.Need-connected-requires
-connected-requires c κs =
-    let s = layout-sound _ _ _ _ (c .before .before .before .read .ensures) (c .before .layout .given .1) in
-    (s .0, s .1)
+connected-requires c κs = search needs
+
+same-length : tie.Need-same-length
+same-length c = search needs
 
 returns-2 : tie.Need-returns-2
 returns-2 c =
-    let s = layout-sound _ _ _ _ (c .before .before .before .before .before .read .ensures) (c .before .before .before .layout .given .1) in
-    cut-off _ (s .0) (sym (c .before .connected .ensures) ∙ not-true _ (c .if1 .taken))
+    let far = c .before .before .before .before .before .before .before .before in
+    let s = layout-sound _ _ _ _ (far .before .before .read .ensures) (far .layout .given .1) in
+    let a = c .before .before .before .before .before .fill .ensures in
+    (cut-off _ (s .0) (sym (c .before .connected .ensures _ a) ∙ not-true _ (c .if1 .taken)), λ z. a)
+
+same-length-2 : tie.Need-same-length-2
+same-length-2 c = search needs
 
 returns-3 : tie.Need-returns-3
 returns-3 c =
-    let s = layout-sound _ _ _ _ (c .before .before .before .before .before .read .ensures) (c .before .before .before .layout .given .1) in
-    sound _ (s .0) _ _ (sym (c .before .connected .ensures) ∙ not-false _ (c .if1 .left)) (s .1) (s .2)
+    let far = c .before .before .before .before .before .before .before .before in
+    let s = layout-sound _ _ _ _ (far .before .before .read .ensures) (far .layout .given .1) in
+    let a = c .before .before .before .before .before .fill .ensures in
+    (sound _ (s .0) _ _ (sym (c .before .connected .ensures _ a) ∙ not-false _ (c .if1 .left)) (s .1) (s .2), λ z. a)
 
 pub read-spec : {M : Type 1} → statement M
 read-spec =
@@ -40,6 +57,9 @@ read-spec =
     enum-known-layout
     enum-told
     returns
+    fill-requires
     connected-requires
+    same-length
     returns-2
+    same-length-2
     returns-3)

@@ -35,20 +35,32 @@ returns-2 c =
     let o = c .before .before .before .before in
     unopened _ _ (sym (o .before .before .«open» .ensures) ∙ o .o .given .1 ∙ c .before .o2 .given .1)
 
-u16-at-requires : tie.Need-u16-at-requires
-u16-at-requires c κs = omega (arith, opens _ _ (body c) .headed)
+junction-count-requires : tie.Need-junction-count-requires
+junction-count-requires c κs = omega (arith, opens _ _ (body c) .headed)
 
-u16-at-requires-2 : tie.Need-u16-at-requires-2
-u16-at-requires-2 c κs = omega (arith, opens _ _ (body (c .before)) .headed)
+road-count-requires : tie.Need-road-count-requires
+road-count-requires c κs = omega (arith, opens _ _ (body (c .before)) .headed)
 
 returns-3 : tie.Need-returns-3
-returns-3 c = refused _ (body (c .before .before .before)) _ _ (c .before .before .u16-at .ensures) (c .before .u16-at2 .ensures) 3 (no-junction _ (body (c .before .before .before)) _ _ (c .before .before .u16-at .ensures) (c .before .u16-at2 .ensures) (c .if1 .taken)) (omega arith)
+returns-3 c =
+    let o = body (c .before .before .before) in
+    let n = c .before .before .junction-count .ensures in
+    let r = c .before .road-count .ensures in
+    refused _ o _ _ n r 3 (no-junction _ o _ _ n r (c .if1 .taken)) (omega arith)
 
 returns-4 : tie.Need-returns-4
-returns-4 c = refused _ (body (c .before .before .before .before)) _ _ (c .before .before .before .u16-at .ensures) (c .before .before .u16-at2 .ensures) 3 (many-junctions _ (body (c .before .before .before .before)) _ _ (c .before .before .before .u16-at .ensures) (c .before .before .u16-at2 .ensures) (omega arith) (c .if2 .taken)) (omega arith)
+returns-4 c =
+    let o = body (c .before .before .before .before) in
+    let n = c .before .before .before .junction-count .ensures in
+    let r = c .before .before .road-count .ensures in
+    refused _ o _ _ n r 3 (many-junctions _ o _ _ n r (omega arith) (c .if2 .taken)) (omega arith)
 
 returns-5 : tie.Need-returns-5
-returns-5 c = refused _ (body (c .before .before .before .before .before)) _ _ (c .before .before .before .before .u16-at .ensures) (c .before .before .before .u16-at2 .ensures) 3 (many-roads _ (body (c .before .before .before .before .before)) _ _ (c .before .before .before .before .u16-at .ensures) (c .before .before .before .u16-at2 .ensures) (omega arith) (omega arith) (c .if3 .taken)) (omega arith)
+returns-5 c =
+    let o = body (c .before .before .before .before .before) in
+    let n = c .before .before .before .before .junction-count .ensures in
+    let r = c .before .before .before .road-count .ensures in
+    refused _ o _ _ n r 3 (many-roads _ o _ _ n r (omega arith) (omega arith) (c .if3 .taken)) (omega arith)
 
 cast-count : tie.Need-cast-count
 cast-count c = search needs
@@ -60,20 +72,30 @@ add-if4 : tie.Need-add-if4
 add-if4 c = search needs
 
 returns-6 : tie.Need-returns-6
-returns-6 c = refused _ (body (c .before .before .before .before .before .before)) _ _ (c .before .before .before .before .before .u16-at .ensures) (c .before .before .before .before .u16-at2 .ensures) 4 (misfit _ (body (c .before .before .before .before .before .before)) _ _ (c .before .before .before .before .before .u16-at .ensures) (c .before .before .before .before .u16-at2 .ensures) (omega arith) (omega arith) (omega arith) (c .if4 .taken)) (omega arith)
+returns-6 c =
+    let o = body (c .before .before .before .before .before .before) in
+    let n = c .before .before .before .before .before .junction-count .ensures in
+    let r = c .before .before .before .before .road-count .ensures in
+    refused _ o _ _ n r 4 (misfit _ o _ _ n r (omega arith) (omega arith) (omega arith) (c .if4 .taken)) (omega arith)
 
 roads-ok-requires : tie.Need-roads-ok-requires
 roads-ok-requires c κs = search needs
 
 returns-7 : tie.Need-returns-7
 returns-7 c =
+    let o = body (c .before .before .before .before .before .before .before .before) in
+    let n = c .before .before .before .before .before .before .before .junction-count .ensures in
+    let r = c .before .before .before .before .before .before .road-count .ensures in
     let v = sym (c .before .roads-ok .ensures) ∙ not-true _ (c .if5 .taken) in
-    refused _ (body (c .before .before .before .before .before .before .before .before)) _ _ (c .before .before .before .before .before .before .before .u16-at .ensures) (c .before .before .before .before .before .before .u16-at2 .ensures) 5 (wrong _ (body (c .before .before .before .before .before .before .before .before)) _ _ (c .before .before .before .before .before .before .before .u16-at .ensures) (c .before .before .before .before .before .before .u16-at2 .ensures) (omega arith) (omega arith) (omega arith) (omega arith) v) (omega arith)
+    refused _ o _ _ n r 5 (wrong _ o _ _ n r (omega arith) (omega arith) (omega arith) (omega arith) v) (omega arith)
 
 returns-8 : tie.Need-returns-8
 returns-8 c =
+    let o = body (c .before .before .before .before .before .before .before .before) in
+    let n = c .before .before .before .before .before .before .before .junction-count .ensures in
+    let r = c .before .before .before .before .before .before .road-count .ensures in
     let v = sym (c .before .roads-ok .ensures) ∙ not-false _ (c .if5 .left) in
-    sound _ (body (c .before .before .before .before .before .before .before .before)) _ _ (c .before .before .before .before .before .before .before .u16-at .ensures) (c .before .before .before .before .before .before .u16-at2 .ensures) (right _ (body (c .before .before .before .before .before .before .before .before)) _ _ (c .before .before .before .before .before .before .before .u16-at .ensures) (c .before .before .before .before .before .before .u16-at2 .ensures) (omega arith) (omega arith) (omega arith) (omega arith) v)
+    sound _ o _ _ n r (right _ o _ _ n r (omega arith) (omega arith) (omega arith) (omega arith) v)
 
 pub read-spec : {M : Type 1} → statement M
 read-spec =
@@ -86,8 +108,8 @@ read-spec =
     enum-told-2
     returns
     returns-2
-    u16-at-requires
-    u16-at-requires-2
+    junction-count-requires
+    road-count-requires
     returns-3
     returns-4
     returns-5

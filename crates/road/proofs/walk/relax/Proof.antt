@@ -1,71 +1,78 @@
 use borrow.Author.Needs.{needs}
-use mathlib.Core.Path.{refl}
+use mathlib.Core.Path.{sym, _∙_}
+use mathlib.Core.List.{List}
+use Prim.Native.Nat.{ℕ}
 use native.Mathlib.Omega.{arith}
+use Rattle.adjacency.specs.Adjacency.{Adjacency}
 use Rattle.road.specs.Queue.{reach}
 use Rattle.road.proofs.Following.{Chain, ArcFacts, chain-starts, chain-facts, chain-goes-on, chain-ends}
 use Rattle.road.proofs.walk.relax.Statement.{statement}
 use Rattle.road.proofs.walk.relax.Tie as tie
 
 abbrev Inv-loop : tie.InvT-loop
-Inv-loop b next to cost ds₀ queue₀ first u d a₀ ds queue a =
-    Chain b next to cost u d (reach ds₀ queue₀) (reach ds queue) a
+Inv-loop adj row₀ queue₀ u d a₀ row queue a = (b : List ℕ) → Adjacency b adj → Chain b adj u d (reach row₀ queue₀) (reach row queue) a
 
 abbrev μ-loop : tie.MeasureT-loop
-μ-loop b next to cost ds₀ queue₀ first u d a₀ ds queue a = a
+μ-loop adj row₀ queue₀ u d a₀ row queue a = a
 
 -- what is known of the arc that the loop has come to
-facts : (c : tie.In-loop Inv-loop μ-loop) → ArcFacts (c .before .before .before .before .before .before .before .before .args .next .now) (c .before .before .before .before .before .before .before .before .args .to .now) (c .before .before .before .before .before .before .before .before .args .cost .now) (c .before .loop .a)
-facts c = chain-facts _ _ _ _ _ _ _ _ _ (c .before .loop .inv) (c .loop-test .taken)
+facts : (c : tie.In-loop Inv-loop μ-loop) → ArcFacts (c .before .before .before .before .before .before .args .adj .now) (c .before .loop .a)
+facts c =
+    let i = c .before .before .before .before .before .before .pre .0 in
+    chain-facts _ _ _ _ _ _ _ (c .before .loop .inv (i .book) (i .adjacent)) (c .loop-test .taken)
+
+head-requires : tie.Need-head-requires Inv-loop μ-loop
+head-requires c κs = (c .before .before .before .pre .0 .adjacent .size, c .before .before .before .pre .3)
 
 loop-holds : tie.Need-loop-holds Inv-loop μ-loop
 loop-holds c =
-    let p = c .before .before .before .before .before .before .pre in
-    chain-starts _ _ _ _ _ _ _ _ _ (p .0) (p .6) (p .7) (p .4) (p .5) (p .9)
+    let p = c .before .before .before .before .pre in
+    λ b ad. chain-starts b _ _ _ _ _ _ ad (p .3) (c .head .ensures) (p .1) (p .2) (p .5)
 
-cast-i : tie.Need-cast-i Inv-loop μ-loop
-cast-i c = omega (arith, facts c)
+to-requires : tie.Need-to-requires Inv-loop μ-loop
+to-requires c κs = (c .before .before .before .before .before .before .pre .0 .adjacent .size, facts c .some, facts c .few)
 
-mul-shorten : tie.Need-mul-shorten Inv-loop μ-loop
-mul-shorten c = omega (arith, facts (c .before .before))
-
-shared-slice-read-shorten : tie.Need-shared-slice-read-shorten Inv-loop μ-loop
-shared-slice-read-shorten c = omega (arith, facts (c .before .before .before))
-
-mul-shorten-2 : tie.Need-mul-shorten-2 Inv-loop μ-loop
-mul-shorten-2 c = omega (arith, facts (c .before .before .before))
-
-shared-slice-read-shorten-2 : tie.Need-shared-slice-read-shorten-2 Inv-loop μ-loop
-shared-slice-read-shorten-2 c = omega (arith, facts (c .before .before .before .before))
+cost-requires : tie.Need-cost-requires Inv-loop μ-loop
+cost-requires c κs = (c .before .before .before .before .before .before .before .pre .0 .adjacent .size, facts (c .before) .some, facts (c .before) .few)
 
 cast-shorten : tie.Need-cast-shorten Inv-loop μ-loop
-cast-shorten c = omega (arith, facts (c .before .before .before .before))
+cast-shorten c = search needs
 
 add-shorten : tie.Need-add-shorten Inv-loop μ-loop
-add-shorten c = omega (arith, facts (c .before .before .before .before))
+add-shorten c = omega (arith, facts (c .before .before .before .before) .cheap, c .before .before .cost .ensures)
 
 shorten-requires : tie.Need-shorten-requires Inv-loop μ-loop
-shorten-requires c κs = (c .before .before .before .before .before .loop .inv .distances, c .before .before .before .before .before .loop .inv .words, facts (c .before .before .before .before) .inside, c .before .before .before .before .before .loop .inv .above)
+shorten-requires c κs =
+    let far = c .before .before .before .before .before .before .before .before in
+    let ch = c .before .before .before .before .before .loop .inv (far .before .before .pre .0 .book) (far .before .before .pre .0 .adjacent) in
+    (ch .distances, ch .words, omega (arith, facts (c .before .before .before .before) .inside, c .before .before .before .to .ensures), ch .above)
 
-mul-a : tie.Need-mul-a Inv-loop μ-loop
-mul-a c = omega (arith, facts (c .before .before .before .before .before .before .before .before .before))
-
-shared-slice-read-a : tie.Need-shared-slice-read-a Inv-loop μ-loop
-shared-slice-read-a c = omega (arith, facts (c .before .before .before .before .before .before .before .before .before .before))
+next-requires : tie.Need-next-requires Inv-loop μ-loop
+next-requires c κs =
+    let far = c .before .before .before .before .before .before .before .before in
+    (far .before .before .before .before .before .before .before .pre .0 .adjacent .size, facts (far .before) .some, facts (far .before) .few)
 
 loop-less : tie.Need-loop-less Inv-loop μ-loop
-loop-less c = facts (c .before .before .before .before .before .before .before .before .before .before) .falls
+loop-less c = omega (arith, facts (c .before .before .before .before .before .before .before .before .before .before) .falls, c .next .ensures)
 
 loop-again : tie.Need-loop-again Inv-loop μ-loop
-loop-again c = chain-goes-on _ _ _ _ _ _ _ _ _ (c .before .before .before .before .before .before .before .before .before .before .before .loop .inv) (c .before .before .before .before .before .before .before .before .before .before .loop-test .taken) _ _ _ refl refl (c .before .before .before .before .before .shorten .ensures)
+loop-again c =
+    let far = c .before .before .before .before .before .before .before .before in
+    λ b ad. chain-goes-on _ _ _ _ _ _ _ (far .before .before .before .loop .inv b ad) (far .before .before .loop-test .taken) _ _ _ _
+    (far .before .to .ensures) (far .cost .ensures) (c .next .ensures) (c .before .before .before .before .before .shorten .ensures)
 
 same-length : tie.Need-same-length Inv-loop μ-loop
-same-length c = search needs
+same-length c =
+    let p = c .before .before .before .before .before .before .pre in
+    c .before .loop .inv (p .0 .book) (p .0 .adjacent) .distances ∙ sym (p .1)
 
 same-length-2 : tie.Need-same-length-2 Inv-loop μ-loop
-same-length-2 c = search needs
+same-length-2 c =
+    let p = c .before .before .before .before .before .before .pre in
+    c .before .loop .inv (p .0 .book) (p .0 .adjacent) .words ∙ sym (p .2)
 
 returns : tie.Need-returns Inv-loop μ-loop
-returns c = chain-ends _ _ _ _ _ _ _ _ _ (c .before .loop .inv) (c .loop-test .left)
+returns c = λ b ad. chain-ends _ _ _ _ _ _ _ (c .before .loop .inv b ad) (c .loop-test .left)
 
 pub relax-spec : {M : Type 1} → statement M
 relax-spec =
@@ -73,17 +80,14 @@ relax-spec =
     (tie.spec
     Inv-loop
     μ-loop
+    head-requires
     loop-holds
-    cast-i
-    mul-shorten
-    shared-slice-read-shorten
-    mul-shorten-2
-    shared-slice-read-shorten-2
+    to-requires
+    cost-requires
     cast-shorten
     add-shorten
     shorten-requires
-    mul-a
-    shared-slice-read-a
+    next-requires
     loop-less
     loop-again
     same-length

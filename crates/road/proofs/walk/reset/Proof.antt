@@ -10,21 +10,21 @@ use Rattle.road.proofs.walk.reset.Statement.{statement}
 use Rattle.road.proofs.walk.reset.Tie as tie
 
 abbrev Inv-loop : tie.InvT-loop
-Inv-loop ds₀ done₀ i₀ ds done i =
-    (i ≤ 1024) × (length ds₀ ≡ 1024) × (length done₀ ≡ 1024) × (length ds ≡ 1024) × (length done ≡ 1024)
-    × (ds ≡ filled i far ds₀) × (done ≡ filled i false done₀)
+Inv-loop row₀ done₀ i₀ ds done i =
+    (i ≤ 1024) × (length row₀ ≡ 1024) × (length done₀ ≡ 1024) × (length ds ≡ 1024) × (length done ≡ 1024)
+    × (ds ≡ filled i far row₀) × (done ≡ filled i false done₀)
 
 abbrev μ-loop : tie.MeasureT-loop
-μ-loop ds₀ done₀ i₀ ds done i = 1024 - i
+μ-loop row₀ done₀ i₀ ds done i = 1024 - i
 
 loop-holds : tie.Need-loop-holds Inv-loop μ-loop
 loop-holds c = (omega arith, c .pre .0, c .pre .1, c .pre .0, c .pre .1, filled-none _ _, filled-none _ _)
 
-mul-ds : tie.Need-mul-ds Inv-loop μ-loop
-mul-ds c = search needs
+mul-row : tie.Need-mul-row Inv-loop μ-loop
+mul-row c = search needs
 
-slice-write-ds : tie.Need-slice-write-ds Inv-loop μ-loop
-slice-write-ds c = search needs
+slice-write-row : tie.Need-slice-write-row Inv-loop μ-loop
+slice-write-row c = search needs
 
 slice-write-done : tie.Need-slice-write-done Inv-loop μ-loop
 slice-write-done c = search needs
@@ -65,8 +65,8 @@ reset-spec =
     Inv-loop
     μ-loop
     loop-holds
-    mul-ds
-    slice-write-ds
+    mul-row
+    slice-write-row
     slice-write-done
     add-i
     loop-less

@@ -1,11 +1,13 @@
 use borrow.Author.Needs.{needs}
 use native.Mathlib.Omega.{arith}
-use Rattle.road.proofs.Stepping.{sizes, near-by, above-by, walks-by, rests-by}
+use Rattle.road.proofs.Stepping.{walking-sizes, walking-near, walking-above, walking-on, walking-rests}
 use Rattle.road.proofs.walk.round.Statement.{statement}
 use Rattle.road.proofs.walk.round.Tie as tie
 
 least-requires : tie.Need-least-requires
-least-requires c κs = search needs
+least-requires c κs =
+    let p = c .before .before .before .before .before .pre in
+    walking-sizes _ _ _ _ _ _ (p .1) (p .3) (p .0) .words
 
 cast-walk-on : tie.Need-cast-walk-on
 cast-walk-on c = search needs
@@ -15,12 +17,14 @@ cast-walk-on-2 c = search needs
 
 walk-on-requires : tie.Need-walk-on-requires
 walk-on-requires c κs =
-    let p = c .before .before .before .before .before .before .before .before .before .before .before .before .before .before .pre in (
+    let p = c .before .before .before .before .before .before .before .before .before .before .pre in
+    let e = c .before .before .before .before .least .ensures in
+    let t = c .before .before .before .if1 .taken in (
       p .0,
-      sizes _ _ _ _ _ _ (p .0 .layout) (p .1) (p .3),
+      walking-sizes _ _ _ _ _ _ (p .1) (p .3) (p .0),
       omega arith,
-      near-by _ _ _ _ _ _ (p .0 .layout) (p .1) (p .3) _ (c .before .before .before .before .least .ensures) (c .before .before .before .if1 .taken) (p .2),
-      above-by _ _ _ _ _ _ (p .0 .layout) (p .1) (p .3) _ (c .before .before .before .before .least .ensures) (c .before .before .before .if1 .taken),
+      walking-near _ _ _ _ _ _ (p .1) (p .3) _ e (p .0) t (p .2),
+      walking-above _ _ _ _ _ _ (p .1) (p .3) _ e (p .0) t,
     )
 
 same-length : tie.Need-same-length
@@ -34,16 +38,18 @@ same-length-3 c = search needs
 
 returns : tie.Need-returns
 returns c =
-    let p = c .before .before .before .before .before .before .before .before .before .before .before .before .before .before .before .before .before .before .before .before .before .pre in
-    walks-by _ _ _ _ _ _ (p .0 .layout) (p .1) (p .3) _ (c .before .before .before .before .before .before .before .before .before .before .before .least .ensures) _ _ _ (c .before .before .before .before .before .before .before .before .before .before .if1 .taken) (c .before .before .before .before .before .before .walk-on .ensures .0) (c .before .before .before .before .before .before .walk-on .ensures .1)
+    let far = c .before .before .before .before .before .before .before .before in
+    let p = far .before .before .before .before .before .before .before .before .before .pre in
+    let w = c .before .before .before .before .before .before .walk-on .ensures in
+    walking-on _ _ _ _ _ _ (p .1) (p .3) _ (far .before .before .before .least .ensures) _ _ _ (far .before .before .if1 .taken) (w .0) (w .1)
 
 same-length-4 : tie.Need-same-length-4
 same-length-4 c = search needs
 
 returns-2 : tie.Need-returns-2
 returns-2 c =
-    let p = c .before .before .before .before .before .before .before .before .before .before .before .pre in
-    rests-by _ _ _ _ _ _ (p .0 .layout) (p .1) (p .3) _ (c .before .least .ensures) (c .if1 .left)
+    let p = c .before .before .before .before .before .before .before .pre in
+    walking-rests _ _ _ _ _ _ (p .1) (p .3) _ (c .before .least .ensures) (c .if1 .left)
 
 pub round-spec : {M : Type 1} → statement M
 round-spec =

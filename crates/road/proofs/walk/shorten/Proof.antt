@@ -10,11 +10,11 @@ mul-if1 c = search needs
 slice-read-if1 : tie.Need-slice-read-if1
 slice-read-if1 c = search needs
 
-mul-ds : tie.Need-mul-ds
-mul-ds c = search needs
+mul-row : tie.Need-mul-row
+mul-row c = search needs
 
-slice-write-ds : tie.Need-slice-write-ds
-slice-write-ds c = search needs
+slice-write-row : tie.Need-slice-write-row
+slice-write-row c = search needs
 
 mul-lower : tie.Need-mul-lower
 mul-lower c = search needs
@@ -45,8 +45,8 @@ shorten-spec =
     (tie.spec
     mul-if1
     slice-read-if1
-    mul-ds
-    slice-write-ds
+    mul-row
+    slice-write-row
     mul-lower
     add-lower
     lower-requires

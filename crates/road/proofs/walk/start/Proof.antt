@@ -12,11 +12,11 @@ clear-requires c κs = search needs
 cast-s : tie.Need-cast-s
 cast-s c = search needs
 
-mul-ds : tie.Need-mul-ds
-mul-ds c = search needs
+mul-row : tie.Need-mul-row
+mul-row c = search needs
 
-slice-write-ds : tie.Need-slice-write-ds
-slice-write-ds c = search needs
+slice-write-row : tie.Need-slice-write-row
+slice-write-row c = search needs
 
 cast-put : tie.Need-cast-put
 cast-put c = search needs
@@ -34,7 +34,11 @@ same-length-3 : tie.Need-same-length-3
 same-length-3 c = search needs
 
 returns : tie.Need-returns
-returns c = λ b. starts-by b _ _ _ _ _ (c .before .before .before .before .before .before .before .before .before .before .before .before .before .before .before .before .before .before .before .before .pre .1) (c .before .before .before .before .before .before .before .before .before .before .before .before .before .before .reset .ensures .0) (c .before .before .before .before .before .before .before .before .before .before .before .before .before .before .reset .ensures .1) (c .before .before .before .before .before .before .before .before .clear .ensures) (c .before .before .put .ensures)
+returns c =
+    let far = c .before .before .before .before .before .before .before .before in
+    λ b. starts-by b _ _ _ _ _ (far .before .before .before .before .before .before .before .before .before .before .before .before .pre .1)
+    (far .before .before .before .before .before .before .reset .ensures .0) (far .before .before .before .before .before .before .reset .ensures .1)
+    (far .clear .ensures) (c .before .before .put .ensures)
 
 pub start-spec : {M : Type 1} → statement M
 start-spec =
@@ -43,8 +47,8 @@ start-spec =
     reset-requires
     clear-requires
     cast-s
-    mul-ds
-    slice-write-ds
+    mul-row
+    slice-write-row
     cast-put
     put-requires
     same-length

@@ -12,27 +12,11 @@ slice-write-done c = search needs
 put-requires : tie.Need-put-requires
 put-requires c κs = search needs
 
-mul-relax : tie.Need-mul-relax
-mul-relax c = search needs
-
-shared-slice-read-relax : tie.Need-shared-slice-read-relax
-shared-slice-read-relax c = search needs
-
 relax-requires : tie.Need-relax-requires
 relax-requires c κs =
-    let p = c .before .before .before .before .before .before .before .before .before .before .before .before .before .before .before .pre in
-    let a = p .0 in (
-      a .layout,
-      a .sized .nexts,
-      a .sized .tos,
-      a .sized .costs,
-      p .1 .distances,
-      ap length (c .before .before .before .before .before .put .ensures) ∙ put-length _ _ _ ∙ p .1 .words,
-      a .linked,
-      a .newest _ (p .2),
-      p .3,
-      rw (c .before .before .before .before .before .put .ensures) (p .4),
-    )
+    let p = c .before .before .before .before .before .before .before .before .before .before .pre in
+    let e = c .before .before .before .before .put .ensures in
+    (p .0, p .1 .distances, ap length e ∙ put-length _ _ _ ∙ p .1 .words, p .2, p .3, rw e (p .4))
 
 same-length : tie.Need-same-length
 same-length c = search needs
@@ -44,7 +28,11 @@ same-length-3 : tie.Need-same-length-3
 same-length-3 c = search needs
 
 returns : tie.Need-returns
-returns c = (relax-from _ _ _ _ _ _ _ (c .before .before .before .before .relax .ensures) (c .before .before .before .before .before .before .before .before .before .before .put .ensures), refl)
+returns c = (
+  λ b ad. relax-from _ _ _ _ _ _ _ (c .before .before .before .before .relax .ensures b ad)
+      (c .before .before .before .before .before .before .before .before .before .put .ensures),
+  refl,
+)
 
 pub walk-on-spec : {M : Type 1} → statement M
 walk-on-spec =
@@ -52,8 +40,6 @@ walk-on-spec =
     (tie.spec
     slice-write-done
     put-requires
-    mul-relax
-    shared-slice-read-relax
     relax-requires
     same-length
     same-length-2

@@ -1,7 +1,8 @@
-use Rattle.road_rows.proofs.Copying.{cell-is}
 use borrow.Author.Needs.{needs}
-use Rattle.road_rows.proofs.cell.Statement.{statement}
-use Rattle.road_rows.proofs.cell.Tie as tie
+use mathlib.Core.Path.{refl}
+use Rattle.adjacency.specs.Adjacency.{nextAt}
+use Rattle.adjacency.proofs.next.Statement.{statement}
+use Rattle.adjacency.proofs.next.Tie as tie
 
 mul-result : tie.Need-mul-result
 mul-result c = search needs
@@ -16,8 +17,9 @@ shared-slice-read-result : tie.Need-shared-slice-read-result
 shared-slice-read-result c = search needs
 
 returns : tie.Need-returns
-returns c = cell-is _ _ _
+unfolding nextAt
+returns c = refl
 
-pub cell-spec : {M : Type 1} → statement M
-cell-spec =
+pub next-spec : {M : Type 1} → statement M
+next-spec =
     tie.close (tie.spec mul-result add-result mul-result-2 shared-slice-read-result returns)

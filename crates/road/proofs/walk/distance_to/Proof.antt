@@ -1,8 +1,8 @@
 use mathlib.Core.Path.{sym}
 use borrow.Author.Needs.{needs}
 use Rattle.road.proofs.Shortening.{at-inside, at-outside}
-use Rattle.true_lists.proofs.walk.distance_to.Statement.{statement}
-use Rattle.true_lists.proofs.walk.distance_to.Tie as tie
+use Rattle.road.proofs.walk.distance_to.Statement.{statement}
+use Rattle.road.proofs.walk.distance_to.Tie as tie
 
 returns : tie.Need-returns
 returns c = sym (at-outside _ _ (c .if1 .taken))
