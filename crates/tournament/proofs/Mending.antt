@@ -1,31 +1,18 @@
--- `repair`, one word at a time, as a loop counts: `10 - k` words are left. Assumes nothing.
-use mathlib.Core.Path.{_≡_, sym, ap, _∙_}
-use mathlib.Core.Logic.{_≢_}
+-- `repair`, one word at a time, as a loop counts: `n - k` words are left. Assumes nothing.
+use mathlib.Core.Path.{_≡_, refl}
 use mathlib.Core.List.{List}
-use Prim.Native.Nat.{ℕ, suc, _+_, _-_, _*_, _/_, _≤_, _<_, min}
+use Prim.Native.Nat.{ℕ, suc, _+_, _-_, _*_, _/_, _%_, _≤_, _<_, min}
 use native.Mathlib.Omega.{arith}
-use native.Mathlib.Decide.{ℕ-discrete}
 use lib.ListN.{getD, set}
-use lib.Dec.{eqb}
-use Rattle.book.proofs.Choosing.{choose-yes, choose-no}
-use Rattle.book.proofs.Tests.{eq→eqb, ne→neqb}
-use Rattle.tournament.specs.Tournament.{lesserOf, mend, repair}
+use Rattle.tournament.specs.Tournament.{lesserOf, leastBeside, repair}
+use Rattle.tournament.proofs.Laws.{Child, child-case}
 
-module _ (n k : ℕ) (t : List ℕ) (i r : ℕ) where
-  -- the word above changes, and those above it are left
-  pub mended : k < n → r ≡ lesserOf t (i / 2) → getD t (i / 2) 0 ≢ r → repair (n - (k + 1)) (set t (i / 2) r) (i / 2) ≡ repair (n - k) t i
+module _ (n k : ℕ) (t : List ℕ) (i : ℕ) where
+  pub mended : (r : ℕ) → k < n → r ≡ lesserOf t (i / 4) → repair (n - (k + 1)) (set t (i / 4) r) (i / 4) ≡ repair (n - k) t i
   unfolding repair
-  mended p e h =
+  mended r p e =
       let s : n - k ≡ suc (n - (k + 1)) = omega arith in
-      let no = choose-no (eqb (getD t (i / 2) 0) (lesserOf t (i / 2))) t (repair (n - (k + 1)) (mend t (i / 2)) (i / 2)) (ne→neqb _ _ (λ q. h (q ∙ sym e))) in
-      rw (s, e) (sym no)
-
-  -- it stays, and so do those above it
-  pub unmended : k < n → r ≡ lesserOf t (i / 2) → getD t (i / 2) 0 ≡ r → repair (n - k) t i ≡ t
-  unfolding repair
-  unmended p e h =
-      let s : n - k ≡ suc (n - (k + 1)) = omega arith in
-      rw s (choose-yes (eqb (getD t (i / 2) 0) (lesserOf t (i / 2))) t (repair (n - (k + 1)) (mend t (i / 2)) (i / 2)) (eq→eqb _ _ (h ∙ e)))
+      rw (s, e) refl
 
   pub all-mended : n ≤ k → repair (n - k) t i ≡ t
   unfolding repair
@@ -33,15 +20,20 @@ module _ (n k : ℕ) (t : List ℕ) (i r : ℕ) where
       let s : n - k ≡ 0 = omega arith in
       simp s
 
--- the lesser of a word and the one beside it is the lesser of the two below their parent
-pub beside : (t : List ℕ) (i p s x y r : ℕ) → p ≡ i / 2 → s ≡ 4 * p + 1 - i → x ≡ getD t i 0 → y ≡ getD t s 0 → r ≡ min x y → r ≡ lesserOf t p
-beside t i p s x y r ep es ex ey er = go (ℕ-discrete i (2 * p))
+-- the lesser of a word and the least beside it is the least of the four below their parent
+pub beside : (t : List ℕ) (i word least r : ℕ) → word ≡ getD t i 0 → least ≡ leastBeside t i → r ≡ min word least → r ≡ lesserOf t (i / 4)
+beside t i word least r ew el er = rw (er, ew, el) (go (i / 4) (omega arith, omega arith))
   where
-    go : Dec (i ≡ 2 * p) → r ≡ lesserOf t p
-    go (yes e) =
-        let f : s ≡ 2 * p + 1 = omega arith in
-        omega (arith, er, ex ∙ ap (λ (j : ℕ). getD t j 0) e, ey ∙ ap (λ (j : ℕ). getD t j 0) f)
-    go (no n) =
-        let e : i ≡ 2 * p + 1 = omega arith in
-        let f : s ≡ 2 * p = omega arith in
-        omega (arith, er, ex ∙ ap (λ (j : ℕ). getD t j 0) e, ey ∙ ap (λ (j : ℕ). getD t j 0) f)
+    -- word k and the three at places a, b and c are the four below word p
+    Four : ℕ → ℕ → ℕ → ℕ → ℕ → Type 0
+    Four p k a b c = min (getD t k 0) (min (min (getD t a 0) (getD t b 0)) (getD t c 0)) ≡ lesserOf t p
+    at : (p k a b c : ℕ) → a ≡ 4 * p + (k + 1) % 4 → b ≡ 4 * p + (k + 2) % 4 → c ≡ 4 * p + (k + 3) % 4 → Four p k a b c
+        → Four p k (4 * p + (k + 1) % 4) (4 * p + (k + 2) % 4) (4 * p + (k + 3) % 4)
+    at p k a b c ea eb ec h = rw (← ea, ← eb, ← ec) h
+    go : (p : ℕ) → Child p i → Four p i (4 * p + (i + 1) % 4) (4 * p + (i + 2) % 4) (4 * p + (i + 3) % 4)
+    go p c =
+        child-case (λ k. Four p k (4 * p + (k + 1) % 4) (4 * p + (k + 2) % 4) (4 * p + (k + 3) % 4)) p i c
+        (at p (4 * p) (4 * p + 1) (4 * p + 2) (4 * p + 3) (omega arith) (omega arith) (omega arith) (omega arith))
+        (at p (4 * p + 1) (4 * p + 2) (4 * p + 3) (4 * p) (omega arith) (omega arith) (omega arith) (omega arith))
+        (at p (4 * p + 2) (4 * p + 3) (4 * p) (4 * p + 1) (omega arith) (omega arith) (omega arith) (omega arith))
+        (at p (4 * p + 3) (4 * p) (4 * p + 1) (4 * p + 2) (omega arith) (omega arith) (omega arith) (omega arith))

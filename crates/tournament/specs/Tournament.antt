@@ -1,12 +1,11 @@
--- A tournament tree of 2,048 words: leaf v at word 1,024 + v, and each word i from 1 to 1,023 the lesser of words 2 i and 2 i + 1. Assumes nothing: these are definitions.
+-- A tournament tree with four children a word: the top is word 1, the children of word p are words 4 p to 4 p + 3, leaf v is word 1,024 + v, and each
+-- word above the leaves is the least of its four. Words 2 and 3 and those below them are not used. Assumes nothing: these are definitions.
 use mathlib.Core.Path.{_≡_}
-use Prim.Native.Nat.{ℕ, zero, suc, _+_, _*_, _/_, min, _≤_, _<_}
+use Prim.Native.Nat.{ℕ, zero, suc, _+_, _*_, _/_, _%_, min, _≤_, _<_}
 use mathlib.Core.List.{List}
 use lib.ListN.{length, getD, set}
-use lib.Dec.{eqb}
-use Rattle.book.specs.Choose.{choose}
 
--- how many words
+-- the number of a tree's words
 abbrev pub queueWords : ℕ
 queueWords = 2048
 
@@ -18,24 +17,33 @@ leaf t v = getD t (1024 + v) 0
 unfoldable pub top : List ℕ → ℕ
 top t = getD t 1 0
 
--- the lesser of the two words below word p
+-- the least of the four words below word p
 abbrev pub lesserOf : List ℕ → ℕ → ℕ
-lesserOf t p = min (getD t (2 * p) 0) (getD t (2 * p + 1) 0)
+lesserOf t p = min (min (getD t (4 * p) 0) (getD t (4 * p + 1) 0)) (min (getD t (4 * p + 2) 0) (getD t (4 * p + 3) 0))
 
--- t with word p made the lesser of its two
+-- the place of the first word of the four that word i is of
+abbrev pub group : ℕ → ℕ
+group i = 4 * (i / 4)
+
+-- the least of the other three
+abbrev pub leastBeside : List ℕ → ℕ → ℕ
+leastBeside t i =
+    min (min (getD t (group i + (i + 1) % 4) 0) (getD t (group i + (i + 2) % 4) 0)) (getD t (group i + (i + 3) % 4) 0)
+
+-- t with word p made the least of its four
 abbrev pub mend : List ℕ → ℕ → List ℕ
 mend t p = set t p (lesserOf t p)
 
--- t with f words above word i made so, from i up, as far as they change
+-- t with f words above word i made so, from i up
 unfoldable pub repair : ℕ → List ℕ → ℕ → List ℕ
 repair zero t i = t
-repair (suc f) t i = let on = repair f (mend t (i / 2)) (i / 2) in choose (eqb (getD t (i / 2) 0) (lesserOf t (i / 2))) t on
+repair (suc f) t i = repair f (mend t (i / 4)) (i / 4)
 
 -- t with x at leaf v
 unfoldable pub putLeaf : List ℕ → ℕ → ℕ → List ℕ
-putLeaf t v x = repair 10 (set t (1024 + v) x) (1024 + v)
+putLeaf t v x = repair 5 (set t (1024 + v) x) (1024 + v)
 
--- a tournament: 2,048 words, each inner word the lesser of its two
+-- a tournament: each word from 1 to 511 is the least of its four
 pub record Tournament (t : List ℕ) : Type 0 where
-  pub size : length t ≡ 2048
-  pub least : (j : ℕ) → 1 ≤ j → j < 1024 → getD t j 0 ≡ lesserOf t j
+  pub size : length t ≡ queueWords
+  pub least : (j : ℕ) → 1 ≤ j → j < 512 → getD t j 0 ≡ lesserOf t j

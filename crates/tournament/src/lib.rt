@@ -1,9 +1,9 @@
 ghost use mathlib.Core.Path.{_≡_};
 ghost use Prim.Native.Nat.{ℕ, _≤_, _<_, min};
 ghost use lib.ListN.{length, replicate};
-ghost use Rattle.tournament.specs.Tournament.{leaf, top, putLeaf, Tournament};
+ghost use Rattle.tournament.specs.Tournament.{queueWords, leaf, top, leastBeside, putLeaf, Tournament};
 
-// How many words a tournament has.
+// The number of a tree's words.
 pub const WORDS: usize = 2048;
 
 // The lesser of two words.
@@ -15,48 +15,54 @@ pub fn lesser(a: u64, b: u64) -> u64
 
 // Makes every word x.
 pub fn clear(tree: &mut [u64], x: u64)
-    requires { ⌜ length (now tree) ≡ 2048 ⌝ }
-    ensures { λ _. ⌜ now (tree .exit) ≡ replicate 2048 x ⌝ }
+    requires { ⌜ length (now tree) ≡ queueWords ⌝ }
+    ensures { λ _. ⌜ now (tree .exit) ≡ replicate queueWords x ⌝ }
 {
     let mut i: usize = 0;
-    while i < 2048 {
+    while i < WORDS {
         tree[i] = x;
         i += 1;
     }
 }
 
-// Stores x at leaf v, and makes each word above it the lesser of its two again, as far as they change.
+// The least of the three words beside word i: of its four, all but itself.
+fn least_beside(tree: &[u64], i: usize) -> u64
+    requires { ⌜ (length (now tree) ≡ queueWords) × (i < queueWords) ⌝ }
+    ensures { λ r. ⌜ r ≡ leastBeside (now (tree .entry)) i ⌝ }
+{
+    let group = 4 * (i / 4);
+    let two = lesser(tree[group + (i + 1) % 4], tree[group + (i + 2) % 4]);
+    lesser(two, tree[group + (i + 3) % 4])
+}
+
+// Stores x at leaf v, and makes each word above it the least of its four again.
 pub fn put(tree: &mut [u64], v: usize, x: u64)
-    requires { ⌜ (length (now tree) ≡ 2048) × (v < 1024) ⌝ }
+    requires { ⌜ (length (now tree) ≡ queueWords) × (v < 1024) ⌝ }
     ensures { λ _. ⌜ now (tree .exit) ≡ putLeaf (now (tree .entry)) v x ⌝ }
 {
     let mut i = 1024 + v;
     let mut word = x;
     tree[i] = word;
     let mut k: usize = 0;
-    while k < 10 {
-        let p = i / 2;
-        let beside = 4 * p + 1 - i;
-        word = lesser(word, tree[beside]);
-        if tree[p] == word {
-            return;
-        }
-        tree[p] = word;
-        i = p;
+    while k < 5 {
+        let beside = least_beside(tree, i);
+        word = lesser(word, beside);
+        i = i / 4;
+        tree[i] = word;
         k += 1;
     }
 }
 
 // Stores x, which is at most leaf v's word, at leaf v, and makes each word above it the lesser of itself and x.
 pub fn lower(tree: &mut [u64], v: usize, x: u64)
-    requires { ⌜ (length (now tree) ≡ 2048) × (v < 1024) × Tournament (now tree) × (x ≤ leaf (now tree) v) ⌝ }
+    requires { ⌜ (length (now tree) ≡ queueWords) × (v < 1024) × Tournament (now tree) × (x ≤ leaf (now tree) v) ⌝ }
     ensures { λ _. ⌜ now (tree .exit) ≡ putLeaf (now (tree .entry)) v x ⌝ }
 {
     let mut i = 1024 + v;
     tree[i] = x;
     let mut level: usize = 0;
-    while level < 10 {
-        i = i / 2;
+    while level < 5 {
+        i = i / 4;
         tree[i] = lesser(tree[i], x);
         level += 1;
     }
@@ -64,7 +70,7 @@ pub fn lower(tree: &mut [u64], v: usize, x: u64)
 
 // The top word.
 pub fn least(tree: &[u64]) -> u64
-    requires { ⌜ length (now tree) ≡ 2048 ⌝ }
+    requires { ⌜ length (now tree) ≡ queueWords ⌝ }
     ensures { λ r. ⌜ r ≡ top (now (tree .entry)) ⌝ }
 {
     tree[1]

@@ -4,14 +4,15 @@ use Prim.Native.Nat.{ℕ, _+_, _-_, _≤_, _<_}
 use native.Mathlib.Omega.{arith}
 use lib.ListN.{length, length-set}
 use Rattle.book.proofs.Filling.{filled, filled-none, filled-more, filled-all}
+use Rattle.tournament.specs.Tournament.{queueWords}
 use Rattle.tournament.proofs.clear.Statement.{statement}
 use Rattle.tournament.proofs.clear.Tie as tie
 
 abbrev Inv-loop : tie.InvT-loop
-Inv-loop tree₀ x i₀ tree i = (i ≤ 2048) × (length tree₀ ≡ 2048) × (length tree ≡ 2048) × (tree ≡ filled i x tree₀)
+Inv-loop tree₀ x i₀ tree i = (i ≤ queueWords) × (length tree₀ ≡ queueWords) × (length tree ≡ queueWords) × (tree ≡ filled i x tree₀)
 
 abbrev μ-loop : tie.MeasureT-loop
-μ-loop tree₀ x i₀ tree i = 2048 - i
+μ-loop tree₀ x i₀ tree i = queueWords - i
 
 loop-holds : tie.Need-loop-holds Inv-loop μ-loop
 loop-holds c = (omega arith, omega arith, omega arith, filled-none _ _)
@@ -39,7 +40,7 @@ same-length c = search needs
 returns : tie.Need-returns Inv-loop μ-loop
 returns c =
     let l = c .before .loop in
-    filled-all 2048 _ _ _ _ (l .inv .3) (l .inv .1) (omega arith)
+    filled-all queueWords _ _ _ _ (l .inv .3) (l .inv .1) (omega arith)
 
 pub clear-spec : {M : Type 1} → statement M
 clear-spec =

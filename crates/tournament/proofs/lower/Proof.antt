@@ -3,15 +3,17 @@ use mathlib.Core.Path.{_≡_, refl, sym, _∙_}
 use Prim.Native.Nat.{_-_, _≤_, _<_}
 use native.Mathlib.Omega.{arith}
 use lib.ListN.{length, length-set}
+use Rattle.tournament.specs.Tournament.{queueWords}
 use Rattle.tournament.proofs.Lowering.{lowered, one-lowered, all-lowered, lowered-put}
 use Rattle.tournament.proofs.lower.Statement.{statement}
 use Rattle.tournament.proofs.lower.Tie as tie
 
 abbrev Inv-loop : tie.InvT-loop
-Inv-loop tree₀ v x i₀ level₀ tree i level = (level ≤ 10) × (i < 2048) × (length tree ≡ 2048) × (lowered (10 - level) tree i x ≡ lowered 10 tree₀ i₀ x)
+Inv-loop tree₀ v x i₀ level₀ tree i level =
+    (level ≤ 5) × (i < queueWords) × (length tree ≡ queueWords) × (lowered (5 - level) tree i x ≡ lowered 5 tree₀ i₀ x)
 
 abbrev μ-loop : tie.MeasureT-loop
-μ-loop tree₀ v x i₀ level₀ tree i level = 10 - level
+μ-loop tree₀ v x i₀ level₀ tree i level = 5 - level
 
 add-i : tie.Need-add-i Inv-loop μ-loop
 add-i c = search needs
@@ -52,7 +54,7 @@ loop-again c =
       omega arith,
       omega arith,
       simp length-set (omega arith),
-      one-lowered 10 (l .level) (l .tree) (l .i) _ _ (omega arith) (c .lesser .ensures) ∙ l .inv .3,
+      one-lowered 5 (l .level) (l .tree) (l .i) _ _ (omega arith) (c .lesser .ensures) ∙ l .inv .3,
     )
 
 same-length : tie.Need-same-length Inv-loop μ-loop
@@ -62,7 +64,7 @@ returns : tie.Need-returns Inv-loop μ-loop
 returns c =
     let l = c .before .loop in
     let p = c .before .before .before .pre in
-    sym (all-lowered 10 (l .level) (l .tree) (l .i) _ (omega arith)) ∙ l .inv .3 ∙ lowered-put _ _ _ (p .1) (p .2) (p .3)
+    sym (all-lowered 5 (l .level) (l .tree) (l .i) _ (omega arith)) ∙ l .inv .3 ∙ lowered-put _ _ _ (p .1) (p .2) (p .3)
 
 pub lower-spec : {M : Type 1} → statement M
 lower-spec =
