@@ -1,7 +1,7 @@
 -- Laws of the tournament tree: what a put leaves, and that the top word is the least leaf's. Assumes nothing.
-use mathlib.Core.Path.{_≡_, refl, sym, ap, _∙_}
+use mathlib.Core.Path.{_≡_, refl, sym, _∙_}
 use mathlib.Core.List.{List}
-use Prim.Native.Nat.{ℕ, zero, suc, _+_, _-_, _*_, _/_, min, _≤_, _<_}
+use Prim.Native.Nat.{ℕ, zero, suc, _+_, _-_, _*_, _/_, _≤_, _<_}
 use native.Mathlib.Decide.{ℕ-discrete, decLe}
 use native.Mathlib.Omega.{arith}
 use lib.ListN.{length, getD, set, length-set, replicate, length-replicate, getD-replicate}
@@ -162,7 +162,14 @@ module _ (t : List ℕ) (g : Least t) where
 pub cleared : (x : ℕ) → Tournament (replicate queueWords x)
 cleared x = record {
   size = length-replicate queueWords x;
-  least = λ j a b. omega (arith, at j (omega arith), at (4 * j) (omega arith), at (4 * j + 1) (omega arith), at (4 * j + 2) (omega arith), at (4 * j + 3) (omega arith));
+  least = λ j a b. omega (
+    arith,
+    at j (omega arith),
+    at (4 * j) (omega arith),
+    at (4 * j + 1) (omega arith),
+    at (4 * j + 2) (omega arith),
+    at (4 * j + 3) (omega arith),
+  );
 }
   where
     at : (j : ℕ) → j < queueWords → getD (replicate queueWords x) j 0 ≡ x

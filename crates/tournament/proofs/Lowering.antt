@@ -1,7 +1,7 @@
 -- A leaf's word that falls: each word above it becomes the lesser of itself and the new word. Assumes nothing.
 use mathlib.Core.Path.{_≡_, refl, sym, ap, _∙_}
 use mathlib.Core.List.{List}
-use Prim.Native.Nat.{ℕ, zero, suc, _+_, _-_, _*_, _/_, min, _≤_, _<_}
+use Prim.Native.Nat.{ℕ, zero, suc, _+_, _-_, _/_, min, _≤_, _<_}
 use native.Mathlib.Decide.{ℕ-discrete}
 use native.Mathlib.Omega.{arith}
 use lib.ListN.{length, getD, set, length-set}
@@ -42,6 +42,7 @@ module _ (x : ℕ) where
       down : Dec (j ≡ p) → n ≤ m
       down (yes z) = omega (arith, ls p c, e, ft ∙ ap (λ (i : ℕ). getD t i 0) z)
       down (no z) = omega (arith, ls j cj, same j z, ft)
+
       up : Dec (k ≡ p) → min m x ≤ n
       up (yes z) = omega (arith, lt p c, e, fs ∙ ap (λ (i : ℕ). getD s i 0) z)
       up (no z) = omega (arith, lt k ck, same k z, fs)

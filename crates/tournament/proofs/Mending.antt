@@ -1,10 +1,10 @@
 -- `repair`, one word at a time, as a loop counts: `n - k` words are left. Assumes nothing.
 use mathlib.Core.Path.{_≡_, refl}
 use mathlib.Core.List.{List}
-use Prim.Native.Nat.{ℕ, suc, _+_, _-_, _*_, _/_, _%_, _≤_, _<_, min}
+use Prim.Native.Nat.{ℕ, suc, _+_, _-_, _*_, _/_, _≤_, _<_, min}
 use native.Mathlib.Omega.{arith}
 use lib.ListN.{getD, set}
-use Rattle.tournament.specs.Tournament.{lesserOf, leastBeside, repair}
+use Rattle.tournament.specs.Tournament.{lesserOf, other, across, leastBeside, repair}
 use Rattle.tournament.proofs.Laws.{Child, child-case}
 
 module _ (n k : ℕ) (t : List ℕ) (i : ℕ) where
@@ -26,14 +26,15 @@ beside t i word least r ew el er = rw (er, ew, el) (go (i / 4) (omega arith, ome
   where
     -- word k and the three at places a, b and c are the four below word p
     Four : ℕ → ℕ → ℕ → ℕ → ℕ → Type 0
-    Four p k a b c = min (getD t k 0) (min (min (getD t a 0) (getD t b 0)) (getD t c 0)) ≡ lesserOf t p
-    at : (p k a b c : ℕ) → a ≡ 4 * p + (k + 1) % 4 → b ≡ 4 * p + (k + 2) % 4 → c ≡ 4 * p + (k + 3) % 4 → Four p k a b c
-        → Four p k (4 * p + (k + 1) % 4) (4 * p + (k + 2) % 4) (4 * p + (k + 3) % 4)
-    at p k a b c ea eb ec h = rw (← ea, ← eb, ← ec) h
-    go : (p : ℕ) → Child p i → Four p i (4 * p + (i + 1) % 4) (4 * p + (i + 2) % 4) (4 * p + (i + 3) % 4)
+    Four p k a b c = min (getD t k 0) (min (getD t a 0) (min (getD t b 0) (getD t c 0))) ≡ lesserOf t p
+
+    at : (p k a b c : ℕ) → a ≡ other k → b ≡ across k → c ≡ other (across k) → Four p k a b c → Four p k (other k) (across k) (other (across k))
+    at p k a b c ea eb ec h = rw (← ec, ← ea, ← eb) h
+
+    go : (p : ℕ) → Child p i → Four p i (other i) (across i) (other (across i))
     go p c =
-        child-case (λ k. Four p k (4 * p + (k + 1) % 4) (4 * p + (k + 2) % 4) (4 * p + (k + 3) % 4)) p i c
+        child-case (λ k. Four p k (other k) (across k) (other (across k))) p i c
         (at p (4 * p) (4 * p + 1) (4 * p + 2) (4 * p + 3) (omega arith) (omega arith) (omega arith) (omega arith))
-        (at p (4 * p + 1) (4 * p + 2) (4 * p + 3) (4 * p) (omega arith) (omega arith) (omega arith) (omega arith))
+        (at p (4 * p + 1) (4 * p) (4 * p + 3) (4 * p + 2) (omega arith) (omega arith) (omega arith) (omega arith))
         (at p (4 * p + 2) (4 * p + 3) (4 * p) (4 * p + 1) (omega arith) (omega arith) (omega arith) (omega arith))
-        (at p (4 * p + 3) (4 * p) (4 * p + 1) (4 * p + 2) (omega arith) (omega arith) (omega arith) (omega arith))
+        (at p (4 * p + 3) (4 * p + 2) (4 * p + 1) (4 * p) (omega arith) (omega arith) (omega arith) (omega arith))

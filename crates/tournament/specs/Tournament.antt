@@ -1,5 +1,6 @@
--- A tournament tree with four children a word: the top is word 1, the children of word p are words 4 p to 4 p + 3, leaf v is word 1,024 + v, and each
--- word above the leaves is the least of its four. Words 2 and 3 and those below them are not used. Assumes nothing: these are definitions.
+-- A tournament tree with four children a word: the top is word 1, the children of word p are words 4 p to 4 p + 3,
+-- leaf v is word 1,024 + v, and each word above the leaves is the least of its four. Words 2 and 3 and those below
+-- them are not used. Assumes nothing: these are definitions.
 use mathlib.Core.Path.{_≡_}
 use Prim.Native.Nat.{ℕ, zero, suc, _+_, _*_, _/_, _%_, min, _≤_, _<_}
 use mathlib.Core.List.{List}
@@ -21,14 +22,16 @@ top t = getD t 1 0
 abbrev pub lesserOf : List ℕ → ℕ → ℕ
 lesserOf t p = min (min (getD t (4 * p) 0) (getD t (4 * p + 1) 0)) (min (getD t (4 * p + 2) 0) (getD t (4 * p + 3) 0))
 
--- the place of the first word of the four that word i is of
-abbrev pub group : ℕ → ℕ
-group i = 4 * (i / 4)
+-- the other word of word i's pair, and the word across: that of the other pair of its four
+abbrev pub other : ℕ → ℕ
+other i = 2 * (i / 2) + (i + 1) % 2
 
--- the least of the other three
+abbrev pub across : ℕ → ℕ
+across i = 4 * (i / 4) + (i + 2) % 4
+
+-- the least of the three words beside word i
 abbrev pub leastBeside : List ℕ → ℕ → ℕ
-leastBeside t i =
-    min (min (getD t (group i + (i + 1) % 4) 0) (getD t (group i + (i + 2) % 4) 0)) (getD t (group i + (i + 3) % 4) 0)
+leastBeside t i = min (getD t (other i) 0) (min (getD t (across i) 0) (getD t (other (across i)) 0))
 
 -- t with word p made the least of its four
 abbrev pub mend : List ℕ → ℕ → List ℕ

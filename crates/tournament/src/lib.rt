@@ -25,14 +25,14 @@ pub fn clear(tree: &mut [u64], x: u64)
     }
 }
 
-// The least of the three words beside word i: of its four, all but itself.
+// The least of the three words beside word i: the other of its pair, and the pair across.
 fn least_beside(tree: &[u64], i: usize) -> u64
     requires { ⌜ (length (now tree) ≡ queueWords) × (i < queueWords) ⌝ }
     ensures { λ r. ⌜ r ≡ leastBeside (now (tree .entry)) i ⌝ }
 {
-    let group = 4 * (i / 4);
-    let two = lesser(tree[group + (i + 1) % 4], tree[group + (i + 2) % 4]);
-    lesser(two, tree[group + (i + 3) % 4])
+    let across = 4 * (i / 4) + (i + 2) % 4;
+    let pair = lesser(tree[across], tree[2 * (across / 2) + (across + 1) % 2]);
+    lesser(tree[2 * (i / 2) + (i + 1) % 2], pair)
 }
 
 // Stores x at leaf v, and makes each word above it the least of its four again.
