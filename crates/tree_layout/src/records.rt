@@ -15,6 +15,12 @@ ghost use Rattle.tree_layout.specs.Reading.{headerOf};
 // Where the first region's record stands, after the header.
 pub const FIRST_RECORD: usize = 12;
 
+// The bytes of a landmark's junction. A leaf's list stands after it.
+pub const JUNCTION_SIZE: usize = 2;
+
+// The bytes of an element of a list.
+pub const ELEMENT_SIZE: usize = 6;
+
 // The bytes of a landmark of an inner region.
 pub const INNER_MARK: usize = 10;
 
@@ -87,8 +93,8 @@ pub fn list(b: &[u8], at: usize, yards: usize) -> &[u8]
     requires { ⌜ at + (2 + 6 * yards) ≤ length (now b) ⌝ }
     ensures { λ p. ⌜ now p ≡ listPart (now (b .entry)) yards (at + 2) ⌝ }
 {
-    let start = at + 2;
-    let end = start + 6 * yards;
+    let start = at + JUNCTION_SIZE;
+    let end = start + ELEMENT_SIZE * yards;
     &b[start..end]
 }
 
