@@ -8,13 +8,13 @@ use native.Mathlib.Omega.{arith}
 use borrow.Author.Tests.{le-leb, lt-leb, eq-eqb, ne-eqb}
 use lib.ListN.{length}
 use lib.Dec.{leb, eqb, leb→le, le→leb, eqb→eq}
-use Rattle.book.specs.Choose.{refuse, firstOf, choose}
+use Rattle.book.specs.Choose.{refuse}
 use Rattle.book.specs.Bytes.{u8At, u32At}
 use Rattle.book.specs.Open.{openRefusal, opened}
 use Rattle.book.specs.declared.Opened.the-variants as Opened
 use Rattle.book.proofs.Choosing.{first-none, first-later, first-earlier, passes, passed, passes-if, fails-if, eq→eqb}
 use Rattle.book.proofs.Opening.{opened-refused, opens, open-zero}
-use Rattle.query.specs.Query.{aggregateOf, kOf, limitOf, crewCount, crewsOf, crewsFrom, inside, valueRefusal, bodyRefusal, queryRefusal, queryOf, queryBook, numberOf, QueryLayout}
+use Rattle.query.specs.Query.{aggregateOf, kOf, limitOf, crewCount, crewsOf, inside, valueRefusal, bodyRefusal, queryRefusal, queryOf, queryBook, numberOf, QueryLayout}
 use Rattle.query.specs.declared.Query.{Query}
 use Rattle.query.specs.declared.QueryBook.{QueryBook}
 use Rattle.query.specs.declared.QueryBook.the-variants.{Asked, Refused}

@@ -2,7 +2,7 @@
 use book::Junction;
 use book::Opened;
 ghost use mathlib.Core.Path.{_≡_};
-ghost use Prim.Native.Nat.{ℕ, _+_, _*_, _≤_, _<_};
+ghost use Prim.Native.Nat.{_+_, _*_, _≤_, _<_};
 ghost use lib.ListN.{length, take};
 ghost use Rattle.book.specs.Open.{openRefusal};
 ghost use Rattle.query.specs.Query.{crewCount, crewAt, crewsOf, inside, valueRefusal, queryRefusal, queryOf, queryBook, numberOf};

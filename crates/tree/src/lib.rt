@@ -5,21 +5,13 @@ mod shape;
 
 use tree_layout::Header;
 use tree_layout::TreeBook;
+use tree_layout::records;
 ghost use mathlib.Core.Path.{_≡_};
 ghost use Prim.Native.Nat.{_≤_};
 ghost use lib.ListN.{length};
 ghost use Rattle.tree_layout.specs.Refusal.{layoutRefusal};
 ghost use Rattle.tree.specs.Shape.{treeRefusal};
 ghost use Rattle.tree.specs.Answer.{numberOf, treeOf, placesAfter, endsAfter};
-
-// The fields of a region, and the place of its record in the book.
-pub struct Fields {
-    pub at: usize,
-    pub first: u16,
-    pub after: u16,
-    pub children: u8,
-    pub yards: u16,
-}
 
 // What reading a tree book finds: the header of a tree of sound layout and shape, or the number of the test that turns it back.
 pub enum Tree {
@@ -45,7 +37,8 @@ fn shape_refusal(b: &[u8], places: &mut [usize], ends: &mut [usize]) -> u8
     ensures ends { λ _. ⌜ now (ends .exit) ≡ endsAfter (now (b .entry)) (now (ends .entry)) ⌝ }
 {
     arrays::fill_places(b, places);
-    let n = book::u16_at(b, 7) as usize;
+    let h = records::header(b);
+    let n = h.regions as usize;
     if !shape::keeps_shape(b, &places[..n]) {
         return 7;
     }

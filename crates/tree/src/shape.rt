@@ -1,7 +1,8 @@
 // The shape test: a descent of the regions in preorder, remaining levels falling.
-use crate::Fields;
 use crate::regions;
+use tree_layout::Fields;
 use tree_layout::Region;
+use tree_layout::records;
 ghost use mathlib.Core.Path.{_≡_};
 ghost use Prim.Native.Nat.{ℕ, _+_, _≤_, _<_};
 ghost use lib.ListN.{length};
@@ -110,5 +111,6 @@ pub fn keeps_shape(b: &[u8], places: &[usize]) -> bool
         return false;
     }
     let f = regions::fields(b, places, root);
-    f.yards == book::u16_at(b, 9)
+    let h = records::header(b);
+    f.yards == h.yards
 }

@@ -5,7 +5,7 @@ pub mod records; // records.rt: where a tree book's fields stand
 use book::Opened;
 ghost use mathlib.Core.Path.{_≡_};
 ghost use mathlib.Core.Bool.{true};
-ghost use Prim.Native.Nat.{ℕ, _+_, _*_, _≤_, _<_};
+ghost use Prim.Native.Nat.{_+_, _*_, _≤_, _<_};
 ghost use lib.ListN.{length};
 ghost use Rattle.book.specs.Bytes.{u16At, u32At};
 ghost use Rattle.tree_layout.specs.Values.{leafMark, innerMark};

@@ -5,9 +5,10 @@ use crate::Listed;
 use crate::Span;
 use book::Junction;
 ghost use mathlib.Core.Path.{_≡_};
-ghost use Prim.Native.Nat.{ℕ, _+_, _*_, _≤_, _<_};
+ghost use Prim.Native.Nat.{_+_, _*_, _≤_};
 ghost use lib.ListN.{length};
 ghost use Rattle.book.specs.Bytes.{u16At};
+ghost use Rattle.tree_layout.specs.Sizes.{headerSize, fieldsSize, junctionSize, elementSize, leafMarkSize, innerMarkSize};
 ghost use Rattle.tree_layout.specs.Decode.{listPart};
 ghost use Rattle.tree_layout.specs.Accessors.{fieldsAt, spanAt, listedAt};
 ghost use Rattle.tree_layout.specs.Reading.{headerOf};
@@ -27,22 +28,22 @@ pub const INNER_MARK: usize = 10;
 // The bytes of a landmark of a leaf with so many yards.
 pub fn leaf_mark(yards: usize) -> usize
     requires { ⌜ yards ≤ 65535 ⌝ }
-    ensures { λ r. ⌜ r ≡ 2 + 6 * yards ⌝ }
+    ensures { λ r. ⌜ r ≡ leafMarkSize yards ⌝ }
 {
-    2 + 6 * yards
+    JUNCTION_SIZE + ELEMENT_SIZE * yards
 }
 
 // Where the landmarks of the record at a place stand.
 pub fn marks_at(at: usize) -> usize
-    requires { ⌜ at ≤ 4294967295 ⌝ }
-    ensures { λ r. ⌜ r ≡ at + 7 ⌝ }
+    requires { ⌜ at + fieldsSize ≤ 18446744073709551615 ⌝ }
+    ensures { λ r. ⌜ r ≡ at + fieldsSize ⌝ }
 {
     at + 7
 }
 
 // The header's counts.
 pub fn header(b: &[u8]) -> Header
-    requires { ⌜ 12 ≤ length (now b) ⌝ }
+    requires { ⌜ headerSize ≤ length (now b) ⌝ }
     ensures { λ r. ⌜ r ≡ headerOf (now (b .entry)) ⌝ }
 {
     Header {
@@ -55,7 +56,7 @@ pub fn header(b: &[u8]) -> Header
 
 // The fields of the region whose record is at a place.
 pub fn fields(b: &[u8], at: usize) -> Fields
-    requires { ⌜ at + 7 ≤ length (now b) ⌝ }
+    requires { ⌜ at + fieldsSize ≤ length (now b) ⌝ }
     ensures { λ f. ⌜ f ≡ fieldsAt (now (b .entry)) at ⌝ }
 {
     Fields {
@@ -69,7 +70,7 @@ pub fn fields(b: &[u8], at: usize) -> Fields
 
 // The junction of the landmark at a place.
 pub fn junction(b: &[u8], at: usize) -> Junction
-    requires { ⌜ at + 2 ≤ length (now b) ⌝ }
+    requires { ⌜ at + junctionSize ≤ length (now b) ⌝ }
     ensures { λ r. ⌜ r .number ≡ u16At (now (b .entry)) at ⌝ }
 {
     Junction {
@@ -79,7 +80,7 @@ pub fn junction(b: &[u8], at: usize) -> Junction
 
 // The least and greatest of an inner region's landmark at a place.
 pub fn span(b: &[u8], at: usize) -> Span
-    requires { ⌜ at + 10 ≤ length (now b) ⌝ }
+    requires { ⌜ at + innerMarkSize ≤ length (now b) ⌝ }
     ensures { λ r. ⌜ r ≡ spanAt (now (b .entry)) at ⌝ }
 {
     Span {
@@ -90,8 +91,8 @@ pub fn span(b: &[u8], at: usize) -> Span
 
 // The list of a leaf's landmark at a place: the part of the book that starts where its record puts it.
 pub fn list(b: &[u8], at: usize, yards: usize) -> &[u8]
-    requires { ⌜ at + (2 + 6 * yards) ≤ length (now b) ⌝ }
-    ensures { λ p. ⌜ now p ≡ listPart (now (b .entry)) yards (at + 2) ⌝ }
+    requires { ⌜ at + leafMarkSize yards ≤ length (now b) ⌝ }
+    ensures { λ p. ⌜ now p ≡ listPart (now (b .entry)) yards (at + junctionSize) ⌝ }
 {
     let start = at + JUNCTION_SIZE;
     let end = start + ELEMENT_SIZE * yards;
@@ -100,7 +101,7 @@ pub fn list(b: &[u8], at: usize, yards: usize) -> &[u8]
 
 // Element number k of a list.
 pub fn element(p: &[u8], k: usize) -> Listed
-    requires { ⌜ 6 * k + 6 ≤ length (now p) ⌝ }
+    requires { ⌜ elementSize * k + elementSize ≤ length (now p) ⌝ }
     ensures { λ e. ⌜ e ≡ listedAt (now (p .entry)) k ⌝ }
 {
     Listed {

@@ -2,7 +2,7 @@
 use book::Junction;
 use book::Opened;
 ghost use mathlib.Core.Path.{_≡_};
-ghost use Prim.Native.Nat.{ℕ, _+_, _*_, _≤_, _<_};
+ghost use Prim.Native.Nat.{_+_, _*_, _≤_, _<_};
 ghost use lib.ListN.{length, getD};
 ghost use Rattle.yard.specs.Yards.{yardCount, yardsFrom, yardsOf, rises, yardRefusal, yardRefusalIn, yardBook, numberOf};
 
