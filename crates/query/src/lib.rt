@@ -5,9 +5,10 @@ ghost use mathlib.Core.Path.{_≡_};
 ghost use Prim.Native.Nat.{_+_, _*_, _≤_, _<_};
 ghost use lib.ListN.{length, take};
 ghost use Rattle.book.specs.Open.{openRefusal};
-ghost use Rattle.query.specs.Query.{crewCount, crewAt, crewsOf, inside, valueRefusal, queryRefusal, queryOf, queryBook, numberOf};
+ghost use Rattle.query.specs.Query.{crewCount, crewAt, crewsOf, inside};
+ghost use Rattle.query.specs.Query.{valueRefusal, queryRefusal, queryOf, queryBook, numberOf};
 
-// What a query asks: the aggregate's code, the k yards that are to be found, the limit of steps, and how many crews there are.
+// What a query asks: the aggregate's code, k (how many yards), the limit of steps, and how many crews there are.
 pub struct Query {
     pub aggregate: u8,
     pub k: u8,
@@ -101,7 +102,7 @@ fn values(aggregate: u8, k: u8) -> u8
     0
 }
 
-// The number of the first test that turns a book back which opens and asks q, beside a road book with n junctions, or 0.
+// The number of the first test that turns back a book that opens and asks q, beside a road book with n junctions, or 0.
 fn refusal(b: &[u8], q: Query, n: u16) -> u8
     requires { ⌜ (openRefusal (now b) 7 ≡ 0) × (q ≡ queryOf (now b)) ⌝ }
     ensures { λ r. ⌜ r ≡ queryRefusal (now (b .entry)) n ⌝ }

@@ -10,7 +10,7 @@ use borrow.Author.Tests.{eq-eqb, ne-eqb}
 use lib.Dec.{eqb}
 use Rattle.tree_layout.specs.Accessors.{fieldsAt}
 use Rattle.tree_layout.specs.Values.{Region, regionAt}
-use Rattle.tree_layout.specs.Decode.{readRegion, sizeAt, landmarkCount, placeOf, decode}
+use Rattle.tree_layout.specs.Decode.{readRegion, sizeAt, landmarkCount, placeOf, decode, yardCount}
 use Rattle.tree_layout.proofs.Places.{decode-yards}
 use Rattle.tree_leaf.specs.Leaf.{leafOk}
 use Rattle.tree.specs.Shape.{childFits, siblings, subtree, shaped}

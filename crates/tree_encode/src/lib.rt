@@ -1,4 +1,4 @@
-// The bytes of a tree book's parts, written in place. What a whole tree's bytes are, and that they read back, is in specs/ and proofs/.
+// Writers of a tree book's parts. What a whole tree's bytes are, and that they read back, is in specs/ and proofs/.
 use tree_layout::Fields;
 use tree_layout::Header;
 use tree_layout::Span;
@@ -47,7 +47,7 @@ pub fn put_leaf_mark_junction(tree: &mut [u8], at: usize, l: u16)
     book::put_u16(tree, at, l);
 }
 
-// Writes an inner region's landmark at a place: its junction, and the least and the greatest distance to the region's yards.
+// Writes an inner region's landmark at a place: its junction, and the least and the greatest distance to its yards.
 pub fn put_span(tree: &mut [u8], at: usize, l: u16, s: Span)
     requires { ⌜ at + innerMarkSize ≤ length (now tree) ⌝ }
     ensures { λ _. ⌜ now (tree .exit) ≡ write (now (tree .entry)) at

@@ -1,4 +1,4 @@
-// A leaf's lists: "all of a leaf's lists name the same yards, each yard once, inside its range". The yards of a list are kept in a table by junction.
+// "all of a leaf's lists name the same yards, each yard once, inside its range": a list's yards as a table by junction.
 use tree_layout::Fields;
 use tree_layout::records;
 ghost use mathlib.Core.Path.{_≡_};
@@ -24,7 +24,7 @@ fn clear(table: &mut [bool])
     }
 }
 
-// Whether a leaf's list names each yard once and inside the leaf's range; the table then has these yards. The last element is taken first.
+// Whether a leaf's list names each yard once, inside the leaf's range; the table then has these yards.
 fn fill_table(p: &[u8], f: Fields, table: &mut [bool]) -> bool
     requires { ⌜ (elementSize * f .yards ≤ length (now p)) × (f .after ≤ 1024) × (length (now table) ≡ 1024) ⌝ }
     ensures { λ r. ⌜ (r ≡ fits (f .first) (f .after) (readList (now (p .entry)) (f .yards) 0))
@@ -70,10 +70,10 @@ fn all_in(p: &[u8], n: usize, table: &[bool]) -> bool
     true
 }
 
-// Whether a list of a leaf names the yards of the first one, each once, inside the leaf's range; `named` has the first one's yards.
+// Whether a leaf's list names the yards of the first one, each once, inside its range; `named` has the first one's yards.
 fn same_yards(first: &[u8], p: &[u8], f: Fields, named: &[bool], table: &mut [bool]) -> bool
-    requires { ⌜ (elementSize * f .yards ≤ length (now first)) × (elementSize * f .yards ≤ length (now p)) × (f .after ≤ 1024)
-        × (length (now table) ≡ 1024) × (fits (f .first) (f .after) (readList (now first) (f .yards) 0) ≡ true)
+    requires { ⌜ (elementSize * f .yards ≤ length (now first)) × (elementSize * f .yards ≤ length (now p))
+        × (f .after ≤ 1024) × (length (now table) ≡ 1024) × (fits (f .first) (f .after) (readList (now first) (f .yards) 0) ≡ true)
         × (now named ≡ tableOf (readList (now first) (f .yards) 0)) ⌝ }
     ensures { λ r. ⌜ r ≡ sameYards (f .first) (f .after) (readList (now (first .entry)) (f .yards) 0)
         (readList (now (p .entry)) (f .yards) 0) ⌝ }
@@ -87,10 +87,19 @@ fn same_yards(first: &[u8], p: &[u8], f: Fields, named: &[bool], table: &mut [bo
     all_in(first, f.yards as usize, table)
 }
 
-// Whether the lists of m landmarks from a place on all do, beside the first of them; each is the part of the book that starts where its record puts it.
-fn all_agree(b: &[u8], start: usize, m: usize, f: Fields, named: &[bool], table: &mut [bool]) -> bool
-    requires { ⌜ (start + m * leafMarkSize (f .yards) ≤ length (now b)) × (1 ≤ m) × (f .after ≤ 1024) × (length (now table) ≡ 1024)
-        × (fits (f .first) (f .after) (readList (listPart (now b) (f .yards) (start + junctionSize)) (f .yards) 0) ≡ true)
+// Whether the lists of m landmarks from a place on all do, beside the first of them.
+fn all_agree(
+    b: &[u8],
+    start: usize,
+    m: usize,
+    f: Fields,
+    named: &[bool],
+    table: &mut [bool],
+) -> bool
+    requires { ⌜ (start + m * leafMarkSize (f .yards) ≤ length (now b)) × (1 ≤ m) × (f .after ≤ 1024)
+        × (length (now table) ≡ 1024)
+        × (fits (f .first) (f .after) (readList (listPart (now b) (f .yards) (start + junctionSize)) (f .yards) 0)
+        ≡ true)
         × (now named ≡ tableOf (readList (listPart (now b) (f .yards) (start + junctionSize)) (f .yards) 0)) ⌝ }
     ensures { λ r. ⌜ r ≡ agreeing (f .first) (f .after) (firstList (readLists (now (b .entry)) (f .yards) m start))
         (readLists (now (b .entry)) (f .yards) m start) ⌝ }

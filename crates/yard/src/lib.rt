@@ -4,7 +4,8 @@ use book::Opened;
 ghost use mathlib.Core.Path.{_≡_};
 ghost use Prim.Native.Nat.{_+_, _*_, _≤_, _<_};
 ghost use lib.ListN.{length, getD};
-ghost use Rattle.yard.specs.Yards.{yardCount, yardsFrom, yardsOf, rises, yardRefusal, yardRefusalIn, yardBook, numberOf};
+ghost use Rattle.yard.specs.Yards.{yardCount, yardsFrom, yardsOf, rises};
+ghost use Rattle.yard.specs.Yards.{yardRefusal, yardRefusalIn, yardBook, numberOf};
 
 // What reading a yard book finds: how many yards it has, or the number of the test that turns it back.
 pub enum YardBook {

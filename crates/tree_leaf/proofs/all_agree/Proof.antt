@@ -88,12 +88,11 @@ loop-again c =
     let w = c .before .before .before .before in
     let l = c .before .before .before .before .before .before .before in
     let i = l .before .loop .inv in
-    let e = parts-agree _ _ _ _ _ _ _ _ (c .before .before .before .before .before .before .before .before .before .list .ensures) (c .before .before .before .before .before .before .list2 .ensures) in
     let z = c .leaf-mark .ensures in (
       omega arith,
       omega arith,
       rw z (room _ _ _ _ _ (l .loop-test .taken) (l .before .loop .inv .2) .1),
-      rw z (agree-next _ _ _ _ _ _ _ _ _ (first-list _ _ _ _ (omega (arith, l .loop-test .taken))) (l .loop-test .taken) (e ∙ sym (w .same-yards .ensures) ∙ not-false _ (c .before .if1 .left))) ∙ i .3,
+      rw z (agree-next _ _ _ _ _ _ _ _ _ (first-list _ _ _ _ (omega (arith, l .loop-test .taken))) (l .loop-test .taken) (parts-agree _ _ _ _ _ _ _ _ (c .before .before .before .before .before .before .before .before .before .list .ensures) (c .before .before .before .before .before .before .list2 .ensures) ∙ sym (w .same-yards .ensures) ∙ not-false _ (c .before .if1 .left))) ∙ i .3,
       search needs,
     )
 
