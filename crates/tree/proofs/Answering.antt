@@ -143,12 +143,14 @@ module _ (b : List ℕ) (ok : treeRefusal b ≡ 0) where
   pub accepted-laid : (n : ℕ) → n ≡ regionCount b → (old new : List ℕ) → 511 ≤ length old → new ≡ placesAfter b old → Laid b (take n new)
   unfolding placesAfter
   accepted-laid n e old new h z =
-      prefix-laid b laid-out old h n e new (z ∙ choose-yes (eqb (layoutRefusal b) 0) (overwrite (placeOf b) (regionCount b) old) old (eq→eqb (layoutRefusal b) 0 laid-out))
+      prefix-laid b laid-out old h n e new (z ∙ choose-yes (eqb (layoutRefusal b) 0) (overwrite (placeOf b) (regionCount b) old) old (eq→eqb
+      (layoutRefusal b) 0 laid-out))
 
   pub accepted-slots : (n : ℕ) → n ≡ regionCount b → (old new : List ℕ) → 511 ≤ length old → new ≡ placesAfter b old → n ≤ length new
   unfolding placesAfter
   accepted-slots n e old new h z =
-      prefix-room b laid-out old h n e new (z ∙ choose-yes (eqb (layoutRefusal b) 0) (overwrite (placeOf b) (regionCount b) old) old (eq→eqb (layoutRefusal b) 0 laid-out))
+      prefix-room b laid-out old h n e new (z ∙ choose-yes (eqb (layoutRefusal b) 0) (overwrite (placeOf b) (regionCount b) old) old (eq→eqb
+      (layoutRefusal b) 0 laid-out))
 
   few : regionCount b ≤ 511
   few = layout-facts b laid-out .regions .1

@@ -49,7 +49,8 @@ module _ (b places : List ℕ) (laid : Laid b places) where
     pub laid-end : fieldsAt b (placeOf b i) .after ≤ 1024
     laid-end =
         let v = laid .layout .values (regionAt (decode b .regions) i) (at-mem (decode b .regions) i (omega (arith, laid-length))) in
-        let e : regionAt (decode b .regions) i .after ≡ fieldsAt b (placeOf b i) .after = ap (λ (r : Region). r .after) laid-region ∙ region-after b (landmarkCount b) (placeOf b i) in
+        let e : regionAt (decode b .regions) i .after ≡ fieldsAt b (placeOf b i) .after = ap (λ (r : Region). r .after) laid-region ∙ region-after b
+        (landmarkCount b) (placeOf b i) in
         omega (arith, v .within, laid .layout .junctions .1)
 
     -- what is read at its place are its fields

@@ -123,7 +123,8 @@ module _ (b places : List ℕ) (laid : Laid b places) where
   unfolding shaped
   not-all x z h = simp (ne-eqb _ _ (λ e. h (z ∙ (e ∙ laid-length b places laid))))
 
-  pub takes-all : (x : ℕ) → x ≡ subtree rs 8 0 → x ≡ length places → (f : Fields) → f ≡ fieldsOf b 0 → (y : ℕ) → y ≡ yardCount b → eqb (f .yards) y ≡ shaped (decode b)
+  pub takes-all : (x : ℕ) → x ≡ subtree rs 8 0 → x ≡ length places → (f : Fields) → f ≡ fieldsOf b 0 → (y : ℕ) → y ≡ yardCount b → eqb
+      (f .yards) y ≡ shaped (decode b)
   unfolding shaped
   takes-all x z h f e y q =
       let w : decode b .yards ≡ y = decode-yards b ∙ sym q in

@@ -29,7 +29,7 @@ pub fn number(o: Tree) -> u8
     }
 }
 
-// Test 7 of a book of sound layout: 0 or 7. The arrays then hold where each record stands and, if 0, each subtree's end.
+// Test 7 of a book of sound layout: 0 or 7. The arrays then hold each record's place and, if 0, each subtree's end.
 fn shape_refusal(b: &[u8], places: &mut [usize], ends: &mut [usize]) -> u8
     requires { ⌜ (layoutRefusal (now b) ≡ 0) × (511 ≤ length (now places)) × (511 ≤ length (now ends)) ⌝ }
     ensures answer { λ r. ⌜ r ≡ treeRefusal (now (b .entry)) ⌝ }
@@ -46,7 +46,7 @@ fn shape_refusal(b: &[u8], places: &mut [usize], ends: &mut [usize]) -> u8
     0
 }
 
-// Reads a tree book: tests 1 to 5, then 7. If accepted, the arrays hold where each record stands and each subtree's end.
+// Reads a tree book: tests 1 to 5, then 7. If accepted, the arrays hold each record's place and each subtree's end.
 pub fn read(b: &[u8], places: &mut [usize], ends: &mut [usize]) -> Tree
     requires { ⌜ (511 ≤ length (now places)) × (511 ≤ length (now ends)) ⌝ }
     ensures answer { λ r. ⌜ r ≡ treeOf (now (b .entry)) ⌝ }

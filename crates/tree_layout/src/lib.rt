@@ -282,7 +282,7 @@ fn values_ok(b: &[u8], m: usize, n: usize, junctions: u16) -> bool
     true
 }
 
-// The number of the first of tests 1 to 5 that turns the book back, or 0; test 4 goes over the whole book before test 5.
+// The number of the first of tests 1 to 5 that turns the book back, or 0; test 4 goes over all the book before test 5.
 pub fn layout(b: &[u8]) -> u8
     ensures { λ r. ⌜ r ≡ layoutRefusal (now (b .entry)) ⌝ }
 {

@@ -19,14 +19,17 @@ use Rattle.tree_leaf.specs.Leaf.{names, once, inRange, namedBy, firstLis
 
 -- the pair at a place, and the n - (k + 1) pairs after it
 module _ (p : List ℕ) (n k at : ℕ) where
-  once-here : (v : ℕ) → k < n → v ≡ elementAt p at .yard → once (readList p (n - k) at) ≡ (not (names (readList p (n - (k + 1)) (at + 6)) v) && once (readList p (n - (k + 1)) (at + 6)))
+  once-here : (v : ℕ) → k < n → v ≡ elementAt p at .yard → once (readList p (n - k) at) ≡ (not (names (readList p (n - (k + 1)) (at + 6)) v) && once
+      (readList p (n - (k + 1)) (at + 6)))
   unfolding once
   once-here v h e = rw (list-turn p n k at h, e) refl
 
-  pub once-stop : (v rest : ℕ) → k < n → v ≡ elementAt p at .yard → rest ≡ n - (k + 1) → names (readList p rest (at + 6)) v ≡ true → once (readList p (n - k) at) ≡ false
+  pub once-stop : (v rest : ℕ) → k < n → v ≡ elementAt p at .yard → rest ≡ n - (k + 1) → names (readList p rest (at + 6)) v ≡ true → once (readList p
+      (n - k) at) ≡ false
   once-stop v rest h e q t = once-here v h e ∙ rw (rw q at t) refl
 
-  pub once-next : (v rest : ℕ) → k < n → v ≡ elementAt p at .yard → rest ≡ n - (k + 1) → names (readList p rest (at + 6)) v ≡ false → once (readList p (n - (k + 1)) (at + 6)) ≡ once (readList p (n - k) at)
+  pub once-next : (v rest : ℕ) → k < n → v ≡ elementAt p at .yard → rest ≡ n - (k + 1) → names (readList p rest (at + 6)) v ≡ false → once (readList p
+      (n - (k + 1)) (at + 6)) ≡ once (readList p (n - k) at)
   once-next v rest h e q t = sym (once-here v h e ∙ rw (rw q at t) refl)
 
   -- a test of every pair
@@ -46,7 +49,8 @@ module _ (p : List ℕ) (n k at : ℕ) where
   pub range-high : (low high v : ℕ) → k < n → v ≡ elementAt p at .yard → low ≤ v → high ≤ v → all (inRange low high) (readList p (n - k) at) ≡ false
   range-high low high v h e q s = all-here (inRange low high) h ∙ rw (range-here low high v e) (simp (le-leb _ _ q, le-ltb _ _ s))
 
-  pub range-next : (low high v : ℕ) → k < n → v ≡ elementAt p at .yard → low ≤ v → v < high → all (inRange low high) (readList p (n - (k + 1)) (at + 6)) ≡ all (inRange low high) (readList p (n - k) at)
+  pub range-next : (low high v : ℕ) → k < n → v ≡ elementAt p at .yard → low ≤ v → v < high → all (inRange low high) (readList p (n - (k + 1))
+      (at + 6)) ≡ all (inRange low high) (readList p (n - k) at)
   range-next low high v h e q s = sym (all-here (inRange low high) h ∙ rw (range-here low high v e) (simp (le-leb _ _ q, lt-ltb _ _ s)))
 
 -- ---- the four tests of a list
@@ -71,7 +75,8 @@ first-list b yards m at h =
 
 -- two lists of a book, each the part that starts where its record puts it
 pub parts-agree : (b : List ℕ) (low high n start at : ℕ) (first p : List ℕ) → first ≡ listPart b n (start + 2) → p ≡ listPart b n (at + 2)
-    → sameYards low high (readList (listPart b n (start + 2)) n 0) (readList (listPart b n (at + 2)) n 0) ≡ sameYards low high (readList first n 0) (readList p n 0)
+    → sameYards low high (readList (listPart b n (start + 2)) n 0) (readList (listPart b n (at + 2)) n 0) ≡ sameYards low high (readList first n 0)
+    (readList p n 0)
 parts-agree b low high n start at first p e f = rw (e, f) refl
 
 -- the landmark at a place, and the m - (k + 1) landmarks after it

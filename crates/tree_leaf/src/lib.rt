@@ -70,10 +70,11 @@ fn all_in(p: &[u8], n: usize, table: &[bool]) -> bool
     true
 }
 
-// Whether a leaf's list names the yards of the first one, each once, inside its range; `named` has the first one's yards.
+// Whether a leaf's list names the first one's yards, each once, inside its range; `named` has the first one's yards.
 fn same_yards(first: &[u8], p: &[u8], f: Fields, named: &[bool], table: &mut [bool]) -> bool
     requires { ⌜ (elementSize * f .yards ≤ length (now first)) × (elementSize * f .yards ≤ length (now p))
-        × (f .after ≤ 1024) × (length (now table) ≡ 1024) × (fits (f .first) (f .after) (readList (now first) (f .yards) 0) ≡ true)
+        × (f .after ≤ 1024) × (length (now table) ≡ 1024)
+        × (fits (f .first) (f .after) (readList (now first) (f .yards) 0) ≡ true)
         × (now named ≡ tableOf (readList (now first) (f .yards) 0)) ⌝ }
     ensures { λ r. ⌜ r ≡ sameYards (f .first) (f .after) (readList (now (first .entry)) (f .yards) 0)
         (readList (now (p .entry)) (f .yards) 0) ⌝ }

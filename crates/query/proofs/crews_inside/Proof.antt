@@ -20,7 +20,9 @@ crew-at-requires : tie.Need-crew-at-requires Inv-loop μ-loop
 crew-at-requires c κs = search needs
 
 returns : tie.Need-returns Inv-loop μ-loop
-returns c = sym (stops _ _ _ _ _ (c .before .before .crew-at .ensures) (c .before .before .before .loop-test .taken) (omega (arith, c .if1 .taken))) ∙ c .before .before .before .before .loop .inv .1
+returns c =
+    sym (stops _ _ _ _ _ (c .before .before .crew-at .ensures) (c .before .before .before .loop-test .taken) (omega (arith, c .if1 .taken)))
+    ∙ c .before .before .before .before .loop .inv .1
 
 add-i : tie.Need-add-i Inv-loop μ-loop
 add-i c = search needs
@@ -29,7 +31,11 @@ loop-less : tie.Need-loop-less Inv-loop μ-loop
 loop-less c = search needs
 
 loop-again : tie.Need-loop-again Inv-loop μ-loop
-loop-again c = (omega arith, goes-on _ _ _ _ _ (c .before .before .crew-at .ensures) (c .before .before .before .loop-test .taken) (omega (arith, c .if1 .left)) ∙ c .before .before .before .before .loop .inv .1)
+loop-again c = (
+  omega arith,
+  goes-on _ _ _ _ _ (c .before .before .crew-at .ensures) (c .before .before .before .loop-test .taken) (omega (arith, c .if1 .left))
+      ∙ c .before .before .before .before .loop .inv .1,
+)
 
 returns-2 : tie.Need-returns-2 Inv-loop μ-loop
 returns-2 c = sym (ends _ _ _ _ (c .loop-test .left)) ∙ c .before .loop .inv .1

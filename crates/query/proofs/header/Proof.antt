@@ -16,7 +16,8 @@ u8-at-requires-3 : tie.Need-u8-at-requires-3
 u8-at-requires-3 c κs = search needs
 
 returns : tie.Need-returns
-returns c = asked-is _ _ _ _ _ (c .before .before .before .u8-at .ensures) (c .before .before .u8-at2 .ensures) (c .before .u32-at .ensures) (c .u8-at3 .ensures)
+returns c =
+    asked-is _ _ _ _ _ (c .before .before .before .u8-at .ensures) (c .before .before .u8-at2 .ensures) (c .before .u32-at .ensures) (c .u8-at3 .ensures)
 
 pub header-spec : {M : Type 1} → statement M
 header-spec =

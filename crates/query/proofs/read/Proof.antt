@@ -30,7 +30,9 @@ returns : tie.Need-returns
 returns c = search needs
 
 returns-2 : tie.Need-returns-2
-returns-2 c = not-opened _ _ _ (sym (c .before .before .before .before .before .before .«open» .ensures) ∙ c .before .before .before .before .o .given .1 ∙ c .before .o2 .given .1)
+returns-2 c =
+    not-opened _ _ _ (sym (c .before .before .before .before .before .before .«open» .ensures) ∙ c .before .before .before .before .o .given .1
+    ∙ c .before .o2 .given .1)
 
 header-requires : tie.Need-header-requires
 header-requires c κs = omega (arith, opens _ _ (body c) .headed)

@@ -48,7 +48,8 @@ returns c =
     let u = k .before .before in
     let s = u .before .before .before .before .before .before .before .before .before in
     let p = u .before .before .before .before in
-    unshaped _ (s .pre .0) _ (s .pre .1) _ (its-regions _ _ (u .before .header .ensures)) _ (p .fill-places .ensures) _ (s .pre .2) (sym (k .keeps-shape .ensures) ∙ not-true _ (c .if1 .taken))
+    unshaped _ (s .pre .0) _ (s .pre .1) _ (its-regions _ _ (u .before .header .ensures)) _ (p .fill-places .ensures) _ (s .pre .2) (sym
+    (k .keeps-shape .ensures) ∙ not-true _ (c .if1 .taken))
 
 slice-reshare-prefix-fill-ends : tie.Need-slice-reshare-prefix-fill-ends
 slice-reshare-prefix-fill-ends c =
@@ -71,7 +72,8 @@ fill-ends-requires c κs =
     let u = k .before .before in
     let s = u .before .before .before .before .before .before .before .before .before in
     let p = u .before .before .before .before in
-    ends-need _ (s .pre .0) _ (s .pre .1) _ (its-regions _ _ (u .before .header .ensures)) _ (p .fill-places .ensures) (s .args .ends .now) (s .pre .2) (sym (k .keeps-shape .ensures) ∙ not-false _ (e .if1 .left))
+    ends-need _ (s .pre .0) _ (s .pre .1) _ (its-regions _ _ (u .before .header .ensures)) _ (p .fill-places .ensures) (s .args .ends .now) (s .pre .2)
+    (sym (k .keeps-shape .ensures) ∙ not-false _ (e .if1 .left))
 
 same-length-2 : tie.Need-same-length-2
 same-length-2 c = search needs
@@ -87,7 +89,8 @@ returns-2 c =
     let u = k .before .before in
     let s = u .before .before .before .before .before .before .before .before .before in
     let p = u .before .before .before .before in
-    shaped-done _ (s .pre .0) _ (s .pre .1) _ (its-regions _ _ (u .before .header .ensures)) _ (p .fill-places .ensures) _ (s .pre .2) (sym (k .keeps-shape .ensures) ∙ not-false _ (e .if1 .left)) _ (f .fill-ends .ensures)
+    shaped-done _ (s .pre .0) _ (s .pre .1) _ (its-regions _ _ (u .before .header .ensures)) _ (p .fill-places .ensures) _ (s .pre .2) (sym
+    (k .keeps-shape .ensures) ∙ not-false _ (e .if1 .left)) _ (f .fill-ends .ensures)
 
 pub shape-refusal-spec : {M : Type 1} → statement M
 shape-refusal-spec =

@@ -28,10 +28,14 @@ put-u16-requires-3 : tie.Need-put-u16-requires-3
 put-u16-requires-3 c κs = simp length-set (omega (arith, c .before .before .before .put-u162 .kept .0))
 
 same-length : tie.Need-same-length
-same-length c = c .before .before .put-u163 .kept .0 ∙ simp length-set (c .before .before .before .before .before .before .put-u162 .kept .0 ∙ c .before .before .before .before .before .before .before .before .before .before .put-u16 .kept .0)
+same-length c =
+    c .before .before .put-u163 .kept .0 ∙ simp length-set (c .before .before .before .before .before .before .put-u162 .kept .0
+    ∙ c .before .before .before .before .before .before .before .before .before .before .put-u16 .kept .0)
 
 returns : tie.Need-returns
-returns c = fields-written _ _ _ _ _ _ _ _ _ _ (c .before .before .before .before .before .before .before .before .before .before .put-u16 .ensures) (c .before .before .before .before .before .before .put-u162 .ensures) refl (c .before .before .put-u163 .ensures)
+returns c =
+    fields-written _ _ _ _ _ _ _ _ _ _ (c .before .before .before .before .before .before .before .before .before .before .put-u16 .ensures)
+    (c .before .before .before .before .before .before .put-u162 .ensures) refl (c .before .before .put-u163 .ensures)
 
 pub put-fields-spec : {M : Type 1} → statement M
 put-fields-spec =

@@ -24,7 +24,8 @@ abbrev μ-loop : tie.MeasureT-loop
 μ-loop b start m f named table₀ n first at₀ k₀ table at k = m - k
 
 -- the first list lies in the book
-first-room : (c : tie.After-struct-known Inv-loop μ-loop) → c .before .before .before .before .args .start + (2 + 6 * c .before .before .before .before .args .f .yards)
+first-room : (c : tie.After-struct-known Inv-loop μ-loop) → c .before .before .before .before .args .start +
+    (2 + 6 * c .before .before .before .before .args .f .yards)
     ≤ length (c .before .before .before .before .args .b .now)
 first-room c =
     let s = c .before .before .before .before in
@@ -66,8 +67,10 @@ returns : tie.Need-returns Inv-loop μ-loop
 returns c =
     let w = c .before .before .before in
     let l = c .before .before .before .before .before .before in
-    let e = parts-agree _ _ _ _ _ _ _ _ (c .before .before .before .before .before .before .before .before .list .ensures) (c .before .before .before .before .before .list2 .ensures) in
-    sym (agree-stop _ _ _ _ _ _ _ _ _ (first-list _ _ _ _ (omega (arith, l .loop-test .taken))) (l .loop-test .taken) (e ∙ sym (w .same-yards .ensures) ∙ not-true _ (c .if1 .taken))) ∙ l .before .loop .inv .3
+    let e = parts-agree _ _ _ _ _ _ _ _ (c .before .before .before .before .before .before .before .before .list .ensures)
+    (c .before .before .before .before .before .list2 .ensures) in
+    sym (agree-stop _ _ _ _ _ _ _ _ _ (first-list _ _ _ _ (omega (arith, l .loop-test .taken))) (l .loop-test .taken) (e ∙ sym (w .same-yards .ensures)
+    ∙ not-true _ (c .if1 .taken))) ∙ l .before .loop .inv .3
 
 leaf-mark-requires : tie.Need-leaf-mark-requires Inv-loop μ-loop
 leaf-mark-requires c κs = search needs
@@ -92,7 +95,9 @@ loop-again c =
       omega arith,
       omega arith,
       rw z (room _ _ _ _ _ (l .loop-test .taken) (l .before .loop .inv .2) .1),
-      rw z (agree-next _ _ _ _ _ _ _ _ _ (first-list _ _ _ _ (omega (arith, l .loop-test .taken))) (l .loop-test .taken) (parts-agree _ _ _ _ _ _ _ _ (c .before .before .before .before .before .before .before .before .before .list .ensures) (c .before .before .before .before .before .before .list2 .ensures) ∙ sym (w .same-yards .ensures) ∙ not-false _ (c .before .if1 .left))) ∙ i .3,
+      rw z (agree-next _ _ _ _ _ _ _ _ _ (first-list _ _ _ _ (omega (arith, l .loop-test .taken))) (l .loop-test .taken) (parts-agree _ _ _ _ _ _ _ _
+          (c .before .before .before .before .before .before .before .before .before .list .ensures)
+          (c .before .before .before .before .before .before .list2 .ensures) ∙ sym (w .same-yards .ensures) ∙ not-false _ (c .before .if1 .left))) ∙ i .3,
       search needs,
     )
 

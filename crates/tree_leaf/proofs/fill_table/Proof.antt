@@ -13,7 +13,8 @@ use Rattle.tree_leaf.proofs.fill_table.Tie as tie
 
 abbrev Inv-loop : tie.InvT-loop
 Inv-loop p f table₀ k₀ table k =
-    (k ≤ f .yards) × (length table ≡ 1024) × ((table ≡ tableOf (readList p (f .yards - k) (6 * k))) × (fits (f .first) (f .after) (readList p (f .yards - k) (6 * k)) ≡ true))
+    (k ≤ f .yards) × (length table ≡ 1024) × ((table ≡ tableOf (readList p (f .yards - k) (6 * k))) × (fits (f .first) (f .after) (readList p
+    (f .yards - k) (6 * k)) ≡ true))
 
 abbrev μ-loop : tie.MeasureT-loop
 μ-loop p f table₀ k₀ table k = k
@@ -54,7 +55,8 @@ returns-2 c =
     let w = d .before .before .before in
     let l = w .before in
     let z : 1 ≤ l .before .loop .k = omega (arith, l .loop-test .taken) in
-    failed _ _ _ _ _ (fails-high _ _ _ _ _ _ z (l .before .loop .inv .0) (listed-yard _ _ _ (w .element .ensures)) (omega (arith, d .if1 .left)) (omega (arith, c .if2 .taken)))
+    failed _ _ _ _ _ (fails-high _ _ _ _ _ _ z (l .before .loop .inv .0) (listed-yard _ _ _ (w .element .ensures)) (omega (arith, d .if1 .left)) (omega
+    (arith, c .if2 .taken)))
 
 cast-i : tie.Need-cast-i Inv-loop μ-loop
 cast-i c = search needs
@@ -72,7 +74,8 @@ returns-3 c =
     let l = w .before in
     let z : 1 ≤ l .before .loop .k = omega (arith, l .loop-test .taken) in
     let v : w .element .result .yard < 1024 = omega (arith, e .if2 .left, l .before .before .before .before .before .before .before .before .before .pre .1) in
-    failed _ _ _ _ _ (fails-twice _ _ _ _ _ _ z (l .before .loop .inv .0) (listed-yard _ _ _ (w .element .ensures)) _ (l .before .loop .inv .2) v (c .if3 .taken))
+    failed _ _ _ _ _ (fails-twice _ _ _ _ _ _ z (l .before .loop .inv .0) (listed-yard _ _ _ (w .element .ensures)) _ (l .before .loop .inv .2) v
+    (c .if3 .taken))
 
 slice-write-table : tie.Need-slice-write-table Inv-loop μ-loop
 slice-write-table c = search needs
@@ -87,10 +90,12 @@ loop-again c =
     let w = d .before .before .before in
     let l = w .before in
     let z : 1 ≤ l .before .loop .k = omega (arith, l .loop-test .taken) in
-    let v : w .element .result .yard < 1024 = omega (arith, e .if2 .left, l .before .before .before .before .before .before .before .before .before .pre .1) in (
+    let v : w .element .result .yard < 1024 = omega
+    (arith, e .if2 .left, l .before .before .before .before .before .before .before .before .before .pre .1) in (
       omega arith,
       simp length-set (omega arith),
-      one-more _ _ _ _ _ _ z (l .before .loop .inv .0) (listed-yard _ _ _ (w .element .ensures)) _ (l .before .loop .inv .2) v (c .if3 .left) (omega (arith, d .if1 .left)) (omega (arith, e .if2 .left)),
+      one-more _ _ _ _ _ _ z (l .before .loop .inv .0) (listed-yard _ _ _ (w .element .ensures)) _ (l .before .loop .inv .2) v (c .if3 .left) (omega
+          (arith, d .if1 .left)) (omega (arith, e .if2 .left)),
     )
 
 same-length-4 : tie.Need-same-length-4 Inv-loop μ-loop

@@ -27,13 +27,17 @@ cast-lists-agree c = search needs
 lists-agree-requires : tie.Need-lists-agree-requires
 lists-agree-requires c κs =
     let s = c .before .before .before .before .before in
-    let m = its-landmarks _ _ (c .before .before .before .header .ensures) in
-    (leaf-room _ _ _ _ _ m (c .before .marks-at .ensures) (c .before .before .fields .ensures) (s .pre .1) (s .pre .2), leaf-end _ _ _ _ _ m (c .before .marks-at .ensures) (c .before .before .fields .ensures) (s .pre .1) (s .pre .3))
+    let m = its-landmarks _ _ (c .before .before .before .header .ensures) in (
+      leaf-room _ _ _ _ _ m (c .before .marks-at .ensures) (c .before .before .fields .ensures) (s .pre .1) (s .pre .2),
+      leaf-end _ _ _ _ _ m
+          (c .before .marks-at .ensures) (c .before .before .fields .ensures) (s .pre .1) (s .pre .3),
+    )
 
 returns : tie.Need-returns
 returns c =
     let m = its-landmarks _ _ (c .before .before .before .before .header .ensures) in
-    c .lists-agree .ensures ∙ leaf-tested _ _ _ _ _ m (c .before .before .marks-at .ensures) (c .before .before .before .fields .ensures) (c .before .before .before .before .before .before .pre .1)
+    c .lists-agree .ensures ∙ leaf-tested _ _ _ _ _ m (c .before .before .marks-at .ensures) (c .before .before .before .fields .ensures)
+    (c .before .before .before .before .before .before .pre .1)
 
 pub leaf-ok-spec : {M : Type 1} → statement M
 leaf-ok-spec =

@@ -33,12 +33,14 @@ slice-aggregate-fill-table : tie.Need-slice-aggregate-fill-table
 slice-aggregate-fill-table c = search needs
 
 fill-table-requires : tie.Need-fill-table-requires
-fill-table-requires c κs = (part-room _ _ _ _ (c .before .list .ensures) (first-room (c .before .before)), c .before .before .before .before .before .pre .1, search needs)
+fill-table-requires c κs =
+    (part-room _ _ _ _ (c .before .list .ensures) (first-room (c .before .before)), c .before .before .before .before .before .pre .1, search needs)
 
 returns-2 : tie.Need-returns-2
 returns-2 c =
     let t = c .before .before in
-    sym (first-fails _ _ _ _ _ _ (some (c .before .before .before .before .before)) _ _ _ (c .before .before .before .before .list .ensures) (t .fill-table .ensures .0) (t .fill-table .ensures .1) (not-true _ (c .if2 .taken)))
+    sym (first-fails _ _ _ _ _ _ (some (c .before .before .before .before .before)) _ _ _ (c .before .before .before .before .list .ensures)
+    (t .fill-table .ensures .0) (t .fill-table .ensures .1) (not-true _ (c .if2 .taken)))
 
 slice-aggregate-all-agree : tie.Need-slice-aggregate-all-agree
 slice-aggregate-all-agree c = search needs
@@ -50,7 +52,9 @@ all-agree-requires : tie.Need-all-agree-requires
 all-agree-requires c κs =
     let t = c .before .before .before .before in
     let s = c .before .before .before .before .before .before .before .before .before .before in
-    let w = first-fits _ _ (s .args .m) _ _ _ (some (c .before .before .before .before .before .before .before)) _ _ _ (c .before .before .before .before .before .before .list .ensures) (t .fill-table .ensures .0) (t .fill-table .ensures .1) (not-false _ (c .before .before .if2 .left)) in
+    let w = first-fits _ _ (s .args .m) _ _ _ (some (c .before .before .before .before .before .before .before)) _ _ _
+    (c .before .before .before .before .before .before .list .ensures) (t .fill-table .ensures .0) (t .fill-table .ensures .1) (not-false _
+    (c .before .before .if2 .left)) in
     (s .pre .0, some (c .before .before .before .before .before .before .before), s .pre .1, search needs, w .0, w .1)
 
 returns-3 : tie.Need-returns-3

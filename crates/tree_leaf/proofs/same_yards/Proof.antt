@@ -47,7 +47,8 @@ returns-3 c =
     let s = c .before .before .before .before .before .before .before .before .before .before .before .before .before .before .before in
     let r = not-false _ (c .before .before .before .before .before .before .if1 .left) in
     let g = sym (t .fill-table .ensures .0) ∙ r in
-    c .all-in2 .ensures ∙ sym (same-by-table _ _ _ _ (s .pre .2) (s .pre .4) g _ _ (s .pre .5) (sym (c .before .before .before .before .all-in .ensures) ∙ not-false _ (c .before .before .before .if2 .left)) (t .fill-table .ensures .1 r))
+    c .all-in2 .ensures ∙ sym (same-by-table _ _ _ _ (s .pre .2) (s .pre .4) g _ _ (s .pre .5) (sym (c .before .before .before .before .all-in .ensures)
+    ∙ not-false _ (c .before .before .before .if2 .left)) (t .fill-table .ensures .1 r))
 
 pub same-yards-spec : {M : Type 1} → statement M
 same-yards-spec =

@@ -61,7 +61,8 @@ add-if3 c = search needs
 returns-5 : tie.Need-returns-5
 returns-5 c =
     let w = c .before .before .before in
-    sym (unsized _ (body (w .before)) _ (w .u16-at .ensures) (omega (arith, c .before .before .if1 .left)) (omega (arith, c .before .if2 .left)) (c .if3 .taken))
+    sym (unsized _ (body (w .before)) _ (w .u16-at .ensures) (omega (arith, c .before .before .if1 .left)) (omega (arith, c .before .if2 .left))
+    (c .if3 .taken))
 
 yards-rise-requires : tie.Need-yards-rise-requires
 yards-rise-requires c κs = search needs
@@ -70,7 +71,8 @@ returns-6 : tie.Need-returns-6
 returns-6 c =
     let v = c .before .before in
     let w = v .before .before .before in
-    sym (unordered _ (body (w .before)) _ (w .u16-at .ensures) (omega (arith, v .before .before .if1 .left)) (omega (arith, v .before .if2 .left)) (v .if3 .left)
+    sym (unordered _ (body (w .before)) _ (w .u16-at .ensures) (omega (arith, v .before .before .if1 .left)) (omega (arith, v .before .if2 .left))
+    (v .if3 .left)
     (sym (c .before .yards-rise .ensures) ∙ not-true _ (c .if4 .taken)))
 
 returns-7 : tie.Need-returns-7

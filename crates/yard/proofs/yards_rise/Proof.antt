@@ -35,7 +35,8 @@ returns c =
 returns-2 : tie.Need-returns-2 Inv-loop μ-loop
 returns-2 c =
     let w = c .before .before in
-    sym (high _ _ _ _ _ (w .before .loop-test .taken) (w .u16-at .ensures) (omega (arith, c .before .if1 .left)) (omega (arith, c .if2 .taken))) ∙ w .before .before .loop .inv .1
+    sym (high _ _ _ _ _ (w .before .loop-test .taken) (w .u16-at .ensures) (omega (arith, c .before .if1 .left)) (omega (arith, c .if2 .taken)))
+    ∙ w .before .before .loop .inv .1
 
 add-low : tie.Need-add-low Inv-loop μ-loop
 add-low c = search needs

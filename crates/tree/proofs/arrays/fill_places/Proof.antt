@@ -36,15 +36,20 @@ mul-places c = search needs
 slice-write-places : tie.Need-slice-write-places Inv-loop μ-loop
 slice-write-places c =
     let s = c .before .before .before .before .before .before .before in
-    place-slot _ (s .pre .0) _ _ (its-regions _ _ (c .before .before .before .before .header .ensures)) (its-landmarks _ _ (c .before .before .before .before .header .ensures)) _ _ _ _ (c .loop-test .taken) (s .pre .1) (c .before .loop .inv .2)
+    place-slot _ (s .pre .0) _ _ (its-regions _ _ (c .before .before .before .before .header .ensures)) (its-landmarks _ _
+    (c .before .before .before .before .header .ensures)) _ _ _ _ (c .loop-test .taken) (s .pre .1) (c .before .loop .inv .2)
 
 size-at-requires : tie.Need-size-at-requires Inv-loop μ-loop
 size-at-requires c κs =
-    place-room _ (c .before .before .before .before .before .before .before .pre .0) _ _ (its-regions _ _ (c .before .before .before .before .header .ensures)) (its-landmarks _ _ (c .before .before .before .before .header .ensures)) _ _ (c .loop-test .taken) (c .before .loop .inv .1)
+    place-room _ (c .before .before .before .before .before .before .before .pre .0) _ _ (its-regions _ _
+    (c .before .before .before .before .header .ensures)) (its-landmarks _ _ (c .before .before .before .before .header .ensures)) _ _
+    (c .loop-test .taken) (c .before .loop .inv .1)
 
 add-at : tie.Need-add-at Inv-loop μ-loop
 add-at c =
-    let h = place-end _ (c .before .before .before .before .before .before .before .before .pre .0) _ _ (its-regions _ _ (c .before .before .before .before .before .header .ensures)) (its-landmarks _ _ (c .before .before .before .before .before .header .ensures)) _ _ (c .before .loop-test .taken) (c .before .before .loop .inv .1) _ (c .size-at .ensures) in
+    let h = place-end _ (c .before .before .before .before .before .before .before .before .pre .0) _ _ (its-regions _ _
+    (c .before .before .before .before .before .header .ensures)) (its-landmarks _ _ (c .before .before .before .before .before .header .ensures)) _ _
+    (c .before .loop-test .taken) (c .before .before .loop .inv .1) _ (c .size-at .ensures) in
     search needs
 
 add-i : tie.Need-add-i Inv-loop μ-loop
@@ -57,7 +62,9 @@ loop-again : tie.Need-loop-again Inv-loop μ-loop
 loop-again c =
     let l = c .before .before .loop in (
       omega arith,
-      place-next _ (c .before .before .before .before .before .before .before .before .pre .0) _ _ (its-regions _ _ (c .before .before .before .before .before .header .ensures)) (its-landmarks _ _ (c .before .before .before .before .before .header .ensures)) _ _ (c .before .loop-test .taken) (l .inv .1) _ (c .size-at .ensures),
+      place-next _ (c .before .before .before .before .before .before .before .before .pre .0) _ _ (its-regions _ _
+          (c .before .before .before .before .before .header .ensures)) (its-landmarks _ _ (c .before .before .before .before .before .header .ensures)) _ _
+          (c .before .loop-test .taken) (l .inv .1) _ (c .size-at .ensures),
       rw (l .inv .2, l .inv .1) (overwrite-next _ _ _),
     )
 
@@ -66,7 +73,9 @@ same-length c = ap length (c .before .loop .inv .2) ∙ overwrite-length _ _ _
 
 returns : tie.Need-returns Inv-loop μ-loop
 returns c =
-    c .before .loop .inv .2 ∙ places-done _ (c .before .before .before .before .before .before .before .pre .0) _ _ (its-regions _ _ (c .before .before .before .before .header .ensures)) (its-landmarks _ _ (c .before .before .before .before .header .ensures)) _ _ _ (c .before .loop .inv .0) (c .loop-test .left)
+    c .before .loop .inv .2 ∙ places-done _ (c .before .before .before .before .before .before .before .pre .0) _ _ (its-regions _ _
+    (c .before .before .before .before .header .ensures)) (its-landmarks _ _ (c .before .before .before .before .header .ensures)) _ _ _
+    (c .before .loop .inv .0) (c .loop-test .left)
 
 pub fill-places-spec : {M : Type 1} → statement M
 fill-places-spec =

@@ -22,7 +22,9 @@ header-requires c κs = laid-header _ _ (c .before .before .before .before .befo
 
 returns-2 : tie.Need-returns-2
 returns-2 c =
-    takes-all _ _ (c .before .before .before .before .before .before .before .before .before .pre) _ (c .before .before .before .before .before .before .subtree-end .ensures) (c .before .before .before .before .if1 .left) _ (c .before .before .before .fields .ensures) _ (its-yards _ _ (c .before .before .header .ensures))
+    takes-all _ _ (c .before .before .before .before .before .before .before .before .before .pre) _
+    (c .before .before .before .before .before .before .subtree-end .ensures) (c .before .before .before .before .if1 .left) _
+    (c .before .before .before .fields .ensures) _ (its-yards _ _ (c .before .before .header .ensures))
 
 pub keeps-shape-spec : {M : Type 1} → statement M
 keeps-shape-spec =
