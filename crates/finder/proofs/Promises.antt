@@ -21,7 +21,7 @@ use Rattle.tree_check.proofs.Theorems.{check-exact}
 use Rattle.tree_check.proofs.Turning.{road-first, yard-next, tree-next, counts-next, yards-next, numbers-next, work-next, none-turned}
 use Rattle.tree_build.specs.Build.{buildAnswer}
 use Rattle.tree_build.proofs.Theorems.{build-refusals, build-exact}
-use Rattle.query.specs.Query.{wantedOf, queryRefusal, QueryLayout}
+use Rattle.query.specs.Query.{kOf, queryRefusal, QueryLayout}
 use Rattle.query.proofs.Reading.{query-exact}
 use Rattle.search_call.specs.Call.{Call, Areas, treeRefusalIn, areasRefusal, foundOn}
 use Rattle.search_call.proofs.Refusing.{tree-turned-back, counts-differ, counts-agree, short-work, short-results, long-enough, by-road, by-tree, by-query, by-areas}
@@ -154,12 +154,12 @@ module _ (c : Call) (a : Areas) where
   agree s = counts-agree tree (junctions road) (sound-tree road tree s) (s .counts)
 
   -- 12, unless both areas are long enough
-  short : (SearchAreas (c .query) (length (a .work)) (length (a .results)) → ⊥) → areasRefusal (wantedOf (c .query)) (length (a .work)) (length (a .results)) ≡ 12
-  short h = go (decLe workWords words) (decLe (2 * wantedOf query) room)
+  short : (SearchAreas (c .query) (length (a .work)) (length (a .results)) → ⊥) → areasRefusal (kOf (c .query)) (length (a .work)) (length (a .results)) ≡ 12
+  short h = go (decLe workWords words) (decLe (2 * kOf query) room)
     where
-      go : Dec (workWords ≤ words) → Dec (2 * wantedOf query ≤ room) → areasRefusal (wantedOf query) words room ≡ 12
-      go (no p) q = short-work (wantedOf query) words room (omega arith)
-      go (yes p) (no q) = short-results (wantedOf query) words room p (omega arith)
+      go : Dec (workWords ≤ words) → Dec (2 * kOf query ≤ room) → areasRefusal (kOf query) words room ≡ 12
+      go (no p) q = short-work (kOf query) words room (omega arith)
+      go (yes p) (no q) = short-results (kOf query) words room p (omega arith)
       go (yes p) (yes q) = absurd (h (record { work = p; results = q }))
 
   first-search-refusal : FirstSearchRefusal (c .road) (c .tree) (c .query) (length (a .work)) (length (a .results)) (foundOn c a .refusal)
@@ -192,7 +192,7 @@ module _ (c : Call) (a : Areas) where
       back : SearchAccepted road tree query words room → foundOn c a .refusal ≡ 0
       back s =
           on-number c a ∙ (by-areas road tree query words room (passing-exact road .1 (s .roads)) (agree (s .tree-sound)) (query-exact query (junctions road) .1 (s .asked))
-          ∙ long-enough (wantedOf query) words room (s .areas .work) (s .areas .results))
+          ∙ long-enough (kOf query) words room (s .areas .work) (s .areas .results))
 
 pub search-safe : SearchSafe
 search-safe c a = record {

@@ -25,7 +25,7 @@ use Rattle.tree_check.specs.Facts.{HoldsEach, TrueTotals}
 use Rattle.tree_records.specs.Given.{given}
 use Rattle.tree_build.specs.Build.{treeBytes, buildAnswer, builtTree, builtLength, treeAfter}
 use Rattle.tree_build.specs.Facts.{InRange, Areas, writtenBook}
-use Rattle.query.specs.Query.{wantedOf, queryRefusal, QueryLayout}
+use Rattle.query.specs.Query.{kOf, queryRefusal, QueryLayout}
 use Rattle.search_call.specs.Call.{Call, Found, foundOn, callOn, Areas as Lent, refused as refusedWith}
 use Rattle.search_call.specs.Demand.{Promised, OfBytes, AnyTree, WorkUnread}
 
@@ -164,7 +164,7 @@ BuildTrue = (road yard : List ℕ) (m limit : ℕ) (work tree : List ℕ) → So
 -- "work below 16,384 words, results below 2 × k words": both areas are long enough
 pub record SearchAreas (query : List ℕ) (words room : ℕ) : Type 0 where
   pub work : workWords ≤ words
-  pub results : 2 * wantedOf query ≤ room
+  pub results : 2 * kOf query ≤ room
 
 -- "Turned back, in this order": the refusal of a search is the number of the first test that fails
 pub record FirstSearchRefusal (road tree query : List ℕ) (words room answer : ℕ) : Type 0 where

@@ -1,4 +1,4 @@
-// Reads a tree book from standard input, and writes its outline: `refused` and the number of the test that turns it back, or its header and a line for each region.
+// Reads a tree book from standard input; writes `refused` and a number, or its header and a line for each region.
 use libc::STDOUT_FILENO;
 use tree::Tree;
 use tree_layout::Header;

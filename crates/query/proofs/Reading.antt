@@ -8,24 +8,17 @@ use native.Mathlib.Omega.{arith}
 use borrow.Author.Tests.{le-leb, lt-leb, eq-eqb, ne-eqb}
 use lib.ListN.{length}
 use lib.Dec.{leb, eqb, leb→le, le→leb, eqb→eq}
-use Rattle.book.specs.Choose.{refuse, firstOf, choose}
+use Rattle.book.specs.Choose.{refuse}
 use Rattle.book.specs.Bytes.{u8At, u32At}
 use Rattle.book.specs.Open.{openRefusal, opened}
 use Rattle.book.specs.declared.Opened.the-variants as Opened
 use Rattle.book.proofs.Choosing.{first-none, first-later, first-earlier, passes, passed, passes-if, fails-if, eq→eqb}
 use Rattle.book.proofs.Opening.{opened-refused, opens, open-zero}
-use Rattle.query.specs.Query.{aggregateOf, wantedOf, limitOf, crewCount, crewsOf, crewsFrom, inside, valueRefusal, bodyRefusal, queryRefusal, queryOf, queryBook, numberOf, QueryLayout}
+use Rattle.query.specs.Query.{aggregateOf, kOf, limitOf, crewCount, crewsOf, inside, valueRefusal, bodyRefusal, queryRefusal, queryOf, queryBook, numberOf, QueryLayout}
 use Rattle.query.specs.declared.Query.{Query}
 use Rattle.query.specs.declared.QueryBook.{QueryBook}
 use Rattle.query.specs.declared.QueryBook.the-variants.{Asked, Refused}
-use Rattle.query.proofs.Crews.{each-inside, inside-all}
-
--- a book that does not open
-pub unopened : (b : List ℕ) (n why : ℕ) → opened (openRefusal b 7) ≡ Opened.Refused why → why ≡ queryRefusal b n
-unfolding queryRefusal
-unopened b n why e =
-    let p = opened-refused (openRefusal b 7) why e in
-    sym (first-earlier (openRefusal b 7) _ (omega (arith, p .0, p .1)) ∙ p .0)
+use Rattle.query.proofs.CrewList.{each-inside, inside-all}
 
 -- ---- test 11
 
@@ -34,13 +27,13 @@ module _ (a w : ℕ) where
   unfolding valueRefusal
   other-code h = fails-if _ 11 _ (lt-leb a 1 h)
 
-  pub none-wanted : a ≤ 1 → w < 1 → valueRefusal a w ≡ 11
+  pub no-k : a ≤ 1 → w < 1 → valueRefusal a w ≡ 11
   unfolding valueRefusal
-  none-wanted g h = passes-if _ 11 _ (le-leb a 1 g) ∙ fails-if _ 11 _ (lt-leb 1 w h)
+  no-k g h = passes-if _ 11 _ (le-leb a 1 g) ∙ fails-if _ 11 _ (lt-leb 1 w h)
 
-  pub many-wanted : a ≤ 1 → 1 ≤ w → 64 < w → valueRefusal a w ≡ 11
+  pub large-k : a ≤ 1 → 1 ≤ w → 64 < w → valueRefusal a w ≡ 11
   unfolding valueRefusal
-  many-wanted g h i = passes-if _ 11 _ (le-leb a 1 g) ∙ passes-if _ 11 _ (le-leb 1 w h) ∙ fails-if _ 11 _ (lt-leb w 64 i)
+  large-k g h i = passes-if _ 11 _ (le-leb a 1 g) ∙ passes-if _ 11 _ (le-leb 1 w h) ∙ fails-if _ 11 _ (lt-leb w 64 i)
 
   pub good-values : a ≤ 1 → 1 ≤ w → w ≤ 64 → valueRefusal a w ≡ 0
   unfolding valueRefusal
@@ -48,11 +41,11 @@ module _ (a w : ℕ) where
 
 -- ---- the tests of a book that opens
 
-module _ (b : List ℕ) (n : ℕ) (o : openRefusal b 7 ≡ 0) (crews : ℕ) (ec : crews ≡ u8At b 11) where
+module _ (b : List ℕ) (n : ℕ) (o : openRefusal b 7 ≡ 0) (crews : ℕ) (ec : crews ≡ crewCount b) where
   body : queryRefusal b n
       ≡ refuse (eqb (length b) (12 + 2 * crews)) 4
-      (refuse (leb 1 crews) 10 (refuse (leb crews 16) 10 (refuse (inside n (crewsFrom b crews 0)) 10 (valueRefusal (u8At b 5) (u8At b 6)))))
-  unfolding queryRefusal bodyRefusal crewsOf crewCount aggregateOf wantedOf
+      (refuse (leb 1 crews) 10 (refuse (leb crews 16) 10 (refuse (inside n (crewsOf b)) 10 (valueRefusal (aggregateOf b) (kOf b)))))
+  unfolding queryRefusal bodyRefusal
   body = first-later (openRefusal b 7) _ o ∙ rw ec refl
 
   pub misfit : (length b ≡ 12 + 2 * crews → ⊥) → queryRefusal b n ≡ 4
@@ -60,7 +53,7 @@ module _ (b : List ℕ) (n : ℕ) (o : openRefusal b 7 ≡ 0) (crews : ℕ) (ec 
 
   module _ (f : length b ≡ 12 + 2 * crews) where
     sized : queryRefusal b n
-        ≡ refuse (leb 1 crews) 10 (refuse (leb crews 16) 10 (refuse (inside n (crewsFrom b crews 0)) 10 (valueRefusal (u8At b 5) (u8At b 6))))
+        ≡ refuse (leb 1 crews) 10 (refuse (leb crews 16) 10 (refuse (inside n (crewsOf b)) 10 (valueRefusal (aggregateOf b) (kOf b))))
     sized = body ∙ passes-if _ 4 _ (eq-eqb (length b) (12 + 2 * crews) f)
 
     pub no-crew : crews < 1 → queryRefusal b n ≡ 10
@@ -69,10 +62,10 @@ module _ (b : List ℕ) (n : ℕ) (o : openRefusal b 7 ≡ 0) (crews : ℕ) (ec 
     pub many-crews : 1 ≤ crews → 16 < crews → queryRefusal b n ≡ 10
     many-crews g h = sized ∙ passes-if _ 10 _ (le-leb 1 crews g) ∙ fails-if _ 10 _ (lt-leb crews 16 h)
 
-    pub outside : 1 ≤ crews → crews ≤ 16 → inside n (crewsFrom b crews 0) ≡ false → queryRefusal b n ≡ 10
+    pub outside : 1 ≤ crews → crews ≤ 16 → inside n (crewsOf b) ≡ false → queryRefusal b n ≡ 10
     outside g h t = sized ∙ passes-if _ 10 _ (le-leb 1 crews g) ∙ passes-if _ 10 _ (le-leb crews 16 h) ∙ fails-if _ 10 _ t
 
-    pub by-values : 1 ≤ crews → crews ≤ 16 → inside n (crewsFrom b crews 0) ≡ true → (r a w : ℕ) → a ≡ u8At b 5 → w ≡ u8At b 6
+    pub by-values : 1 ≤ crews → crews ≤ 16 → inside n (crewsOf b) ≡ true → (r a w : ℕ) → a ≡ aggregateOf b → w ≡ kOf b
         → r ≡ valueRefusal a w → r ≡ queryRefusal b n
     by-values g h t r a w ea ew e =
         sym (sized ∙ passes-if _ 10 _ (le-leb 1 crews g) ∙ passes-if _ 10 _ (le-leb crews 16 h) ∙ passes-if _ 10 _ t ∙ rw (← ea, ← ew, ← e) refl)
@@ -87,10 +80,18 @@ refused-is (suc x) q z = refl
 pub answer-refused : (b : List ℕ) (n why : ℕ) → why ≡ queryRefusal b n → (why ≡ 0 → ⊥) → Refused why ≡ queryBook (queryRefusal b n) (queryOf b)
 answer-refused b n why e z = rw (← e) (refused-is why (queryOf b) z)
 
-pub answer-asked : (b : List ℕ) (n why : ℕ) (a w l c : ℕ) → why ≡ queryRefusal b n → why ≡ 0 → a ≡ u8At b 5 → w ≡ u8At b 6 → l ≡ u32At b 7 → c ≡ u8At b 11
-    → Asked (record { aggregate = a; wanted = w; limit = l; crews = c }) ≡ queryBook (queryRefusal b n) (queryOf b)
-unfolding queryBook queryOf aggregateOf wantedOf limitOf crewCount
-answer-asked b n why a w l c e z ea ew el ec = rw (← e, z, ea, ew, el, ec) refl
+-- of a book that does not open
+pub not-opened : (b : List ℕ) (n why : ℕ) → opened (openRefusal b 7) ≡ Opened.Refused why → Refused why ≡ queryBook (queryRefusal b n) (queryOf b)
+unfolding queryRefusal
+not-opened b n why e =
+    let p = opened-refused (openRefusal b 7) why e in
+    let s = first-earlier (openRefusal b 7) (bodyRefusal b n) (omega (arith, p .0, p .1)) ∙ p .0 in
+    answer-refused b n why (sym s) (omega (arith, p .1))
+
+pub answer-asked : (b : List ℕ) (n why : ℕ) (q : Query) → why ≡ queryRefusal b n → why ≡ 0 → q ≡ queryOf b
+    → Asked q ≡ queryBook (queryRefusal b n) (queryOf b)
+unfolding queryBook
+answer-asked b n why q e z f = rw (← e, z, f) refl
 
 -- for callers: what the reader's answer says
 pub read-asked : (x : ℕ) (q r : Query) → queryBook x q ≡ Asked r → (x ≡ 0) × (q ≡ r)
@@ -107,8 +108,8 @@ read-refused (suc x) q why e =
 
 -- what is asked, by what stands in the fields' places
 pub asked-is : (b : List ℕ) (a w l c : ℕ) → a ≡ u8At b 5 → w ≡ u8At b 6 → l ≡ u32At b 7 → c ≡ u8At b 11
-    → _≡_ {A = Query} (record { aggregate = a; wanted = w; limit = l; crews = c }) (queryOf b)
-unfolding queryOf aggregateOf wantedOf limitOf crewCount
+    → _≡_ {A = Query} (record { aggregate = a; k = w; limit = l; crews = c }) (queryOf b)
+unfolding queryOf aggregateOf kOf limitOf crewCount
 asked-is b a w l c e f g h = rw (e, f, g, h) refl
 
 -- by the book's fields
@@ -117,9 +118,9 @@ module _ (b : List ℕ) where
   unfolding queryOf
   asked-aggregate = refl
 
-  pub asked-wanted : queryOf b .wanted ≡ wantedOf b
+  pub asked-k : queryOf b .k ≡ kOf b
   unfolding queryOf
-  asked-wanted = refl
+  asked-k = refl
 
   pub asked-limit : queryOf b .limit ≡ limitOf b
   unfolding queryOf
@@ -128,6 +129,20 @@ module _ (b : List ℕ) where
   pub asked-crews : queryOf b .crews ≡ crewCount b
   unfolding queryOf
   asked-crews = refl
+
+-- and by those of what was read
+module _ (b : List ℕ) (q : Query) (e : q ≡ queryOf b) where
+  pub its-aggregate : q .aggregate ≡ aggregateOf b
+  its-aggregate = ap (λ (r : Query). r .aggregate) e ∙ asked-aggregate b
+
+  pub its-k : q .k ≡ kOf b
+  its-k = ap (λ (r : Query). r .k) e ∙ asked-k b
+
+  pub its-limit : q .limit ≡ limitOf b
+  its-limit = ap (λ (r : Query). r .limit) e ∙ asked-limit b
+
+  pub its-crews : q .crews ≡ crewCount b
+  its-crews = ap (λ (r : Query). r .crews) e ∙ asked-crews b
 
 -- the number that an answer has
 pub number-is : (x : ℕ) (q : Query) → numberOf (queryBook x q) ≡ x
@@ -156,8 +171,8 @@ module _ (b : List ℕ) (n : ℕ) where
         few-crews = leb→le (crewCount b) 16 (d .0);
         placed = λ k l. each-inside b n (crewCount b) 0 (f .0) k (omega arith) (omega arith);
         coded = leb→le (aggregateOf b) 1 (g .0);
-        some-wanted = leb→le 1 (wantedOf b) (h .0);
-        few-wanted = leb→le (wantedOf b) 64 (i .0);
+        some-k = leb→le 1 (kOf b) (h .0);
+        few-k = leb→le (kOf b) 64 (i .0);
       }
 
   pub passes-all : QueryLayout b n → queryRefusal b n ≡ 0
@@ -167,7 +182,7 @@ module _ (b : List ℕ) (n : ℕ) where
       ∙ passes _ 4 _ (eq→eqb (length b) (12 + 2 * crewCount b) (l .sized)) ∙ passes _ 10 _ (le→leb 1 (crewCount b) (l .some-crew))
       ∙ passes _ 10 _ (le→leb (crewCount b) 16 (l .few-crews))
       ∙ passes _ 10 _ (inside-all b n (crewCount b) 0 (λ i p q. l .placed i (omega arith)))
-      ∙ good-values (aggregateOf b) (wantedOf b) (l .coded) (l .some-wanted) (l .few-wanted)
+      ∙ good-values (aggregateOf b) (kOf b) (l .coded) (l .some-k) (l .few-k)
 
   -- a query book passes exactly if it has the stated layout, beside a road book with so many junctions
   pub query-exact : (queryRefusal b n ≡ 0) ↔ QueryLayout b n

@@ -16,8 +16,8 @@ use Rattle.query.specs.declared.QueryBook.the-variants.{Asked, Refused}
 unfoldable pub aggregateOf : List ℕ → ℕ
 aggregateOf b = u8At b 5
 
-unfoldable pub wantedOf : List ℕ → ℕ
-wantedOf b = u8At b 6
+unfoldable pub kOf : List ℕ → ℕ
+kOf b = u8At b 6
 
 unfoldable pub limitOf : List ℕ → ℕ
 limitOf b = u32At b 7
@@ -45,10 +45,10 @@ inside junctions (q ∷ qs) = ltb q junctions && inside junctions qs
 
 -- 11: "k, the aggregate code .. is outside its range."
 unfoldable pub valueRefusal : ℕ → ℕ → ℕ
-valueRefusal aggregate wanted =
+valueRefusal aggregate k =
     refuse (leb aggregate 1) 11
-    (refuse (leb 1 wanted) 11
-    (refuse (leb wanted 64) 11 0))
+    (refuse (leb 1 k) 11
+    (refuse (leb k 64) 11 0))
 
 -- the tests after the opening, beside a road book with so many junctions
 unfoldable pub bodyRefusal : List ℕ → ℕ → ℕ
@@ -59,7 +59,7 @@ bodyRefusal b junctions =
     (refuse (leb 1 (crewCount b)) 10
     (refuse (leb (crewCount b) 16) 10
     (refuse (inside junctions (crewsOf b)) 10
-    (valueRefusal (aggregateOf b) (wantedOf b)))))
+    (valueRefusal (aggregateOf b) (kOf b)))))
 
 -- the number of the first test that turns the book back, or 0: "Query values fall to 10 and 11, never to 3 or 5."
 unfoldable pub queryRefusal : List ℕ → ℕ → ℕ
@@ -67,7 +67,7 @@ queryRefusal b junctions = firstOf (openRefusal b 7) (bodyRefusal b junctions)
 
 -- what the book asks
 unfoldable pub queryOf : List ℕ → Query
-queryOf b = record { aggregate = aggregateOf b; wanted = wantedOf b; limit = limitOf b; crews = crewCount b }
+queryOf b = record { aggregate = aggregateOf b; k = kOf b; limit = limitOf b; crews = crewCount b }
 
 -- the answer for a refusal's number: 0 gives what is asked
 unfoldable pub queryBook : ℕ → Query → QueryBook
@@ -93,5 +93,5 @@ pub record QueryLayout (b : List ℕ) (junctions : ℕ) : Type 0 where
   -- "the sum (code 0) or the maximum (code 1)"
   pub coded : aggregateOf b ≤ 1
   -- "k u8 (1 to 64)"
-  pub some-wanted : 1 ≤ wantedOf b
-  pub few-wanted : wantedOf b ≤ 64
+  pub some-k : 1 ≤ kOf b
+  pub few-k : kOf b ≤ 64

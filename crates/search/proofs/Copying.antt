@@ -7,7 +7,7 @@ use lib.ListN.{length, getD, set, take}
 use lib.Seq.{ext-getD, length-take-le, getD-take}
 use Rattle.query.specs.Query.{crewCount, crewAt, crewsOf, queryOf}
 use Rattle.query.specs.declared.Query.{Query}
-use Rattle.query.proofs.Crews.{crews-length, crews-at}
+use Rattle.query.proofs.CrewList.{crews-length, crews-at}
 use Rattle.query.proofs.Reading.{asked-crews}
 use Rattle.tree.specs.Arrays.{overwrite}
 use Rattle.tree.proofs.Filling.{overwrite-length, overwrite-new, overwrite-next}

@@ -17,7 +17,7 @@ use Rattle.tree_layout.proofs.Reading.{region-count, landmark-count}
 use Rattle.tree.specs.Answer.{placesAfter, endsAfter}
 use Rattle.tree.proofs.Theorems.{tree-facts}
 use Rattle.tree.proofs.Answering.{accepted-laid, accepted-slots, accepted-room, accepted-ends}
-use Rattle.query.specs.Query.{crewCount, crewsOf, aggregateOf, wantedOf, limitOf, queryOf}
+use Rattle.query.specs.Query.{crewCount, crewsOf, aggregateOf, kOf, limitOf, queryOf}
 use Rattle.query.specs.declared.Query.{Query}
 use Rattle.query.proofs.Reading.{asked-aggregate, asked-wanted, asked-limit, asked-crews}
 use Rattle.search_rules.specs.Books.{searchOf, Passed}
@@ -58,7 +58,7 @@ module _ (road tree query : List ℕ) (work results : ℕ) (a : Accepted road tr
     crews-count : asked .crews ≡ crewCount query
     crews-count = ap (λ (q : Query). q .crews) read ∙ asked-crews query
 
-    wanted-is : asked .wanted ≡ wantedOf query
+    wanted-is : asked .wanted ≡ kOf query
     wanted-is = ap (λ (q : Query). q .wanted) read ∙ asked-wanted query
 
     pub few-crews : asked .crews ≤ 16

@@ -18,8 +18,8 @@ use Rattle.road.specs.Refusal.{roadRefusal}
 use Rattle.road.proofs.Theorems.{passing}
 use Rattle.tree_layout.specs.Decode.{junctionCount}
 use Rattle.tree.specs.Shape.{treeRefusal}
-use Rattle.query.specs.Query.{wantedOf, crewsOf, QueryLayout}
-use Rattle.query.proofs.Crews.{crews-length, crews-below}
+use Rattle.query.specs.Query.{kOf, crewsOf, QueryLayout}
+use Rattle.query.proofs.CrewList.{crews-length, crews-below}
 use Rattle.query.proofs.Reading.{passing as query-passing}
 use Rattle.search_rules.specs.Run.{Answer, words}
 use Rattle.search_call.specs.Accepted.{Accepted}
@@ -54,7 +54,7 @@ module _ (road tree query : List ℕ) (work results : ℕ) where
           there = crews-below query (junctions road) (q .placed);
         };
         work-full = enough-work work (f .0);
-        results-full = leb→le (2 * wantedOf query) results (g .0);
+        results-full = leb→le (2 * kOf query) results (g .0);
       }
 
   -- ---- what is returned

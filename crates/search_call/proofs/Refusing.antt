@@ -12,7 +12,7 @@ use Rattle.road_layout.specs.Road.{junctions}
 use Rattle.road.specs.Refusal.{roadRefusal}
 use Rattle.tree_layout.specs.Decode.{junctionCount}
 use Rattle.tree.specs.Shape.{treeRefusal}
-use Rattle.query.specs.Query.{wantedOf, queryRefusal}
+use Rattle.query.specs.Query.{kOf, queryRefusal}
 use Rattle.search_call.specs.Call.{treeRefusalIn, areasRefusal, searchRefusal}
 
 -- ---- the tree book
@@ -64,6 +64,6 @@ module _ (road tree query : List ℕ) (work results : ℕ) where
       unfolding searchRefusal
       by-query h = first-later _ _ a ∙ first-later _ _ b ∙ first-earlier (queryRefusal query (junctions road)) _ h
 
-      pub by-areas : queryRefusal query (junctions road) ≡ 0 → searchRefusal road tree query work results ≡ areasRefusal (wantedOf query) work results
+      pub by-areas : queryRefusal query (junctions road) ≡ 0 → searchRefusal road tree query work results ≡ areasRefusal (kOf query) work results
       unfolding searchRefusal
       by-areas c = first-later _ _ a ∙ first-later _ _ b ∙ first-later _ _ c

@@ -8,7 +8,7 @@ use Rattle.road_layout.specs.Road.{junctions}
 use Rattle.road.specs.Refusal.{roadRefusal}
 use Rattle.tree_layout.specs.Decode.{junctionCount}
 use Rattle.tree.specs.Shape.{treeRefusal}
-use Rattle.query.specs.Query.{wantedOf, crewsOf, QueryLayout}
+use Rattle.query.specs.Query.{kOf, crewsOf, QueryLayout}
 use Rattle.search_rules.specs.Books.{Passed}
 
 pub record Accepted (road tree query : List ℕ) (work results : ℕ) : Type 0 where
@@ -18,4 +18,4 @@ pub record Accepted (road tree query : List ℕ) (work results : ℕ) : Type 0 w
   pub asked : QueryLayout query (junctions road)
   pub books : Bytes tree → Passed road tree (crewsOf query)
   pub work-full : workWords ≤ work
-  pub results-full : 2 * wantedOf query ≤ results
+  pub results-full : 2 * kOf query ≤ results

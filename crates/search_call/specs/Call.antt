@@ -10,7 +10,7 @@ use Rattle.road_layout.specs.Road.{junctions}
 use Rattle.road.specs.Refusal.{roadRefusal}
 use Rattle.tree_layout.specs.Decode.{junctionCount}
 use Rattle.tree.specs.Shape.{treeRefusal}
-use Rattle.query.specs.Query.{aggregateOf, wantedOf, limitOf, crewsOf, queryRefusal}
+use Rattle.query.specs.Query.{aggregateOf, kOf, limitOf, crewsOf, queryRefusal}
 use Rattle.search_rules.specs.Instance.{Instance}
 use Rattle.search_rules.specs.Books.{searchOf}
 use Rattle.search_rules.specs.Run.{Answer, words, answer}
@@ -40,11 +40,11 @@ searchRefusal road tree query work results =
     -- 1 to 4, 10 and 11
     (firstOf (queryRefusal query (junctions road))
     -- 12
-    (areasRefusal (wantedOf query) work results)))
+    (areasRefusal (kOf query) work results)))
 
 -- the search that the books ask for
 abbrev pub searchIn : (road tree query : List ℕ) → Instance
-searchIn road tree query = searchOf road tree (aggregateOf query) (wantedOf query) (crewsOf query)
+searchIn road tree query = searchOf road tree (aggregateOf query) (kOf query) (crewsOf query)
 
 -- its answer under the query's step limit, by the step rules
 abbrev pub searchAnswer : (road tree query : List ℕ) → Answer

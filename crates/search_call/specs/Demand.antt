@@ -16,7 +16,7 @@ use Rattle.tree_layout.specs.Decode.{decode}
 use Rattle.tree.specs.Yards.{treeYards, inners}
 use Rattle.tree_truth.specs.Facts.{Same}
 use Rattle.tree_check.specs.Check.{checkAnswer}
-use Rattle.query.specs.Query.{aggregateOf, wantedOf, limitOf, crewsOf}
+use Rattle.query.specs.Query.{aggregateOf, kOf, limitOf, crewsOf}
 use Rattle.search_rules.specs.Instance.{Instance, size, leaf}
 use Rattle.search_rules.specs.Bounds.{chosen, yardBound}
 use Rattle.search_rules.specs.Run.{words, run}
@@ -55,7 +55,7 @@ abbrev pub code : Search → ℕ
 code s = aggregateOf (s .call .query)
 
 abbrev pub k : Search → ℕ
-k s = wantedOf (s .call .query)
+k s = kOf (s .call .query)
 
 abbrev pub crews : Search → List ℕ
 crews s = crewsOf (s .call .query)

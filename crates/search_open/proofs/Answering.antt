@@ -18,7 +18,7 @@ use Rattle.tree.specs.Answer.{treeOf, numberOf as tree-number}
 use Rattle.tree.specs.declared.Tree.{Tree}
 use Rattle.tree.specs.declared.Tree.the-variants.{Shaped, Refused as tree-refused}
 use Rattle.tree.proofs.Answering.{shaped-answer, shaped-found, number-is as tree-number-is}
-use Rattle.query.specs.Query.{wantedOf, queryRefusal, queryOf, queryBook, numberOf}
+use Rattle.query.specs.Query.{kOf, queryRefusal, queryOf, queryBook, numberOf}
 use Rattle.query.specs.declared.Query.{Query}
 use Rattle.query.specs.declared.QueryBook.{QueryBook}
 use Rattle.query.specs.declared.QueryBook.the-variants.{Asked, Refused as query-refused}
@@ -81,5 +81,5 @@ module _ (road tree query : List ℕ) (work results : ℕ) (o : RoadBook) (e : o
       pub areas-last : (asked : Query) → b ≡ Asked asked → (s : ℕ) → s ≡ areasRefusal (asked .wanted) work results → s ≡ searchRefusal road tree query work results
       areas-last asked p s h =
           let x = read-asked (queryRefusal query (junctions road)) (queryOf query) asked (sym on-query ∙ p) in
-          let w : asked .wanted ≡ wantedOf query = ap (λ (y : Query). y .wanted) (sym (x .1)) ∙ asked-wanted query in
+          let w : asked .wanted ≡ kOf query = ap (λ (y : Query). y .wanted) (sym (x .1)) ∙ asked-wanted query in
           h ∙ ap (λ (k : ℕ). areasRefusal k work results) w ∙ sym (by-areas road tree query work results (roads .0) (sym on-tree ∙ z) (x .0))

@@ -7,14 +7,13 @@ use native.Mathlib.Omega.{arith}
 use lib.ListN.{length, getD, take}
 use lib.Seq.{length-take-le, getD-take}
 use lib.Dec.{eqb}
-use Rattle.book.specs.Bytes.{u16At}
 use Rattle.book.proofs.Choosing.{choose-yes, choose-no, passes, fails, true-T, false-T, first-later, first-earlier, first-none}
 use Rattle.book.proofs.Lists.{eq→eqb, ne→neqb}
 use Rattle.tree_layout.specs.Decode.{regionCount, placeOf, decode}
 use Rattle.tree_layout.specs.Refusal.{layoutRefusal}
 use Rattle.tree_layout.specs.Facts.{TreeLayout}
 use Rattle.tree_layout.proofs.Accepting.{layout-facts}
-use Rattle.tree_layout.proofs.Reading.{region-count, refused-answer as layout-answer}
+use Rattle.tree_layout.proofs.Reading.{refused-answer as layout-answer}
 use Rattle.tree.specs.Shape.{shaped, treeRefusal}
 use Rattle.tree.specs.Yards.{endOf}
 use Rattle.tree.specs.Arrays.{overwrite, Laid}
@@ -34,7 +33,7 @@ module _ (b : List ℕ) (ok : layoutRefusal b ≡ 0) where
   layout : TreeLayout b
   layout = layout-facts b ok
 
-  pub header-room : 9 ≤ length b
+  pub header-room : 12 ≤ length b
   header-room = omega (arith, layout .opens .headed)
 
   unshaped-is : shaped (decode b) ≡ false → treeRefusal b ≡ 7
@@ -50,10 +49,7 @@ module _ (b : List ℕ) (ok : layoutRefusal b ≡ 0) where
     places-need = (layout, omega (arith, layout .regions .1))
 
     -- the places filled in, and the first n of them
-    module _ (n : ℕ) (count : n ≡ u16At b 7) (qs : List ℕ) (filled : qs ≡ overwrite (placeOf b) (regionCount b) ps) where
-      n-is : n ≡ regionCount b
-      n-is = count ∙ sym (region-count b)
-
+    module _ (n : ℕ) (n-is : n ≡ regionCount b) (qs : List ℕ) (filled : qs ≡ overwrite (placeOf b) (regionCount b) ps) where
       pub prefix-room : n ≤ length qs
       prefix-room = omega (arith, n-is, ap length filled, overwrite-length (placeOf b) ps (regionCount b), layout .regions .1)
 
@@ -147,12 +143,14 @@ module _ (b : List ℕ) (ok : treeRefusal b ≡ 0) where
   pub accepted-laid : (n : ℕ) → n ≡ regionCount b → (old new : List ℕ) → 511 ≤ length old → new ≡ placesAfter b old → Laid b (take n new)
   unfolding placesAfter
   accepted-laid n e old new h z =
-      prefix-laid b laid-out old h n (e ∙ region-count b) new (z ∙ choose-yes (eqb (layoutRefusal b) 0) (overwrite (placeOf b) (regionCount b) old) old (eq→eqb (layoutRefusal b) 0 laid-out))
+      prefix-laid b laid-out old h n e new (z ∙ choose-yes (eqb (layoutRefusal b) 0) (overwrite (placeOf b) (regionCount b) old) old (eq→eqb
+      (layoutRefusal b) 0 laid-out))
 
   pub accepted-slots : (n : ℕ) → n ≡ regionCount b → (old new : List ℕ) → 511 ≤ length old → new ≡ placesAfter b old → n ≤ length new
   unfolding placesAfter
   accepted-slots n e old new h z =
-      prefix-room b laid-out old h n (e ∙ region-count b) new (z ∙ choose-yes (eqb (layoutRefusal b) 0) (overwrite (placeOf b) (regionCount b) old) old (eq→eqb (layoutRefusal b) 0 laid-out))
+      prefix-room b laid-out old h n e new (z ∙ choose-yes (eqb (layoutRefusal b) 0) (overwrite (placeOf b) (regionCount b) old) old (eq→eqb
+      (layoutRefusal b) 0 laid-out))
 
   few : regionCount b ≤ 511
   few = layout-facts b laid-out .regions .1

@@ -4,14 +4,14 @@ use mathlib.Core.List.{List}
 use Prim.Native.Nat.{ℕ, _+_, _≤_, _<_}
 use native.Mathlib.Omega.{arith}
 use lib.ListN.{length, getD}
-use Rattle.book.specs.Bytes.{u8At, u16At}
+use Rattle.tree_layout.specs.Accessors.{fieldsAt}
 use Rattle.tree_layout.specs.Values.{Region, regionAt}
 use Rattle.tree_layout.specs.Decode.{readRegion, sizeAt, placeOf, landmarkCount, regionCount, decode}
 use Rattle.tree_layout.proofs.Places.{size-least, region-at, record-inside, decode-length}
 use Rattle.tree_layout.proofs.Formed.{at-mem}
 use Rattle.tree_layout.proofs.Reading.{region-first, region-after, region-children, region-yards}
 use Rattle.tree.specs.Arrays.{Laid, fieldsOf}
-use Rattle.tree.specs.declared.Fields.{Fields}
+use Rattle.tree_layout.specs.declared.Fields.{Fields}
 
 module _ (b places : List ℕ) (laid : Laid b places) where
   -- the regions are as many as their places
@@ -42,20 +42,27 @@ module _ (b places : List ℕ) (laid : Laid b places) where
     pub laid-room : getD places i 0 + 7 ≤ length b
     laid-room = omega (arith, laid .held i h, laid-inside, size-least b (landmarkCount b) (placeOf b i))
 
-    pub laid-children : regionAt (decode b .regions) i .children ≡ u8At b (placeOf b i + 4)
+    pub laid-children : regionAt (decode b .regions) i .children ≡ fieldsAt b (placeOf b i) .children
     laid-children = ap (λ (r : Region). r .children) laid-region ∙ region-children b (landmarkCount b) (placeOf b i)
 
     -- its range ends at or below 1,024
-    pub laid-end : u16At b (placeOf b i + 2) ≤ 1024
+    pub laid-end : fieldsAt b (placeOf b i) .after ≤ 1024
     laid-end =
         let v = laid .layout .values (regionAt (decode b .regions) i) (at-mem (decode b .regions) i (omega (arith, laid-length))) in
-        let e : regionAt (decode b .regions) i .after ≡ u16At b (placeOf b i + 2) = ap (λ (r : Region). r .after) laid-region ∙ region-after b (landmarkCount b) (placeOf b i) in
+        let e : regionAt (decode b .regions) i .after ≡ fieldsAt b (placeOf b i) .after = ap (λ (r : Region). r .after) laid-region ∙ region-after b
+        (landmarkCount b) (placeOf b i) in
         omega (arith, v .within, laid .layout .junctions .1)
 
     -- what is read at its place are its fields
-    pub laid-fields : (at first after children yards : ℕ) → at ≡ getD places i 0 → first ≡ u16At b at → after ≡ u16At b (at + 2) → children ≡ u8At b (at + 4) → yards ≡ u16At b (at + 5)
-        → _≡_ {A = Fields} (record { at = at; first = first; after = after; children = children; yards = yards }) (fieldsOf b i)
+    pub laid-fields : (at : ℕ) (f : Fields) → at ≡ getD places i 0 → f ≡ fieldsAt b at → f ≡ fieldsOf b i
     unfolding fieldsOf
-    laid-fields at first after children yards e p q r s =
+    laid-fields at f e q =
         let z : at ≡ placeOf b i = e ∙ laid .held i h in
-        rw (laid-region, region-first b (landmarkCount b) (placeOf b i), region-after b (landmarkCount b) (placeOf b i), region-children b (landmarkCount b) (placeOf b i), region-yards b (landmarkCount b) (placeOf b i), p, q, r, s, z) refl
+        q ∙ rw (
+          laid-region,
+          region-first b (landmarkCount b) (placeOf b i),
+          region-after b (landmarkCount b) (placeOf b i),
+          region-children b (landmarkCount b) (placeOf b i),
+          region-yards b (landmarkCount b) (placeOf b i),
+          z,
+        ) refl

@@ -10,11 +10,9 @@ use lib.Dec.{ltb}
 use Rattle.book.specs.Choose.{choose}
 use Rattle.book.proofs.Choosing.{choose-case}
 use lib.Seq.{getD-set-same, getD-set-other}
-use Rattle.book.specs.Bytes.{u8At, u16At}
 use Rattle.tree_layout.specs.Decode.{placeOf, sizeAt, regionCount, landmarkCount}
 use Rattle.tree_layout.specs.Facts.{TreeLayout}
 use Rattle.tree_layout.proofs.Places.{place-after, record-inside, size-least}
-use Rattle.tree_layout.proofs.Reading.{region-count, landmark-count}
 use Rattle.tree.specs.Yards.{hops, holders, levelBy}
 use Rattle.tree.specs.Arrays.{overwrite}
 
@@ -50,13 +48,7 @@ module _ (f : ℕ → ℕ) (l : List ℕ) where
 
 -- ---- the places, one record at a time
 
-module _ (b : List ℕ) (layout : TreeLayout b) (n m : ℕ) (regions : n ≡ u16At b 7) (landmarks : m ≡ u8At b 11) where
-  n-is : n ≡ regionCount b
-  n-is = regions ∙ sym (region-count b)
-
-  m-is : m ≡ landmarkCount b
-  m-is = landmarks ∙ sym (landmark-count b)
-
+module _ (b : List ℕ) (layout : TreeLayout b) (n m : ℕ) (n-is : n ≡ regionCount b) (m-is : m ≡ landmarkCount b) where
   -- the record of region i lies in the book
   module _ (i at : ℕ) (inside : i < n) (place : at ≡ placeOf b i) where
     whole : at + sizeAt b m at ≤ length b

@@ -1,17 +1,16 @@
 -- A region's yards are the tree's yards in its range. Assumes nothing.
-use mathlib.Core.Path.{_≡_, refl, sym, ap, _∙_}
-use mathlib.Core.List.{List, [], _∷_, List·Memᴰ as Mem}
-use Prim.Native.Nat.{ℕ, zero, suc, _+_, _-_, _≤_, _<_}
+use mathlib.Core.Path.{_≡_, refl, ap, _∙_}
+use mathlib.Core.List.{List, List·Memᴰ as Mem}
+use Prim.Native.Nat.{ℕ, suc, _-_, _≤_, _<_}
 use native.Mathlib.Decide.{ℕ-discrete, decLt}
 use native.Mathlib.Omega.{arith}
 use lib.ListN.{length}
-use lib.Dec.{T}
 use Rattle.tree_layout.specs.Values.{Region, Tree, regionAt}
 use Rattle.tree_layout.specs.Decode.{decode}
 use Rattle.tree.specs.Shape.{treeRefusal}
 use Rattle.tree.specs.Yards.{endOf, yardsBelow, treeYards}
 use Rattle.tree.specs.Theorems.{LeafOf, Whole}
-use Rattle.tree.proofs.Forest.{Forest, none, leaf, wrap, join, rise, fits, Rooted}
+use Rattle.tree.proofs.Forest.{Forest, none, leaf, wrap, join, Rooted}
 use Rattle.tree.proofs.ForestLaws.{Sane, span, span-mem, visit, sub, leaf-order}
 use Rattle.tree.proofs.Descent.{end-is}
 use Rattle.tree.proofs.Shaping.{root-end, root-forest, facts-shaped}

@@ -8,15 +8,14 @@ use native.Mathlib.Omega.{arith}
 use lib.ListN.{length}
 use borrow.Author.Tests.{eq-eqb, ne-eqb}
 use lib.Dec.{eqb}
-use Rattle.book.specs.Bytes.{u8At, u16At}
+use Rattle.tree_layout.specs.Accessors.{fieldsAt}
 use Rattle.tree_layout.specs.Values.{Region, regionAt}
-use Rattle.tree_layout.specs.Decode.{readRegion, sizeAt, landmarkCount, placeOf, decode}
+use Rattle.tree_layout.specs.Decode.{readRegion, sizeAt, landmarkCount, placeOf, decode, yardCount}
 use Rattle.tree_layout.proofs.Places.{decode-yards}
-use Rattle.tree_layout.proofs.Reading.{yard-count}
 use Rattle.tree_leaf.specs.Leaf.{leafOk}
 use Rattle.tree.specs.Shape.{childFits, siblings, subtree, shaped}
 use Rattle.tree.specs.Arrays.{Laid, fieldsOf}
-use Rattle.tree.specs.declared.Fields.{Fields}
+use Rattle.tree_layout.specs.declared.Fields.{Fields}
 use Rattle.tree.proofs.Fielding.{laid-length, laid-header, laid-inside, laid-region, laid-children, laid-end}
 use Rattle.tree.proofs.Descending.{fits-yards, no-levels, no-number, inner-end, leaf-bad, leaf-good, last-left, last-none, next-bad, next-none, next-good}
 
@@ -68,7 +67,8 @@ module _ (b places : List ℕ) (laid : Laid b places) where
           ∙ rw add-one refl)
 
       -- what the test of a leaf asks
-      pub at-leaf : f .children ≡ 0 → (12 ≤ length b) × (u8At b (f .at + 4) ≡ 0) × (f .at + sizeAt b (landmarkCount b) (f .at) ≤ length b) × (u16At b (f .at + 2) ≤ 1024)
+      pub at-leaf : f .children ≡ 0 → (12 ≤ length b) × (fieldsAt b (f .at) .children ≡ 0)
+          × (f .at + sizeAt b (landmarkCount b) (f .at) ≤ length b) × (fieldsAt b (f .at) .after ≤ 1024)
       at-leaf c = rw (at-is b i f e) (laid-header b places laid, sym (laid-children b places laid i h) ∙ (children-is b i f e ∙ c), laid-inside b places laid i h, laid-end b places laid i h)
 
       region-is : regionAt rs i ≡ readRegion b (landmarkCount b) (f .at)
@@ -123,9 +123,10 @@ module _ (b places : List ℕ) (laid : Laid b places) where
   unfolding shaped
   not-all x z h = simp (ne-eqb _ _ (λ e. h (z ∙ (e ∙ laid-length b places laid))))
 
-  pub takes-all : (x : ℕ) → x ≡ subtree rs 8 0 → x ≡ length places → (f : Fields) → f ≡ fieldsOf b 0 → (y : ℕ) → y ≡ u16At b 9 → eqb (f .yards) y ≡ shaped (decode b)
+  pub takes-all : (x : ℕ) → x ≡ subtree rs 8 0 → x ≡ length places → (f : Fields) → f ≡ fieldsOf b 0 → (y : ℕ) → y ≡ yardCount b → eqb
+      (f .yards) y ≡ shaped (decode b)
   unfolding shaped
   takes-all x z h f e y q =
-      let w : decode b .yards ≡ y = decode-yards b ∙ (yard-count b ∙ sym q) in
+      let w : decode b .yards ≡ y = decode-yards b ∙ sym q in
       let v : subtree rs 8 0 ≡ length rs = sym z ∙ (h ∙ sym (laid-length b places laid)) in
       rw (← yards-is b 0 f e, ← w) (simp (eq-eqb _ _ v))

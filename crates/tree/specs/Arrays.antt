@@ -6,7 +6,7 @@ use lib.ListN.{length, getD, set}
 use Rattle.tree_layout.specs.Values.{regionAt}
 use Rattle.tree_layout.specs.Decode.{regionCount, placeOf, decode}
 use Rattle.tree_layout.specs.Facts.{TreeLayout}
-use Rattle.tree.specs.declared.Fields.{Fields}
+use Rattle.tree_layout.specs.declared.Fields.{Fields}
 
 -- the list with its first n numbers replaced by f 0, f 1, ..
 unfoldable pub overwrite : (ℕ → ℕ) → ℕ → List ℕ → List ℕ

@@ -1,6 +1,7 @@
 // The arrays that reach a region in constant time: where its record stands, and the region after its subtree.
 use crate::regions;
 use tree_layout::Region;
+use tree_layout::records;
 ghost use mathlib.Core.Path.{_≡_};
 ghost use Prim.Native.Nat.{ℕ, _+_, _≤_, _<_};
 ghost use lib.ListN.{length, getD};
@@ -13,11 +14,13 @@ ghost use Rattle.tree.specs.Arrays.{overwrite, Laid};
 // Fills in where each region's record stands.
 pub fn fill_places(b: &[u8], places: &mut [usize])
     requires { ⌜ TreeLayout (now b) × (regionCount (now b) ≤ length (now places)) ⌝ }
-    ensures { λ _. ⌜ now (places .exit) ≡ overwrite (placeOf (now (b .entry))) (regionCount (now (b .entry))) (now (places .entry)) ⌝ }
+    ensures { λ _. ⌜ now (places .exit) ≡ overwrite (placeOf (now (b .entry)))
+        (regionCount (now (b .entry))) (now (places .entry)) ⌝ }
 {
-    let n = book::u16_at(b, 7) as usize;
-    let m = book::u8_at(b, 11) as usize;
-    let mut at: usize = 12;
+    let h = records::header(b);
+    let n = h.regions as usize;
+    let m = h.landmarks as usize;
+    let mut at = records::FIRST_RECORD;
     let mut i: usize = 0;
     while i < n {
         places[i] = at;
@@ -43,7 +46,8 @@ fn after_siblings(ends: &[usize], n: u8, start: usize) -> usize
 // Fills in the region after each region's subtree, the last region first.
 pub fn fill_ends(b: &[u8], places: &[usize], ends: &mut [usize])
     requires { ⌜ (treeRefusal (now b) ≡ 0) × Laid (now b) (now places) × (length (now places) ≤ length (now ends)) ⌝ }
-    ensures { λ _. ⌜ now (ends .exit) ≡ overwrite (endOf (decode (now (b .entry)) .regions)) (regionCount (now (b .entry))) (now (ends .entry)) ⌝ }
+    ensures { λ _. ⌜ now (ends .exit) ≡ overwrite (endOf (decode (now (b .entry)) .regions))
+        (regionCount (now (b .entry))) (now (ends .entry)) ⌝ }
 {
     let mut i = places.len();
     while 0 < i {

@@ -5,6 +5,7 @@ mod shape;
 
 use tree_layout::Header;
 use tree_layout::TreeBook;
+use tree_layout::records;
 ghost use mathlib.Core.Path.{_≡_};
 ghost use Prim.Native.Nat.{_≤_};
 ghost use lib.ListN.{length};
@@ -12,16 +13,7 @@ ghost use Rattle.tree_layout.specs.Refusal.{layoutRefusal};
 ghost use Rattle.tree.specs.Shape.{treeRefusal};
 ghost use Rattle.tree.specs.Answer.{numberOf, treeOf, placesAfter, endsAfter};
 
-// The fields of a region, and the place of its record in the book.
-pub struct Fields {
-    pub at: usize,
-    pub first: u16,
-    pub after: u16,
-    pub children: u8,
-    pub yards: u16,
-}
-
-// What reading a tree book finds: the header of a tree of sound layout and shape, or the number of the test that turns it back.
+// What reading a tree book finds: its header, or the number of the test that turns it back.
 pub enum Tree {
     Shaped(Header),
     Refused(u8),
@@ -37,7 +29,7 @@ pub fn number(o: Tree) -> u8
     }
 }
 
-// Test 7 of a book of sound layout: 0 or 7. The arrays then hold where each region's record stands and, of a shaped tree, the region after its subtree.
+// Test 7 of a book of sound layout: 0 or 7. The arrays then hold each record's place and, if 0, each subtree's end.
 fn shape_refusal(b: &[u8], places: &mut [usize], ends: &mut [usize]) -> u8
     requires { ⌜ (layoutRefusal (now b) ≡ 0) × (511 ≤ length (now places)) × (511 ≤ length (now ends)) ⌝ }
     ensures answer { λ r. ⌜ r ≡ treeRefusal (now (b .entry)) ⌝ }
@@ -45,7 +37,8 @@ fn shape_refusal(b: &[u8], places: &mut [usize], ends: &mut [usize]) -> u8
     ensures ends { λ _. ⌜ now (ends .exit) ≡ endsAfter (now (b .entry)) (now (ends .entry)) ⌝ }
 {
     arrays::fill_places(b, places);
-    let n = book::u16_at(b, 7) as usize;
+    let h = records::header(b);
+    let n = h.regions as usize;
     if !shape::keeps_shape(b, &places[..n]) {
         return 7;
     }
@@ -53,7 +46,7 @@ fn shape_refusal(b: &[u8], places: &mut [usize], ends: &mut [usize]) -> u8
     0
 }
 
-// Reads a tree book: tests 1 to 5, then 7. Of an accepted tree the arrays then hold where each region's record stands, and the region after its subtree.
+// Reads a tree book: tests 1 to 5, then 7. If accepted, the arrays hold each record's place and each subtree's end.
 pub fn read(b: &[u8], places: &mut [usize], ends: &mut [usize]) -> Tree
     requires { ⌜ (511 ≤ length (now places)) × (511 ≤ length (now ends)) ⌝ }
     ensures answer { λ r. ⌜ r ≡ treeOf (now (b .entry)) ⌝ }

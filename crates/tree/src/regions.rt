@@ -1,6 +1,7 @@
 // A region's fields, reached by the place of its record, and its level.
-use crate::Fields;
+use tree_layout::Fields;
 use tree_layout::Region;
+use tree_layout::records;
 ghost use mathlib.Core.Path.{_≡_};
 ghost use Prim.Native.Nat.{ℕ, _<_};
 ghost use lib.ListN.{length, getD};
@@ -15,13 +16,7 @@ pub fn fields(b: &[u8], places: &[usize], r: Region) -> Fields
     ensures { λ f. ⌜ f ≡ fieldsOf (now (b .entry)) (r .number) ⌝ }
 {
     let at = places[r.number as usize];
-    Fields {
-        at: at,
-        first: book::u16_at(b, at),
-        after: book::u16_at(b, at + 2),
-        children: book::u8_at(b, at + 4),
-        yards: book::u16_at(b, at + 5),
-    }
+    records::fields(b, at)
 }
 
 // 1 if region i comes before the end of a subtree, else 0.

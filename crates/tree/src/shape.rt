@@ -1,10 +1,10 @@
 // The shape test: a descent of the regions in preorder, remaining levels falling.
-use crate::Fields;
 use crate::regions;
+use tree_layout::Fields;
 use tree_layout::Region;
+use tree_layout::records;
 ghost use mathlib.Core.Path.{_≡_};
-ghost use Prim.Native.Nat.{ℕ, _+_, _≤_, _<_};
-ghost use lib.ListN.{length};
+ghost use Prim.Native.Nat.{_+_, _<_};
 ghost use Rattle.tree_layout.specs.Decode.{decode};
 ghost use Rattle.tree.specs.Shape.{childFits, siblings, subtree, shaped};
 ghost use Rattle.tree.specs.Arrays.{Laid};
@@ -55,7 +55,7 @@ pub fn subtree_end(b: &[u8], places: &[usize], levels: usize, r: Region) -> Regi
     next
 }
 
-// The region after the subtrees of n siblings, of which r is the first, or region 0: in the range from low to high, with the yards that are left.
+// The region after the subtrees of n siblings from r on, or region 0: in a range, with the yards that are left.
 fn siblings_end(
     b: &[u8],
     places: &[usize],
@@ -110,5 +110,6 @@ pub fn keeps_shape(b: &[u8], places: &[usize]) -> bool
         return false;
     }
     let f = regions::fields(b, places, root);
-    f.yards == book::u16_at(b, 9)
+    let h = records::header(b);
+    f.yards == h.yards
 }

@@ -3,13 +3,13 @@ use mathlib.Core.Path.{_≡_, refl, sym, ap, _∙_}
 use mathlib.Core.Logic.{_⊎_, inl, inr}
 use mathlib.Core.Bool.{not}
 use mathlib.Core.List.{List, [], _∷_, _++_, append-assoc, append-nil, List·Memᴰ as Mem, List·Memᴰ·head as head, List·Memᴰ·tail as tail}
-use Prim.Native.Nat.{ℕ, zero, suc, _+_, _*_, _≤_, _<_}
+use Prim.Native.Nat.{ℕ, suc, _+_, _*_, _<_}
 use native.Mathlib.Nat.{suc-mul}
 use native.Mathlib.Omega.{arith}
-use lib.ListN.{length, take, drop, length-append}
+use lib.ListN.{length, take}
 use lib.Seq.{take-at}
 use lib.Dec.{T, eqb, eqb→eq}
-use Rattle.book.specs.Bytes.{u8At, u16At, u32At}
+use Rattle.book.specs.Bytes.{u8At, u32At}
 use Rattle.book.specs.Writing.{u16Bytes, u32Bytes}
 use Rattle.book.proofs.Choosing.{T-split}
 use Rattle.book.proofs.Lists.{neqb→ne}

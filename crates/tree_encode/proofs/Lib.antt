@@ -1,4 +1,5 @@
 pub mod Sizes
+pub mod Parts
 pub mod Back
 pub mod Small
 pub mod Theorems

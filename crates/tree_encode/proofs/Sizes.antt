@@ -3,18 +3,17 @@ use mathlib.Core.Path.{_≡_, refl, sym, ap, _∙_}
 use mathlib.Core.Logic.{_⊎_, inl, inr}
 use mathlib.Core.Bool.{not}
 use mathlib.Core.List.{List, [], _∷_, _++_, append-assoc, List·Memᴰ as Mem, List·Memᴰ·head as head, List·Memᴰ·tail as tail}
-use Prim.Native.Nat.{ℕ, zero, suc, _+_, _*_, _≤_, _<_}
+use Prim.Native.Nat.{ℕ, _+_, _*_, _<_}
 use native.Mathlib.Nat.{suc-mul}
 use native.Mathlib.Omega.{arith}
 use lib.ListN.{length, length-append}
 use lib.Dec.{T, eqb, eqb→eq}
-use Rattle.book.specs.Choose.{choose}
 use Rattle.book.specs.Writing.{u16Bytes, u32Bytes}
 use Rattle.book.proofs.Choosing.{choose-yes, choose-no, T-split}
 use Rattle.book.proofs.Lists.{eq→eqb, ne→neqb, neqb→ne}
 use Rattle.book.proofs.Writing.{u16-length, u32-length}
 use Rattle.tree_layout.specs.Values.{Element, Mark, Region, Tree}
-use Rattle.tree_layout.specs.Decode.{markSize, recordSize}
+use Rattle.tree_layout.specs.Decode.{markSize}
 use Rattle.tree_layout.proofs.Places.{mark-size-leaf, mark-size-inner}
 use Rattle.tree_layout.specs.Formed.{Formed, FormedTree}
 use Rattle.tree_layout.proofs.Decoding.{record-size}

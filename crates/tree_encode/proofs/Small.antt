@@ -1,12 +1,10 @@
 -- What is written are bytes, for a tree whose fields fit theirs. Assumes nothing.
-use mathlib.Core.Path.{_≡_, refl}
-use mathlib.Core.Bool.{not}
+use mathlib.Core.Path.{refl}
 use mathlib.Core.List.{List, [], _∷_, _++_, List·Memᴰ as Mem, List·Memᴰ·head as head, List·Memᴰ·tail as tail}
 use Prim.Native.Nat.{ℕ, _+_, _<_}
 use native.Mathlib.Omega.{arith}
 use lib.ListN.{length}
-use lib.Dec.{T, eqb, eqb→eq}
-use Rattle.book.specs.Choose.{choose}
+use lib.Dec.{eqb, eqb→eq}
 use Rattle.book.specs.Bytes.{Bytes}
 use Rattle.book.specs.Writing.{u16Bytes, u32Bytes}
 use Rattle.book.proofs.Choosing.{choose-case}

@@ -1,34 +1,28 @@
 -- What is proved of the bytes of a tree. Assumes nothing.
-use mathlib.Core.Path.{_≡_, refl, sym, ap, _∙_}
-use mathlib.Core.Logic.{_⊎_, inl, inr}
-use mathlib.Core.List.{List, [], _∷_, List·Memᴰ as Mem}
-use Prim.Native.Nat.{ℕ, zero, suc, _+_, _*_, _≤_, _<_}
+use mathlib.Core.Path.{_≡_, ap}
+use mathlib.Core.List.{List}
+use Prim.Native.Nat.{ℕ, suc, _+_, _*_, _≤_, _<_}
 use native.Mathlib.Nat.{mul-le-mul-right}
 use native.Mathlib.Omega.{arith}
 use lib.ListN.{length}
-use lib.Dec.{T}
-use Rattle.book.specs.Bytes.{Bytes}
 use Rattle.book.specs.Open.{Opens}
-use Rattle.tree_layout.specs.Values.{Element, Mark, Region, Tree, regionAt}
-use Rattle.tree_layout.specs.Decode.{markSize, recordSize, decode, placeOf, placeFrom, regionCount, landmarkCount, junctionCount, yardCount}
-use Rattle.tree_layout.specs.Facts.{TreeLayout, RegionValues}
+use Rattle.tree_layout.specs.Values.{Region, Tree, regionAt}
+use Rattle.tree_layout.specs.Decode.{markSize, decode, regionCount}
+use Rattle.tree_layout.specs.Facts.{TreeLayout}
 use Rattle.tree_layout.proofs.Places.{mark-size-leaf, mark-size-inner, decode-length, decode-junctions, decode-yards, decode-landmarks}
-use Rattle.tree_layout.specs.Formed.{FormedTree}
 use Rattle.tree_layout.proofs.Formed.{decode-formed}
 use Rattle.tree_layout.proofs.Decoding.{record-size, place-is}
-use Rattle.tree.specs.Shape.{shaped, treeRefusal}
-use Rattle.tree.specs.Yards.{sumFrom, oneLeaf, oneInner, leaves, inners}
-use Rattle.tree.specs.Facts.{TreeShape}
-use Rattle.tree.specs.Theorems.{TreeFacts, Whole}
+use Rattle.tree.specs.Shape.{treeRefusal}
+use Rattle.tree.specs.Yards.{oneLeaf, oneInner}
 use Rattle.tree.proofs.Forest.{Forest, none, leaf, wrap, join, rise}
 use Rattle.tree.proofs.ForestLaws.{Sane, sum, sum-none, sum-first, sum-split, leaf-one, inner-one, leaf-count, inner-count}
 use Rattle.tree.proofs.Shaping.{facts-shaped, root-forest, root-yards}
 use Rattle.tree.proofs.Sums.{sum-all}
 use Rattle.tree.proofs.Theorems.{sane-of, facts-tree, tree-facts}
-use Rattle.tree_encode.specs.Encode.{encodeRegions, encodeBody, encode}
-use Rattle.tree_encode.specs.Facts.{Limits, SoundTree, Small, sizeOf, Written}
+use Rattle.tree_encode.specs.Encode.{encode}
+use Rattle.tree_encode.specs.Facts.{SoundTree, Small, sizeOf, Written}
 use Rattle.tree_encode.proofs.Sizes.{body-length, encode-length, encode-sizes}
-use Rattle.tree_encode.proofs.Back.{HeaderBack, header-back, regions-back, decode-encode}
+use Rattle.tree_encode.proofs.Back.{header-back, regions-back, decode-encode}
 use Rattle.tree_encode.proofs.Small.{encode-bytes}
 
 -- ---- what is written is accepted

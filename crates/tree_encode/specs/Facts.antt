@@ -1,7 +1,7 @@
 -- Trees that a tree book can hold, and what holds of the bytes that are written of them. Assumes nothing: these are statements.
 use mathlib.Core.Path.{_≡_}
-use mathlib.Core.List.{List, List·Memᴰ as Mem}
-use Prim.Native.Nat.{ℕ, _+_, _*_, _≤_, _<_}
+use mathlib.Core.List.{List·Memᴰ as Mem}
+use Prim.Native.Nat.{ℕ, _+_, _≤_, _<_}
 use lib.ListN.{length}
 use Rattle.book.specs.Bytes.{Bytes}
 use Rattle.tree_layout.specs.Values.{Element, Mark, Region, Tree}

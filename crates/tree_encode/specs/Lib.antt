@@ -1,2 +1,3 @@
 pub mod Encode
+pub mod Parts
 pub mod Facts

@@ -1,1 +1,68 @@
-// The bytes of a tree, as a definition (specs/), and that they read back (proofs/). The code that writes them stands in a crate above.
+// Writers of a tree book's parts. What a whole tree's bytes are, and that they read back, is in specs/ and proofs/.
+use tree_layout::Fields;
+use tree_layout::Header;
+use tree_layout::Span;
+ghost use mathlib.Core.Path.{_≡_};
+ghost use Prim.Native.Nat.{_+_, _≤_};
+ghost use lib.ListN.{length};
+ghost use Rattle.book.specs.Writing.{u16Bytes, write};
+ghost use Rattle.tree_layout.specs.Values.{innerMark};
+ghost use Rattle.tree_layout.specs.Reading.{element};
+ghost use Rattle.tree_layout.specs.Sizes.{headerSize, fieldsSize, junctionSize, innerMarkSize, elementSize};
+ghost use Rattle.tree_encode.specs.Encode.{encodeElement, encodeInnerMark};
+ghost use Rattle.tree_encode.specs.Parts.{treeHeader, encodeFields};
+
+// Writes a tree book's header: the count of the bytes after it, the version, and the header's counts.
+pub fn put_book_header(tree: &mut [u8], count: u32, h: Header)
+    requires { ⌜ headerSize ≤ length (now tree) ⌝ }
+    ensures { λ _. ⌜ now (tree .exit) ≡ write (now (tree .entry)) 0
+        (treeHeader count (h .junctions) (h .regions) (h .yards) (h .landmarks)) ⌝ }
+{
+    book::put_u32(tree, 0, count);
+    tree[4] = 1;
+    book::put_u16(tree, 5, h.junctions);
+    book::put_u16(tree, 7, h.regions);
+    book::put_u16(tree, 9, h.yards);
+    tree[11] = h.landmarks;
+}
+
+// Writes a region's fields, at their place.
+pub fn put_fields(tree: &mut [u8], f: Fields)
+    requires { ⌜ f .at + fieldsSize ≤ length (now tree) ⌝ }
+    ensures { λ _. ⌜ now (tree .exit) ≡ write (now (tree .entry)) (f .at)
+        (encodeFields (f .first) (f .after) (f .children) (f .yards)) ⌝ }
+{
+    let at = f.at;
+    book::put_u16(tree, at, f.first);
+    book::put_u16(tree, at + 2, f.after);
+    tree[at + 4] = f.children;
+    book::put_u16(tree, at + 5, f.yards);
+}
+
+// Writes the junction of a leaf's landmark at a place. Its list comes after it.
+pub fn put_leaf_mark_junction(tree: &mut [u8], at: usize, l: u16)
+    requires { ⌜ at + junctionSize ≤ length (now tree) ⌝ }
+    ensures { λ _. ⌜ now (tree .exit) ≡ write (now (tree .entry)) at (u16Bytes l) ⌝ }
+{
+    book::put_u16(tree, at, l);
+}
+
+// Writes an inner region's landmark at a place: its junction, and the least and the greatest distance to its yards.
+pub fn put_span(tree: &mut [u8], at: usize, l: u16, s: Span)
+    requires { ⌜ at + innerMarkSize ≤ length (now tree) ⌝ }
+    ensures { λ _. ⌜ now (tree .exit) ≡ write (now (tree .entry)) at
+        (encodeInnerMark (innerMark l (s .least) (s .greatest))) ⌝ }
+{
+    book::put_u16(tree, at, l);
+    book::put_u32(tree, at + 2, s.least);
+    book::put_u32(tree, at + 6, s.greatest);
+}
+
+// Writes an element of a leaf's list at a place: its distance and its yard.
+pub fn put_element(tree: &mut [u8], at: usize, distance: u32, yard: u16)
+    requires { ⌜ at + elementSize ≤ length (now tree) ⌝ }
+    ensures { λ _. ⌜ now (tree .exit) ≡ write (now (tree .entry)) at (encodeElement (element distance yard)) ⌝ }
+{
+    book::put_u32(tree, at, distance);
+    book::put_u16(tree, at + 4, yard);
+}

@@ -1,10 +1,10 @@
 -- Reading a tree book, one equation for each of its definitions. Assumes nothing.
 use mathlib.Core.Path.{_≡_, refl}
 use mathlib.Core.List.{List, [], _∷_}
-use Prim.Native.Nat.{ℕ, zero, suc, _+_, _*_}
+use Prim.Native.Nat.{ℕ, suc, _+_, _*_}
 use lib.ListN.{take, drop}
 use Rattle.book.specs.Bytes.{u8At, u16At, u32At}
-use Rattle.tree_layout.specs.Values.{Element, Mark, Region, Tree, leafMark, innerMark}
+use Rattle.tree_layout.specs.Values.{leafMark, innerMark}
 use Rattle.tree_layout.specs.Decode.{elementAt, readList, listPart, readLists, readSpans, readMarks, readRegion, readRegions, markSize, recordSize, sizeAt, junctionCount, regionCount, yardCount, landmarkCount, placeFrom, placeOf, decode}
 
 -- ---- a list

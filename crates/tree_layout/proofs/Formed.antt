@@ -10,7 +10,7 @@ use lib.Dec.{T, eqb, eqb→eq}
 use Rattle.book.specs.Bytes.{u8At, u16At, u32At}
 use Rattle.book.proofs.Choosing.{choose-yes, choose-no, T-split}
 use Rattle.book.proofs.Lists.{eq→eqb, ne→neqb, neqb→ne, getD-mem}
-use Rattle.tree_layout.specs.Values.{Mark, Region, Tree, leafMark, innerMark, noRegion, regionAt}
+use Rattle.tree_layout.specs.Values.{Mark, Region, leafMark, innerMark, noRegion, regionAt}
 use Rattle.tree_layout.specs.Decode.{readList, listPart, readLists, readSpans, readMarks, readRegion, readRegions, sizeAt, decode, landmarkCount, regionCount}
 use Rattle.tree_layout.specs.Formed.{Formed, FormedTree}
 

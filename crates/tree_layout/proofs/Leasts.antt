@@ -1,10 +1,10 @@
 -- The least of an inner region's landmark is a word of 32 bits, a leaf's is its list's first distance; a region of no number has no landmark. Assumes nothing.
-use mathlib.Core.Path.{_≡_, refl, ap, _∙_}
+use mathlib.Core.Path.{_≡_, refl, ap}
 use mathlib.Core.Logic.{_⊎_, inl, inr, _≢_}
-use mathlib.Core.List.{List, [], _∷_, List·Memᴰ as Mem, List·Memᴰ·head as head, List·Memᴰ·tail as tail, List·Memᴰ·not-nil as not-nil, List·Memᴰ·cases-cons as cases-cons}
+use mathlib.Core.List.{List, [], _∷_, List·Memᴰ as Mem, List·Memᴰ·head as head, List·Memᴰ·not-nil as not-nil, List·Memᴰ·cases-cons as cases-cons}
 use Prim.Native.Nat.{ℕ, zero, suc, _+_, _≤_, _<_}
 use native.Mathlib.Omega.{arith}
-use lib.ListN.{length, getD}
+use lib.ListN.{length}
 use Rattle.book.specs.Bytes.{u8At, u16At, u32At, Bytes}
 use Rattle.book.proofs.Laws.{u32-small}
 use Rattle.tree_layout.specs.Values.{Element, Mark, Region, leafMark, innerMark, firstDistance, noRegion, regionAt}

@@ -17,3 +17,4 @@ pub mod Rising
 pub mod MarkFields
 pub mod Numbered
 pub mod RecordFields
+pub mod Accessing

@@ -1,10 +1,10 @@
 -- The fields of landmarks, and the region at a place of a list. Assumes nothing.
 use mathlib.Core.Path.{_≡_, refl}
-use mathlib.Core.List.{List, [], _∷_, _++_}
+use mathlib.Core.List.{List, _∷_, _++_}
 use Prim.Native.Nat.{ℕ}
 use lib.ListN.{length}
 use lib.Seq.{getD-append-seam}
-use Rattle.tree_layout.specs.Values.{Element, Mark, Region, leafMark, innerMark, noRegion, regionAt}
+use Rattle.tree_layout.specs.Values.{Element, Region, leafMark, innerMark, noRegion, regionAt}
 
 pub leaf-place : (place : ℕ) (list : List Element) → leafMark place list .place ≡ place
 unfolding leafMark

@@ -2,11 +2,11 @@
 use mathlib.Core.Path.{_≡_, refl}
 use mathlib.Core.List.{List, [], _∷_, _++_, map}
 use Prim.Native.Nat.{ℕ}
-use lib.ListN.{length, set, take}
+use lib.ListN.{set, take}
 use Rattle.book.specs.Choose.{choose, refuse, firstOf}
 use Rattle.book.specs.Bytes.{u8At, u16At, u32At}
 use Rattle.book.specs.Open.{openRefusal}
-use Rattle.tree_layout.specs.Values.{Region, leafMark, innerMark, firstDistance, lastFrom}
+use Rattle.tree_layout.specs.Values.{leafMark, innerMark, firstDistance, lastFrom}
 use Rattle.tree_layout.specs.Decode.{elementAt, readList, listPart, readLists, readSpans, readMarks, markSize, recordSize, sizeAt, readRegion, readRegions, junctionCount, regionCount, yardCount, landmarkCount, decode}
 use Rattle.tree_layout.specs.Refusal.{between, all, recordsOk, near, comes, risesFrom, rises, listOk, markOk, childrenOk, regionOk, valuesOk, layoutRefusal}
 

@@ -2,8 +2,6 @@
 use mathlib.Core.List.{List}
 use Prim.Native.Nat.{ℕ, _+_, _*_}
 use Rattle.book.specs.Bytes.{u8At, u16At, u32At}
-use Rattle.tree_layout.specs.Values.{Element}
-use Rattle.tree_layout.specs.Decode.{elementAt}
 use Rattle.tree_layout.specs.declared.Fields.{Fields}
 use Rattle.tree_layout.specs.declared.Span.{Span}
 use Rattle.tree_layout.specs.declared.Listed.{Listed}

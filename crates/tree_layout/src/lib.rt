@@ -5,12 +5,14 @@ pub mod records; // records.rt: where a tree book's fields stand
 use book::Opened;
 ghost use mathlib.Core.Path.{_≡_};
 ghost use mathlib.Core.Bool.{true};
-ghost use Prim.Native.Nat.{ℕ, _+_, _*_, _≤_, _<_};
+ghost use Prim.Native.Nat.{_+_, _*_, _≤_, _<_};
 ghost use lib.ListN.{length};
 ghost use Rattle.book.specs.Bytes.{u16At, u32At};
 ghost use Rattle.tree_layout.specs.Values.{leafMark, innerMark};
-ghost use Rattle.tree_layout.specs.Decode.{readList, listPart, readLists, readSpans, readRegion, readRegions, sizeAt};
-ghost use Rattle.tree_layout.specs.Refusal.{between, all, recordsOk, comes, listOk, markOk, childrenOk, regionOk, layoutRefusal};
+ghost use Rattle.tree_layout.specs.Decode.{readList, listPart, readLists, readSpans};
+ghost use Rattle.tree_layout.specs.Decode.{readRegion, readRegions, sizeAt};
+ghost use Rattle.tree_layout.specs.Refusal.{between, all, recordsOk, comes, listOk};
+ghost use Rattle.tree_layout.specs.Refusal.{markOk, childrenOk, regionOk, layoutRefusal};
 ghost use Rattle.tree_layout.specs.Reading.{element, bounded, headerOf, treeBook, numberOf};
 
 // A tree region's number: a node of the tree, counted from 0 in preorder. Never a junction's number.
@@ -280,7 +282,7 @@ fn values_ok(b: &[u8], m: usize, n: usize, junctions: u16) -> bool
     true
 }
 
-// The number of the first of tests 1 to 5 that turns the book back, or 0; test 4 goes over the whole book before test 5 looks at a value.
+// The number of the first of tests 1 to 5 that turns the book back, or 0; test 4 goes over all the book before test 5.
 pub fn layout(b: &[u8]) -> u8
     ensures { λ r. ⌜ r ≡ layoutRefusal (now (b .entry)) ⌝ }
 {

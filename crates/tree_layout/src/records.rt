@@ -5,9 +5,11 @@ use crate::Listed;
 use crate::Span;
 use book::Junction;
 ghost use mathlib.Core.Path.{_≡_};
-ghost use Prim.Native.Nat.{ℕ, _+_, _*_, _≤_, _<_};
+ghost use Prim.Native.Nat.{_+_, _*_, _≤_};
 ghost use lib.ListN.{length};
 ghost use Rattle.book.specs.Bytes.{u16At};
+ghost use Rattle.tree_layout.specs.Sizes.{headerSize, fieldsSize, junctionSize, elementSize};
+ghost use Rattle.tree_layout.specs.Sizes.{leafMarkSize, innerMarkSize};
 ghost use Rattle.tree_layout.specs.Decode.{listPart};
 ghost use Rattle.tree_layout.specs.Accessors.{fieldsAt, spanAt, listedAt};
 ghost use Rattle.tree_layout.specs.Reading.{headerOf};
@@ -15,28 +17,34 @@ ghost use Rattle.tree_layout.specs.Reading.{headerOf};
 // Where the first region's record stands, after the header.
 pub const FIRST_RECORD: usize = 12;
 
+// The bytes of a landmark's junction. A leaf's list stands after it.
+pub const JUNCTION_SIZE: usize = 2;
+
+// The bytes of an element of a list.
+pub const ELEMENT_SIZE: usize = 6;
+
 // The bytes of a landmark of an inner region.
 pub const INNER_MARK: usize = 10;
 
 // The bytes of a landmark of a leaf with so many yards.
 pub fn leaf_mark(yards: usize) -> usize
     requires { ⌜ yards ≤ 65535 ⌝ }
-    ensures { λ r. ⌜ r ≡ 2 + 6 * yards ⌝ }
+    ensures { λ r. ⌜ r ≡ leafMarkSize yards ⌝ }
 {
-    2 + 6 * yards
+    JUNCTION_SIZE + ELEMENT_SIZE * yards
 }
 
 // Where the landmarks of the record at a place stand.
 pub fn marks_at(at: usize) -> usize
-    requires { ⌜ at ≤ 4294967295 ⌝ }
-    ensures { λ r. ⌜ r ≡ at + 7 ⌝ }
+    requires { ⌜ at + fieldsSize ≤ 18446744073709551615 ⌝ }
+    ensures { λ r. ⌜ r ≡ at + fieldsSize ⌝ }
 {
     at + 7
 }
 
 // The header's counts.
 pub fn header(b: &[u8]) -> Header
-    requires { ⌜ 12 ≤ length (now b) ⌝ }
+    requires { ⌜ headerSize ≤ length (now b) ⌝ }
     ensures { λ r. ⌜ r ≡ headerOf (now (b .entry)) ⌝ }
 {
     Header {
@@ -49,7 +57,7 @@ pub fn header(b: &[u8]) -> Header
 
 // The fields of the region whose record is at a place.
 pub fn fields(b: &[u8], at: usize) -> Fields
-    requires { ⌜ at + 7 ≤ length (now b) ⌝ }
+    requires { ⌜ at + fieldsSize ≤ length (now b) ⌝ }
     ensures { λ f. ⌜ f ≡ fieldsAt (now (b .entry)) at ⌝ }
 {
     Fields {
@@ -63,7 +71,7 @@ pub fn fields(b: &[u8], at: usize) -> Fields
 
 // The junction of the landmark at a place.
 pub fn junction(b: &[u8], at: usize) -> Junction
-    requires { ⌜ at + 2 ≤ length (now b) ⌝ }
+    requires { ⌜ at + junctionSize ≤ length (now b) ⌝ }
     ensures { λ r. ⌜ r .number ≡ u16At (now (b .entry)) at ⌝ }
 {
     Junction {
@@ -73,7 +81,7 @@ pub fn junction(b: &[u8], at: usize) -> Junction
 
 // The least and greatest of an inner region's landmark at a place.
 pub fn span(b: &[u8], at: usize) -> Span
-    requires { ⌜ at + 10 ≤ length (now b) ⌝ }
+    requires { ⌜ at + innerMarkSize ≤ length (now b) ⌝ }
     ensures { λ r. ⌜ r ≡ spanAt (now (b .entry)) at ⌝ }
 {
     Span {
@@ -84,17 +92,17 @@ pub fn span(b: &[u8], at: usize) -> Span
 
 // The list of a leaf's landmark at a place: the part of the book that starts where its record puts it.
 pub fn list(b: &[u8], at: usize, yards: usize) -> &[u8]
-    requires { ⌜ at + (2 + 6 * yards) ≤ length (now b) ⌝ }
-    ensures { λ p. ⌜ now p ≡ listPart (now (b .entry)) yards (at + 2) ⌝ }
+    requires { ⌜ at + leafMarkSize yards ≤ length (now b) ⌝ }
+    ensures { λ p. ⌜ now p ≡ listPart (now (b .entry)) yards (at + junctionSize) ⌝ }
 {
-    let start = at + 2;
-    let end = start + 6 * yards;
+    let start = at + JUNCTION_SIZE;
+    let end = start + ELEMENT_SIZE * yards;
     &b[start..end]
 }
 
 // Element number k of a list.
 pub fn element(p: &[u8], k: usize) -> Listed
-    requires { ⌜ 6 * k + 6 ≤ length (now p) ⌝ }
+    requires { ⌜ elementSize * k + elementSize ≤ length (now p) ⌝ }
     ensures { λ e. ⌜ e ≡ listedAt (now (p .entry)) k ⌝ }
 {
     Listed {

@@ -5,26 +5,31 @@ use mathlib.Core.List.{List}
 use Prim.Native.Nat.{ℕ, _+_, _-_, _*_, _≤_, _<_}
 use native.Mathlib.Omega.{arith}
 use borrow.Author.Tests.{le-leb, lt-leb, lt-ltb, le-ltb}
-use lib.ListN.{length, take, drop}
+use lib.ListN.{length}
 use lib.Dec.{ltb, leb}
 use Rattle.book.specs.Bytes.{u8At, u16At}
 use Rattle.tree_layout.specs.Values.{Element, Mark, leafMark}
 use Rattle.tree_layout.specs.Decode.{elementAt, readList, listPart, readLists, readRegion, sizeAt, landmarkCount}
 use Rattle.tree_layout.specs.Refusal.{all}
+use Rattle.tree_layout.specs.Accessors.{fieldsAt}
+use Rattle.tree_layout.specs.declared.Fields.{Fields}
 use Rattle.tree_layout.proofs.Places.{mark-size-leaf, size-at}
-use Rattle.tree_layout.proofs.Reading.{all-none, all-next, element-yard, list-turn, list-none, list-part, leaf-list, lists-turn, lists-none, region-first, region-after, region-lists, landmark-count}
+use Rattle.tree_layout.proofs.Reading.{all-none, all-next, list-turn, list-none, leaf-list, lists-turn, lists-none, region-first, region-after, region-lists}
 use Rattle.tree_leaf.specs.Leaf.{names, once, inRange, namedBy, firstList, sameYards, agreeing, leafOk}
 
 -- the pair at a place, and the n - (k + 1) pairs after it
 module _ (p : List ℕ) (n k at : ℕ) where
-  once-here : (v : ℕ) → k < n → v ≡ u16At p (at + 4) → once (readList p (n - k) at) ≡ (not (names (readList p (n - (k + 1)) (at + 6)) v) && once (readList p (n - (k + 1)) (at + 6)))
+  once-here : (v : ℕ) → k < n → v ≡ elementAt p at .yard → once (readList p (n - k) at) ≡ (not (names (readList p (n - (k + 1)) (at + 6)) v) && once
+      (readList p (n - (k + 1)) (at + 6)))
   unfolding once
-  once-here v h e = rw (list-turn p n k at h, element-yard p at, e) refl
+  once-here v h e = rw (list-turn p n k at h, e) refl
 
-  pub once-stop : (v rest : ℕ) → k < n → v ≡ u16At p (at + 4) → rest ≡ n - (k + 1) → names (readList p rest (at + 6)) v ≡ true → once (readList p (n - k) at) ≡ false
+  pub once-stop : (v rest : ℕ) → k < n → v ≡ elementAt p at .yard → rest ≡ n - (k + 1) → names (readList p rest (at + 6)) v ≡ true → once (readList p
+      (n - k) at) ≡ false
   once-stop v rest h e q t = once-here v h e ∙ rw (rw q at t) refl
 
-  pub once-next : (v rest : ℕ) → k < n → v ≡ u16At p (at + 4) → rest ≡ n - (k + 1) → names (readList p rest (at + 6)) v ≡ false → once (readList p (n - (k + 1)) (at + 6)) ≡ once (readList p (n - k) at)
+  pub once-next : (v rest : ℕ) → k < n → v ≡ elementAt p at .yard → rest ≡ n - (k + 1) → names (readList p rest (at + 6)) v ≡ false → once (readList p
+      (n - (k + 1)) (at + 6)) ≡ once (readList p (n - k) at)
   once-next v rest h e q t = sym (once-here v h e ∙ rw (rw q at t) refl)
 
   -- a test of every pair
@@ -34,17 +39,18 @@ module _ (p : List ℕ) (n k at : ℕ) where
   pub all-end : (f : Element → Bool) → n ≤ k → all f (readList p (n - k) at) ≡ true
   all-end f h = rw (list-none p n k at h) (all-none f)
 
-  range-here : (low high v : ℕ) → v ≡ u16At p (at + 4) → inRange low high (elementAt p at) ≡ (leb low v && ltb v high)
+  range-here : (low high v : ℕ) → v ≡ elementAt p at .yard → inRange low high (elementAt p at) ≡ (leb low v && ltb v high)
   unfolding inRange
-  range-here low high v e = rw (element-yard p at, e) refl
+  range-here low high v e = rw e refl
 
-  pub range-low : (low high v : ℕ) → k < n → v ≡ u16At p (at + 4) → v < low → all (inRange low high) (readList p (n - k) at) ≡ false
+  pub range-low : (low high v : ℕ) → k < n → v ≡ elementAt p at .yard → v < low → all (inRange low high) (readList p (n - k) at) ≡ false
   range-low low high v h e q = all-here (inRange low high) h ∙ rw (range-here low high v e) (simp (lt-leb _ _ q))
 
-  pub range-high : (low high v : ℕ) → k < n → v ≡ u16At p (at + 4) → low ≤ v → high ≤ v → all (inRange low high) (readList p (n - k) at) ≡ false
+  pub range-high : (low high v : ℕ) → k < n → v ≡ elementAt p at .yard → low ≤ v → high ≤ v → all (inRange low high) (readList p (n - k) at) ≡ false
   range-high low high v h e q s = all-here (inRange low high) h ∙ rw (range-here low high v e) (simp (le-leb _ _ q, le-ltb _ _ s))
 
-  pub range-next : (low high v : ℕ) → k < n → v ≡ u16At p (at + 4) → low ≤ v → v < high → all (inRange low high) (readList p (n - (k + 1)) (at + 6)) ≡ all (inRange low high) (readList p (n - k) at)
+  pub range-next : (low high v : ℕ) → k < n → v ≡ elementAt p at .yard → low ≤ v → v < high → all (inRange low high) (readList p (n - (k + 1))
+      (at + 6)) ≡ all (inRange low high) (readList p (n - k) at)
   range-next low high v h e q s = sym (all-here (inRange low high) h ∙ rw (range-here low high v e) (simp (le-leb _ _ q, lt-ltb _ _ s)))
 
 -- ---- the four tests of a list
@@ -66,6 +72,12 @@ unfolding firstList
 first-list b yards m at h =
     let s : m - 0 ≡ m = omega arith in
     rw (← s, lists-turn b yards m 0 at h) (leaf-list (u16At b at) (readList (listPart b yards (at + 2)) yards 0))
+
+-- two lists of a book, each the part that starts where its record puts it
+pub parts-agree : (b : List ℕ) (low high n start at : ℕ) (first p : List ℕ) → first ≡ listPart b n (start + 2) → p ≡ listPart b n (at + 2)
+    → sameYards low high (readList (listPart b n (start + 2)) n 0) (readList (listPart b n (at + 2)) n 0) ≡ sameYards low high (readList first n 0)
+    (readList p n 0)
+parts-agree b low high n start at first p e f = rw (e, f) refl
 
 -- the landmark at a place, and the m - (k + 1) landmarks after it
 module _ (b : List ℕ) (yards m k at low high : ℕ) (ref : List Element) where
@@ -98,20 +110,17 @@ leaf-test b m at low high yards z p q r = rw (region-first b m at, region-after 
 pub leaf-size : (b : List ℕ) (m at yards : ℕ) → u8At b (at + 4) ≡ 0 → yards ≡ u16At b (at + 5) → sizeAt b m at ≡ 7 + m * (2 + 6 * yards)
 leaf-size b m at yards z r = rw (size-at b m at, mark-size-leaf (u8At b (at + 4)) (u16At b (at + 5)) z, ← r) refl
 
--- two lists as parts of the book, from a first byte up to an end
-pub parts-agree : (b : List ℕ) (low high n first at : ℕ)
-    → sameYards low high (readList (take ((first + 6 * n) - first) (drop first b)) n 0) (readList (take ((at + 6 * n) - at) (drop at b)) n 0)
-    ≡ sameYards low high (readList (listPart b n first) n 0) (readList (listPart b n at) n 0)
-parts-agree b low high n first at = rw (list-part b n first (first + 6 * n) refl, list-part b n at (at + 6 * n) refl) refl
+-- a leaf's record in a book with m landmarks per region, by its fields
+module _ (b : List ℕ) (m at start : ℕ) (f : Fields) (count : m ≡ landmarkCount b) (after : start ≡ at + 7) (read : f ≡ fieldsAt b at)
+    (zero-children : fieldsAt b at .children ≡ 0) where
+  pub leaf-room : at + sizeAt b (landmarkCount b) at ≤ length b → start + m * (2 + 6 * f .yards) ≤ length b
+  leaf-room h = rw (count, after, read) (omega (arith, leaf-size b (landmarkCount b) at (fieldsAt b at .yards) zero-children refl))
 
--- a leaf's record in a book with m landmarks per region
-module _ (b : List ℕ) (m at low high yards : ℕ) (count : m ≡ u8At b 11) (zero-children : u8At b (at + 4) ≡ 0) (counted : yards ≡ u16At b (at + 5)) where
-  marks-are : m ≡ landmarkCount b
-  marks-are = count ∙ sym (landmark-count b)
+  pub leaf-end : fieldsAt b at .after ≤ 1024 → f .after ≤ 1024
+  leaf-end h = rw read h
 
-  pub leaf-room : at + sizeAt b (landmarkCount b) at ≤ length b → (at + 7) + m * (2 + 6 * yards) ≤ length b
-  leaf-room h = rw marks-are (omega (arith, leaf-size b (landmarkCount b) at yards zero-children counted))
-
-  pub leaf-tested : low ≡ u16At b at → high ≡ u16At b (at + 2)
-      → agreeing low high (firstList (readLists b yards m (at + 7))) (readLists b yards m (at + 7)) ≡ leafOk (readRegion b (landmarkCount b) at)
-  leaf-tested p q = rw marks-are (sym (leaf-test b (landmarkCount b) at low high yards zero-children p q counted))
+  pub leaf-tested : agreeing (f .first) (f .after) (firstList (readLists b (f .yards) m start)) (readLists b (f .yards) m start)
+      ≡ leafOk (readRegion b (landmarkCount b) at)
+  leaf-tested =
+      rw (count, after, read)
+      (sym (leaf-test b (landmarkCount b) at (fieldsAt b at .first) (fieldsAt b at .after) (fieldsAt b at .yards) zero-children refl refl refl))

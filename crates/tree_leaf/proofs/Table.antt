@@ -1,23 +1,21 @@
 -- The table of a list's yards, and the tests by it. Assumes nothing.
 use mathlib.Core.Path.{_≡_, refl, sym, ap, _∙_}
-use mathlib.Core.Logic.{_⊎_, inl, inr, _≢_}
 use mathlib.Core.Bool.{Bool, true, false, not, _&&_, _||_}
 use mathlib.Core.List.{List, [], _∷_}
 use Prim.Native.Nat.{ℕ, zero, suc, _+_, _-_, _*_, _≤_, _<_}
 use native.Mathlib.Nat.{sub-zero}
-use native.Mathlib.Numerals.{add-one}
 use native.Mathlib.Decide.{ℕ-discrete}
 use native.Mathlib.Omega.{arith}
 use borrow.Author.Tests.{eq-eqb, ne-eqb}
-use lib.ListN.{length, getD, set, take, drop, replicate, length-set, length-replicate}
+use lib.ListN.{length, getD, set, replicate, length-set, length-replicate}
 use lib.Seq.{getD-set-same, getD-set-other}
-use lib.Dec.{T, ltb, leb, eqb, ltb→lt}
-use Rattle.book.specs.Bytes.{u16At}
+use lib.Dec.{T, leb, eqb, ltb→lt}
 use Rattle.book.proofs.Choosing.{and-left, and-right, true-T, T-true}
 use Rattle.tree_layout.specs.Values.{Element}
 use Rattle.tree_layout.specs.Decode.{elementAt, readList, listPart, readLists}
 use Rattle.tree_layout.specs.Refusal.{all}
-use Rattle.tree_layout.proofs.Reading.{all-none, all-next, element-yard, list-turn, list-none, list-part}
+use Rattle.tree_layout.proofs.Accessing.{part-length}
+use Rattle.tree_layout.proofs.Reading.{all-none, all-next, list-turn, list-none}
 use Rattle.tree_leaf.specs.Leaf.{names, once, inRange, namedBy, firstList, sameYards, agreeing}
 use Rattle.tree_leaf.specs.Table.{tableOf, inTable, fits}
 use Rattle.tree_leaf.proofs.Listing.{once-stop, once-next, range-low, range-high, range-next, same-to, same-from, first-list, agree-stop, agree-end}
@@ -49,20 +47,22 @@ beyond [] i h = refl
 beyond (x ∷ xs) zero h = absurd (omega arith)
 beyond (x ∷ xs) (suc i) h = beyond xs i (omega arith)
 
--- ---- whether a table has a list's yards, with the pair at a place and the n - (k + 1) pairs after it
+-- ---- whether a table has a list's yards, with pair number k and the n - (k + 1) pairs after it
 
-module _ (table : List Bool) (p : List ℕ) (n k at v : ℕ) (h : k < n) (e : v ≡ u16At p (at + 4)) where
-  in-here : all (inTable table) (readList p (n - k) at) ≡ (getD table v false && all (inTable table) (readList p (n - (k + 1)) (at + 6)))
+module _ (table : List Bool) (p : List ℕ) (n k v : ℕ) (h : k < n) (e : v ≡ elementAt p (6 * k) .yard) where
+  in-here : all (inTable table) (readList p (n - k) (6 * k)) ≡ (getD table v false && all (inTable table) (readList p (n - (k + 1)) (6 * (k + 1))))
   unfolding inTable
-  in-here = rw (list-turn p n k at h) (all-next (inTable table) (elementAt p at) (readList p (n - (k + 1)) (at + 6)) ∙ rw (element-yard p at, e) refl)
+  in-here =
+      let s : 6 * (k + 1) ≡ 6 * k + 6 = omega arith in
+      rw (list-turn p n k (6 * k) h, s) (all-next (inTable table) (elementAt p (6 * k)) (readList p (n - (k + 1)) (6 * k + 6)) ∙ rw e refl)
 
-  pub in-beyond : length table ≤ v → all (inTable table) (readList p (n - k) at) ≡ false
+  pub in-beyond : length table ≤ v → all (inTable table) (readList p (n - k) (6 * k)) ≡ false
   in-beyond l = in-here ∙ rw (beyond table v l) refl
 
-  pub in-absent : getD table v false ≡ false → all (inTable table) (readList p (n - k) at) ≡ false
+  pub in-absent : getD table v false ≡ false → all (inTable table) (readList p (n - k) (6 * k)) ≡ false
   in-absent t = in-here ∙ rw t refl
 
-  pub in-next : getD table v false ≡ true → all (inTable table) (readList p (n - (k + 1)) (at + 6)) ≡ all (inTable table) (readList p (n - k) at)
+  pub in-next : getD table v false ≡ true → all (inTable table) (readList p (n - (k + 1)) (6 * (k + 1))) ≡ all (inTable table) (readList p (n - k) (6 * k))
   in-next t = sym (in-here ∙ rw t refl)
 
 -- ---- a list's own test, from its last pair on
@@ -111,7 +111,7 @@ module _ (p : List ℕ) (n low high : ℕ) where
   failed table f = (sym f, λ z. let y : _≡_ {A = ℕ} 0 1 = cc in absurd (omega arith))
 
   -- the pair before the k of which those after are done
-  module _ (k v : ℕ) (z : 1 ≤ k) (h : k ≤ n) (e : v ≡ u16At p (6 * (k - 1) + 4)) where
+  module _ (k v : ℕ) (z : 1 ≤ k) (h : k ≤ n) (e : v ≡ elementAt p (6 * (k - 1)) .yard) where
     earlier : k - 1 < n
     earlier = omega arith
 
@@ -144,7 +144,7 @@ module _ (p : List ℕ) (n low high : ℕ) where
           → (set table v true ≡ tableOf (readList p (n - (k - 1)) (6 * (k - 1)))) × (fits low high (readList p (n - (k - 1)) (6 * (k - 1))) ≡ true)
       unfolding fits tableOf
       one-more t q s = (
-        rw (list-turn p n (k - 1) (6 * (k - 1)) earlier, element-yard p (6 * (k - 1)), ← e, rest-is, d .0) refl,
+        rw (list-turn p n (k - 1) (6 * (k - 1)) earlier, ← e, rest-is, d .0) refl,
         rw (sym (once-next p n (k - 1) (6 * (k - 1)) v (n - (k - 1 + 1)) earlier e refl (sym named ∙ t)), sym (range-next p n (k - 1) (6 * (k - 1)) low high v earlier e q s), rest-is) (d .1),
       )
 
@@ -204,29 +204,30 @@ module _ (low high : ℕ) (ref es : List Element) (h : high ≤ 1024) (f : fits 
     same-by-table named table e q t =
         same-from low high ref es es-once es-range (sym (small low high es h es-range ref) ∙ rw (← e) q) ∙ rw t (sym (small low high ref h ref-range es))
 
--- ---- a list as a part of a book, from a first byte up to an end
+-- ---- the first of a leaf's lists
 
-module _ (b : List ℕ) (n first : ℕ) where
-  pub part-fits : (low high : ℕ) → fits low high (readList (listPart b n first) n 0) ≡ true → fits low high (readList (take ((first + 6 * n) - first) (drop first b)) n 0) ≡ true
-  part-fits low high f = rw (list-part b n first (first + 6 * n) refl) f
-
-  pub part-table : (named : List Bool) → named ≡ tableOf (readList (listPart b n first) n 0) → named ≡ tableOf (readList (take ((first + 6 * n) - first) (drop first b)) n 0)
-  part-table named e = rw (list-part b n first (first + 6 * n) refl) e
-
--- the test of the first list, and what it leaves
-module _ (b : List ℕ) (n m start low high : ℕ) (some : 0 < m) (r : Bool) (named : List Bool) (f e : ℕ) (ef : f ≡ start + 2) (ee : e ≡ f + 6 * n)
-    (t : r ≡ fits low high (readList (take (e - f) (drop f b)) n 0)) (w : r ≡ true → named ≡ tableOf (readList (take (e - f) (drop f b)) n 0)) where
-  part-is : take (e - f) (drop f b) ≡ listPart b n (start + 2)
-  part-is = rw (ee, ef) (list-part b n (start + 2) (start + 2 + 6 * n) refl)
-
+-- its test, and what it leaves
+module _ (b : List ℕ) (n m start low high : ℕ) (some : 0 < m) (r : Bool) (named : List Bool) (p : List ℕ) (part : p ≡ listPart b n (start + 2))
+    (t : r ≡ fits low high (readList p n 0)) (w : r ≡ true → named ≡ tableOf (readList p n 0)) where
   pub first-fails : r ≡ false → agreeing low high (firstList (readLists b n m start)) (readLists b n m start) ≡ false
   first-fails q =
-      let g : fits low high (readList (listPart b n (start + 2)) n 0) ≡ false = rw (← part-is) (sym t ∙ q) in
+      let g : fits low high (readList (listPart b n (start + 2)) n 0) ≡ false = rw (← part) (sym t ∙ q) in
       let z : m - 0 ≡ m = omega arith in
       rw (← z) (agree-stop b n m 0 start low high (firstList (readLists b n (m - 0) start)) (readList (listPart b n (start + 2)) n 0) (rw z (first-list b n m start some)) some (list-fails low high (readList (listPart b n (start + 2)) n 0) (readList (listPart b n (start + 2)) n 0) g))
 
   pub first-fits : r ≡ true → (fits low high (readList (listPart b n (start + 2)) n 0) ≡ true) × (named ≡ tableOf (readList (listPart b n (start + 2)) n 0))
-  first-fits q = (rw (← part-is) (sym t ∙ q), rw (← part-is) (w q))
+  first-fits q = (rw (← part) (sym t ∙ q), rw (← part) (w q))
+
+-- what is known of a list as a part of its own
+module _ (b : List ℕ) (n start : ℕ) (p : List ℕ) (part : p ≡ listPart b n (start + 2)) where
+  pub part-room : start + (2 + 6 * n) ≤ length b → 6 * n ≤ length p
+  part-room h = omega (arith, ap length part, part-length b n start h)
+
+  pub part-fits : (low high : ℕ) → fits low high (readList (listPart b n (start + 2)) n 0) ≡ true → fits low high (readList p n 0) ≡ true
+  part-fits low high f = rw part f
+
+  pub part-table : (named : List Bool) → named ≡ tableOf (readList (listPart b n (start + 2)) n 0) → named ≡ tableOf (readList p n 0)
+  part-table named e = rw part e
 
 -- no list
 pub none-agree : (b : List ℕ) (n m start low high : ℕ) → m ≡ 0 → agreeing low high (firstList (readLists b n m start)) (readLists b n m start) ≡ true

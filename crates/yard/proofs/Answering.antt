@@ -4,7 +4,6 @@ use mathlib.Core.List.{List}
 use Prim.Native.Nat.{ℕ, zero, suc, _-_, _≤_, _<_}
 use native.Mathlib.Omega.{arith}
 use lib.ListN.{getD}
-use Rattle.book.specs.Bytes.{u16At}
 use Rattle.yard.specs.Yards.{yardCount, yardsOf, yardRefusal, yardRefusalIn, yardBook, numberOf}
 use Rattle.yard.specs.declared.YardBook.{YardBook}
 use Rattle.yard.specs.declared.YardBook.the-variants.{Yards, Refused}
@@ -44,9 +43,8 @@ number-is (suc n) count = refl
 pub answers-refused : (b : List ℕ) (why : ℕ) → why ≡ yardRefusal b → (why ≡ 0 → ⊥) → Refused why ≡ yardBook (yardRefusal b) (yardCount b)
 answers-refused b why e h = rw (← e) (sym (answer-refused why (yardCount b) (omega arith)))
 
-pub answers-yards : (b : List ℕ) (count : ℕ) → yardRefusal b ≡ 0 → count ≡ u16At b 5 → Yards count ≡ yardBook (yardRefusal b) (yardCount b)
-unfolding yardCount
-answers-yards b count e h = rw h (sym (answer-yards (yardRefusal b) (u16At b 5) e))
+pub answers-yards : (b : List ℕ) (count : ℕ) → yardRefusal b ≡ 0 → count ≡ yardCount b → Yards count ≡ yardBook (yardRefusal b) (yardCount b)
+answers-yards b count e h = rw h (sym (answer-yards (yardRefusal b) (yardCount b) e))
 
 -- the answer beside a road book with n junctions, from that of the book alone
 module _ (b : List ℕ) (n : ℕ) (o : YardBook) (e : o ≡ yardBook (yardRefusal b) (yardCount b)) where

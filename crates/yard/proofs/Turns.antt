@@ -1,13 +1,12 @@
 -- The yards of a book, one at a time, and those between two numbers. Assumes nothing.
-use mathlib.Core.Path.{_≡_, refl, sym, ap, _∙_}
+use mathlib.Core.Path.{_≡_, refl, ap, _∙_}
 use mathlib.Core.List.{List, [], _∷_}
-use Prim.Native.Nat.{ℕ, zero, suc, _+_, _-_, _*_, _≤_, _<_}
+use Prim.Native.Nat.{ℕ, zero, suc, _+_, _-_, _*_, _≤_}
 use native.Mathlib.Omega.{arith}
-use lib.ListN.{length, getD, take, drop}
-use lib.Seq.{slice, take-length}
+use lib.ListN.{take, drop}
+use lib.Seq.{slice}
 use Rattle.book.specs.Bytes.{u16At}
 use Rattle.yard.specs.Yards.{yardCount, yardAt, yardsFrom, yardsOf}
-use Rattle.yard.proofs.Listing.{from-length}
 
 pub yard-is : (b : List ℕ) (i : ℕ) → yardAt b i ≡ u16At b (7 + 2 * i)
 unfolding yardAt

@@ -16,11 +16,12 @@ use Rattle.book.proofs.Opening.{opens, open-zero, open-most}
 use Rattle.yard.specs.Yards.{yardCount, yardAt, yardsOf, rises, inside, bodyRefusal, yardRefusal, yardRefusalIn, YardLayout, RisingYards}
 use Rattle.yard.proofs.Listing.{from-length, from-at, Rises, rises-facts, facts-rises, rises-distinct, inside-all, all-inside}
 
-yards-length : (b : List ℕ) → length (yardsOf b) ≡ yardCount b
+-- the list of a book's yards has as many as it counts, each where the book has it
+pub yards-length : (b : List ℕ) → length (yardsOf b) ≡ yardCount b
 unfolding yardsOf
 yards-length b = from-length b (yardCount b) 0
 
-yards-at : (b : List ℕ) (i : ℕ) → i < yardCount b → getD (yardsOf b) i 0 ≡ yardAt b i
+pub yards-at : (b : List ℕ) (i : ℕ) → i < yardCount b → getD (yardsOf b) i 0 ≡ yardAt b i
 unfolding yardsOf
 yards-at b i h =
     let z : 0 + i ≡ i = omega arith in

@@ -2,9 +2,10 @@
 use book::Junction;
 use book::Opened;
 ghost use mathlib.Core.Path.{_≡_};
-ghost use Prim.Native.Nat.{ℕ, _+_, _*_, _≤_, _<_};
+ghost use Prim.Native.Nat.{_+_, _*_, _≤_, _<_};
 ghost use lib.ListN.{length, getD};
-ghost use Rattle.yard.specs.Yards.{yardCount, yardsFrom, yardsOf, rises, yardRefusal, yardRefusalIn, yardBook, numberOf};
+ghost use Rattle.yard.specs.Yards.{yardCount, yardsFrom, yardsOf, rises};
+ghost use Rattle.yard.specs.Yards.{yardRefusal, yardRefusalIn, yardBook, numberOf};
 
 // What reading a yard book finds: how many yards it has, or the number of the test that turns it back.
 pub enum YardBook {
@@ -70,6 +71,14 @@ fn refusal(b: &[u8]) -> u8
     0
 }
 
+// How many yards a book has that is read.
+pub fn count(b: &[u8]) -> u16
+    requires { ⌜ yardRefusal (now b) ≡ 0 ⌝ }
+    ensures { λ r. ⌜ r ≡ yardCount (now (b .entry)) ⌝ }
+{
+    book::u16_at(b, 5)
+}
+
 // Reads a yard book: tests 1 to 5, each over the whole book before the next.
 pub fn read(b: &[u8]) -> YardBook
     ensures { λ r. ⌜ r ≡ yardBook (yardRefusal (now (b .entry))) (yardCount (now (b .entry))) ⌝ }
@@ -78,7 +87,7 @@ pub fn read(b: &[u8]) -> YardBook
     if why != 0 {
         return YardBook::Refused(why);
     }
-    YardBook::Yards(book::u16_at(b, 5))
+    YardBook::Yards(count(b))
 }
 
 // Yard number i of a book that is read.

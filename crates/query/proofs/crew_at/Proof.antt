@@ -1,5 +1,5 @@
 use borrow.Author.Needs.{needs}
-use Rattle.query.proofs.Crews.{read-crew}
+use Rattle.query.proofs.CrewList.{read-crew}
 use Rattle.query.proofs.crew_at.Statement.{statement}
 use Rattle.query.proofs.crew_at.Tie as tie
 

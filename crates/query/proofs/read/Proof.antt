@@ -1,46 +1,63 @@
-use borrow.Author.Needs.{needs}
 use mathlib.Core.Path.{_≡_, sym, _∙_}
 use native.Mathlib.Omega.{arith}
-use Prim.Native.Nat.{_≤_}
-use lib.ListN.{length}
-use Rattle.query.proofs.Reading.{passing, answer-refused, answer-asked}
+use Rattle.book.specs.Open.{openRefusal}
+use Rattle.book.proofs.Opening.{opened-body, opens}
+use Rattle.query.proofs.Reading.{not-opened, answer-refused, answer-asked}
+use borrow.Author.Needs.{needs}
 use Rattle.query.proofs.read.Statement.{statement}
 use Rattle.query.proofs.read.Tie as tie
 
--- past the test the header is whole
-headed : (c : tie.Else1) → 12 ≤ length (c .before .before .before .args .b .now)
-headed c = passing _ _ (sym (c .before .refusal .ensures) ∙ c .if1 .left) .opening .headed
+-- past the first `let else` the book opens
+body : (c : tie.After-enum-told) → openRefusal (c .before .before .before .before .args .b .now) 7 ≡ 0
+body c = opened-body _ (sym (c .before .before .«open» .ensures) ∙ c .enum-told .given .1)
 
-refusal-requires : tie.Need-refusal-requires
-refusal-requires c κs = search needs
+open-requires : tie.Need-open-requires
+open-requires c κs = search needs
+
+enum-told : tie.Need-enum-told
+enum-told c = search needs
+
+enum-known-o : tie.Need-enum-known-o
+enum-known-o c = search needs
+
+enum-known-o-2 : tie.Need-enum-known-o-2
+enum-known-o-2 c = search needs
+
+enum-told-2 : tie.Need-enum-told-2
+enum-told-2 c = search needs
 
 returns : tie.Need-returns
-returns c = answer-refused _ _ _ (c .before .refusal .ensures) (c .if1 .taken)
-
-u8-at-requires : tie.Need-u8-at-requires
-u8-at-requires c κs = omega (arith, headed c)
-
-u8-at-requires-2 : tie.Need-u8-at-requires-2
-u8-at-requires-2 c κs = omega (arith, headed (c .before))
-
-u32-at-requires : tie.Need-u32-at-requires
-u32-at-requires c κs = omega (arith, headed (c .before .before))
-
-u8-at-requires-3 : tie.Need-u8-at-requires-3
-u8-at-requires-3 c κs = omega (arith, headed (c .before .before .before))
+returns c = search needs
 
 returns-2 : tie.Need-returns-2
 returns-2 c =
-    answer-asked _ _ _ _ _ _ _ (c .before .before .before .before .before .refusal .ensures) (c .before .before .before .before .if1 .left) (c .before .before .before .u8-at .ensures) (c .before .before .u8-at2 .ensures) (c .before .u32-at .ensures) (c .u8-at3 .ensures)
+    not-opened _ _ _ (sym (c .before .before .before .before .before .before .«open» .ensures) ∙ c .before .before .before .before .o .given .1
+    ∙ c .before .o2 .given .1)
+
+header-requires : tie.Need-header-requires
+header-requires c κs = omega (arith, opens _ _ (body c) .headed)
+
+refusal-requires : tie.Need-refusal-requires
+refusal-requires c κs = (body (c .before), c .header .ensures)
+
+returns-3 : tie.Need-returns-3
+returns-3 c = answer-refused _ _ _ (c .before .refusal .ensures) (c .if1 .taken)
+
+returns-4 : tie.Need-returns-4
+returns-4 c = answer-asked _ _ _ _ (c .before .refusal .ensures) (c .if1 .left) (c .before .before .header .ensures)
 
 pub read-spec : {M : Type 1} → statement M
 read-spec =
     tie.close
     (tie.spec
-    refusal-requires
+    open-requires
+    enum-told
+    enum-known-o
+    enum-known-o-2
+    enum-told-2
     returns
-    u8-at-requires
-    u8-at-requires-2
-    u32-at-requires
-    u8-at-requires-3
-    returns-2)
+    returns-2
+    header-requires
+    refusal-requires
+    returns-3
+    returns-4)

@@ -6,6 +6,7 @@ use native.Mathlib.Nat.{sub-zero}
 use native.Mathlib.Omega.{arith}
 use Rattle.tree_layout.specs.Decode.{readList}
 use Rattle.tree_layout.specs.Refusal.{all}
+use Rattle.tree_layout.proofs.Accessing.{listed-yard}
 use Rattle.tree_leaf.specs.Table.{inTable}
 use Rattle.tree_leaf.proofs.Listing.{all-end}
 use Rattle.tree_leaf.proofs.Table.{in-beyond, in-absent, in-next}
@@ -13,40 +14,35 @@ use Rattle.tree_leaf.proofs.all_in.Statement.{statement}
 use Rattle.tree_leaf.proofs.all_in.Tie as tie
 
 abbrev Inv-loop : tie.InvT-loop
-Inv-loop p n table at₀ k₀ at k = (k ≤ n) × (at ≡ 6 * k) × (all (inTable table) (readList p (n - k) at) ≡ all (inTable table) (readList p n 0))
+Inv-loop p n table k₀ k =
+    (k ≤ n) × (all (inTable table) (readList p (n - k) (6 * k)) ≡ all (inTable table) (readList p n 0))
 
 abbrev μ-loop : tie.MeasureT-loop
-μ-loop p n table at₀ k₀ at k = n - k
+μ-loop p n table k₀ k = n - k
 
 loop-holds : tie.Need-loop-holds Inv-loop μ-loop
-loop-holds c = (omega arith, omega arith, simp sub-zero)
+loop-holds c = (omega arith, simp sub-zero)
 
-add-u16-at : tie.Need-add-u16-at Inv-loop μ-loop
-add-u16-at c = search needs
-
-u16-at-requires : tie.Need-u16-at-requires Inv-loop μ-loop
-u16-at-requires c κs = search needs
+element-requires : tie.Need-element-requires Inv-loop μ-loop
+element-requires c κs = search needs
 
 cast-i : tie.Need-cast-i Inv-loop μ-loop
 cast-i c = search needs
 
 returns : tie.Need-returns Inv-loop μ-loop
 returns c =
-    let w = c .before in
+    let w = c .before .before in
     let l = w .before in
-    sym (in-beyond _ _ _ _ _ _ (l .loop-test .taken) (w .u16-at .ensures) (c .if1 .taken)) ∙ l .before .loop .inv .2
+    sym (in-beyond _ _ _ _ _ (l .loop-test .taken) (listed-yard _ _ _ (w .element .ensures)) (omega (arith, c .if1 .taken))) ∙ l .before .loop .inv .1
 
 shared-slice-read-if2 : tie.Need-shared-slice-read-if2 Inv-loop μ-loop
 shared-slice-read-if2 c = search needs
 
 returns-2 : tie.Need-returns-2 Inv-loop μ-loop
 returns-2 c =
-    let w = c .before .before .before in
+    let w = c .before .before .before .before in
     let l = w .before in
-    sym (in-absent _ _ _ _ _ _ (l .loop-test .taken) (w .u16-at .ensures) (not-true _ (c .if2 .taken))) ∙ l .before .loop .inv .2
-
-add-at : tie.Need-add-at Inv-loop μ-loop
-add-at c = search needs
+    sym (in-absent _ _ _ _ _ (l .loop-test .taken) (listed-yard _ _ _ (w .element .ensures)) (not-true _ (c .if2 .taken))) ∙ l .before .loop .inv .1
 
 add-k : tie.Need-add-k Inv-loop μ-loop
 add-k c = search needs
@@ -56,12 +52,12 @@ loop-less c = search needs
 
 loop-again : tie.Need-loop-again Inv-loop μ-loop
 loop-again c =
-    let w = c .before .before .before in
+    let w = c .before .before .before .before in
     let l = w .before in
-    (omega arith, omega arith, in-next _ _ _ _ _ _ (l .loop-test .taken) (w .u16-at .ensures) (not-false _ (c .if2 .left)) ∙ l .before .loop .inv .2)
+    (omega arith, in-next _ _ _ _ _ (l .loop-test .taken) (listed-yard _ _ _ (w .element .ensures)) (not-false _ (c .if2 .left)) ∙ l .before .loop .inv .1)
 
 returns-3 : tie.Need-returns-3 Inv-loop μ-loop
-returns-3 c = sym (all-end _ _ _ _ _ (c .loop-test .left)) ∙ c .before .loop .inv .2
+returns-3 c = sym (all-end _ _ _ _ _ (c .loop-test .left)) ∙ c .before .loop .inv .1
 
 pub all-in-spec : {M : Type 1} → statement M
 all-in-spec =
@@ -70,13 +66,11 @@ all-in-spec =
     Inv-loop
     μ-loop
     loop-holds
-    add-u16-at
-    u16-at-requires
+    element-requires
     cast-i
     returns
     shared-slice-read-if2
     returns-2
-    add-at
     add-k
     loop-less
     loop-again

@@ -5,57 +5,58 @@ use Prim.Native.Nat.{_*_, _-_, _≤_, _<_}
 use native.Mathlib.Omega.{arith}
 use lib.ListN.{length, length-set, length-replicate}
 use Rattle.tree_layout.specs.Decode.{readList}
+use Rattle.tree_layout.proofs.Accessing.{listed-yard}
 use Rattle.tree_leaf.specs.Table.{tableOf, fits}
 use Rattle.tree_leaf.proofs.Table.{none-done, all-done, failed, fails-low, fails-high, fails-twice, one-more}
 use Rattle.tree_leaf.proofs.fill_table.Statement.{statement}
 use Rattle.tree_leaf.proofs.fill_table.Tie as tie
 
 abbrev Inv-loop : tie.InvT-loop
-Inv-loop p n low high table₀ k₀ table k =
-    (k ≤ n) × (length table ≡ 1024) × ((table ≡ tableOf (readList p (n - k) (6 * k))) × (fits low high (readList p (n - k) (6 * k)) ≡ true))
+Inv-loop p f table₀ k₀ table k =
+    (k ≤ f .yards) × (length table ≡ 1024) × ((table ≡ tableOf (readList p (f .yards - k) (6 * k))) × (fits (f .first) (f .after) (readList p
+    (f .yards - k) (6 * k)) ≡ true))
 
 abbrev μ-loop : tie.MeasureT-loop
-μ-loop p n low high table₀ k₀ table k = k
+μ-loop p f table₀ k₀ table k = k
 
 clear-requires : tie.Need-clear-requires Inv-loop μ-loop
 clear-requires c κs = search needs
 
+cast-k : tie.Need-cast-k Inv-loop μ-loop
+cast-k c = search needs
+
 loop-holds : tie.Need-loop-holds Inv-loop μ-loop
 loop-holds c =
-    let e = c .before .before .clear .ensures in
+    let e = c .before .before .before .clear .ensures in
     (omega arith, ap length e ∙ length-replicate 1024 false, none-done _ _ _ _ _ _ refl e)
 
 sub-k : tie.Need-sub-k Inv-loop μ-loop
 sub-k c = search needs
 
-mul-u16-at : tie.Need-mul-u16-at Inv-loop μ-loop
-mul-u16-at c = search needs
-
-add-u16-at : tie.Need-add-u16-at Inv-loop μ-loop
-add-u16-at c = search needs
-
-u16-at-requires : tie.Need-u16-at-requires Inv-loop μ-loop
-u16-at-requires c κs = search needs
+element-requires : tie.Need-element-requires Inv-loop μ-loop
+element-requires c κs = search needs
 
 same-length : tie.Need-same-length Inv-loop μ-loop
 same-length c = search needs
 
 returns : tie.Need-returns Inv-loop μ-loop
 returns c =
-    let w = c .before in
+    let w = c .before .before .before in
     let l = w .before in
     let z : 1 ≤ l .before .loop .k = omega (arith, l .loop-test .taken) in
-    failed _ _ _ _ _ (fails-low _ _ _ _ _ _ z (l .before .loop .inv .0) (w .u16-at .ensures) (c .if1 .taken))
+    failed _ _ _ _ _ (fails-low _ _ _ _ _ _ z (l .before .loop .inv .0) (listed-yard _ _ _ (w .element .ensures)) (omega (arith, c .if1 .taken)))
 
 same-length-2 : tie.Need-same-length-2 Inv-loop μ-loop
 same-length-2 c = search needs
 
 returns-2 : tie.Need-returns-2 Inv-loop μ-loop
 returns-2 c =
-    let w = c .before .before in
+    let d = c .before .before .before in
+    let w = d .before .before .before in
     let l = w .before in
     let z : 1 ≤ l .before .loop .k = omega (arith, l .loop-test .taken) in
-    failed _ _ _ _ _ (fails-high _ _ _ _ _ _ z (l .before .loop .inv .0) (w .u16-at .ensures) (c .before .if1 .left) (c .if2 .taken))
+    failed _ _ _ _ _ (fails-high _ _ _ _ _ _ z (l .before .loop .inv .0) (listed-yard _ _ _ (w .element .ensures)) (omega (arith, d .if1 .left)) (omega
+    (arith, c .if2 .taken)))
 
 cast-i : tie.Need-cast-i Inv-loop μ-loop
 cast-i c = search needs
@@ -68,12 +69,13 @@ same-length-3 c = search needs
 
 returns-3 : tie.Need-returns-3 Inv-loop μ-loop
 returns-3 c =
-    let e = c .before .before in
-    let w = e .before .before in
+    let e = c .before .before .before in
+    let w = e .before .before .before .before .before .before in
     let l = w .before in
     let z : 1 ≤ l .before .loop .k = omega (arith, l .loop-test .taken) in
-    let v : w .u16-at .result < 1024 = omega (arith, e .if2 .left) in
-    failed _ _ _ _ _ (fails-twice _ _ _ _ _ _ z (l .before .loop .inv .0) (w .u16-at .ensures) _ (l .before .loop .inv .2) v (c .if3 .taken))
+    let v : w .element .result .yard < 1024 = omega (arith, e .if2 .left, l .before .before .before .before .before .before .before .before .before .pre .1) in
+    failed _ _ _ _ _ (fails-twice _ _ _ _ _ _ z (l .before .loop .inv .0) (listed-yard _ _ _ (w .element .ensures)) _ (l .before .loop .inv .2) v
+    (c .if3 .taken))
 
 slice-write-table : tie.Need-slice-write-table Inv-loop μ-loop
 slice-write-table c = search needs
@@ -83,14 +85,17 @@ loop-less c = search needs
 
 loop-again : tie.Need-loop-again Inv-loop μ-loop
 loop-again c =
-    let e = c .before .before in
-    let w = e .before .before in
+    let e = c .before .before .before in
+    let d = e .before .before .before in
+    let w = d .before .before .before in
     let l = w .before in
     let z : 1 ≤ l .before .loop .k = omega (arith, l .loop-test .taken) in
-    let v : w .u16-at .result < 1024 = omega (arith, e .if2 .left) in (
+    let v : w .element .result .yard < 1024 = omega
+    (arith, e .if2 .left, l .before .before .before .before .before .before .before .before .before .pre .1) in (
       omega arith,
       simp length-set (omega arith),
-      one-more _ _ _ _ _ _ z (l .before .loop .inv .0) (w .u16-at .ensures) _ (l .before .loop .inv .2) v (c .if3 .left) (e .before .if1 .left) (e .if2 .left),
+      one-more _ _ _ _ _ _ z (l .before .loop .inv .0) (listed-yard _ _ _ (w .element .ensures)) _ (l .before .loop .inv .2) v (c .if3 .left) (omega
+          (arith, d .if1 .left)) (omega (arith, e .if2 .left)),
     )
 
 same-length-4 : tie.Need-same-length-4 Inv-loop μ-loop
@@ -106,11 +111,10 @@ fill-table-spec =
     Inv-loop
     μ-loop
     clear-requires
+    cast-k
     loop-holds
     sub-k
-    mul-u16-at
-    add-u16-at
-    u16-at-requires
+    element-requires
     same-length
     returns
     same-length-2

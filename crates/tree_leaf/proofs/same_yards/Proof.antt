@@ -4,10 +4,6 @@ use Rattle.tree_leaf.proofs.Table.{list-fails, same-not-named, same-by-
 use borrow.Author.Needs.{needs}
 use Rattle.tree_leaf.proofs.same_yards.Statement.{statement}
 use Rattle.tree_leaf.proofs.same_yards.Tie as tie
-use Rattle.tree_leaf.proofs.same_yards.Reads as reads
-use Rattle.tree_leaf.proofs.same_yards.Lts as lts
-use Rattle.tree_leaf.proofs.all_in.Reads as all-in-reads
-use Rattle.tree_leaf.proofs.fill_table.Reads as fill-table-reads
 
 fill-table-requires : tie.Need-fill-table-requires
 fill-table-requires c κs = search needs
@@ -20,6 +16,9 @@ returns c =
     let t = c .before .before .before in
     sym (list-fails _ _ _ _ (sym (t .fill-table .ensures .0) ∙ not-true _ (c .if1 .taken)))
 
+cast-all-in : tie.Need-cast-all-in
+cast-all-in c = search needs
+
 all-in-requires : tie.Need-all-in-requires
 all-in-requires c κs = search needs
 
@@ -28,11 +27,13 @@ same-length-2 c = search needs
 
 returns-2 : tie.Need-returns-2
 returns-2 c =
-    let a = c .before in
-    let t = a .before .before .before .before in
-    let s = t .before .before .before .before .before .before in
-    let g = sym (t .fill-table .ensures .0) ∙ not-false _ (a .before .if1 .left) in
-    sym (same-not-named _ _ _ _ (s .pre .2) (s .pre .4) g _ (s .pre .5) (sym (a .all-in .ensures) ∙ not-true _ (c .if2 .taken)))
+    let t = c .before .before .before .before .before .before in
+    let s = c .before .before .before .before .before .before .before .before .before .before .before .before in
+    let g = sym (t .fill-table .ensures .0) ∙ not-false _ (c .before .before .before .if1 .left) in
+    sym (same-not-named _ _ _ _ (s .pre .2) (s .pre .4) g _ (s .pre .5) (sym (c .before .all-in .ensures) ∙ not-true _ (c .if2 .taken)))
+
+cast-all-in-2 : tie.Need-cast-all-in-2
+cast-all-in-2 c = search needs
 
 all-in-requires-2 : tie.Need-all-in-requires-2
 all-in-requires-2 c κs = search needs
@@ -42,13 +43,12 @@ same-length-3 c = search needs
 
 returns-3 : tie.Need-returns-3
 returns-3 c =
-    let e = c .before .before in
-    let a = e .before in
-    let t = a .before .before .before .before in
-    let s = t .before .before .before .before .before .before in
-    let r = not-false _ (a .before .if1 .left) in
+    let t = c .before .before .before .before .before .before .before .before .before in
+    let s = c .before .before .before .before .before .before .before .before .before .before .before .before .before .before .before in
+    let r = not-false _ (c .before .before .before .before .before .before .if1 .left) in
     let g = sym (t .fill-table .ensures .0) ∙ r in
-    c .all-in2 .ensures ∙ sym (same-by-table _ _ _ _ (s .pre .2) (s .pre .4) g _ _ (s .pre .5) (sym (a .all-in .ensures) ∙ not-false _ (e .if2 .left)) (t .fill-table .ensures .1 r))
+    c .all-in2 .ensures ∙ sym (same-by-table _ _ _ _ (s .pre .2) (s .pre .4) g _ _ (s .pre .5) (sym (c .before .before .before .before .all-in .ensures)
+    ∙ not-false _ (c .before .before .before .if2 .left)) (t .fill-table .ensures .1 r))
 
 pub same-yards-spec : {M : Type 1} → statement M
 same-yards-spec =
@@ -57,9 +57,11 @@ same-yards-spec =
     fill-table-requires
     same-length
     returns
+    cast-all-in
     all-in-requires
     same-length-2
     returns-2
+    cast-all-in-2
     all-in-requires-2
     same-length-3
     returns-3)

@@ -37,12 +37,12 @@ yard-at-requires c κs = (found c .0, omega (arith, found c .1, count-small _ (f
 returns-2 : tie.Need-returns-2
 returns-2 c =
     let w = c .before .before .before .before in
-    beside-outside _ _ _ (w .before .before .read .ensures) _ (w .o .given .1) _ (c .before .before .yard-at .ensures) (c .if1 .taken)
+    beside-outside _ _ _ (w .before .before .read .ensures) _ (w .o .given .1) _ (c .before .before .yard-at .ensures) (omega (arith, c .if1 .taken))
 
 returns-3 : tie.Need-returns-3
 returns-3 c =
     let w = c .before .before .before .before in
-    beside-inside _ _ _ (w .before .before .read .ensures) _ (w .o .given .1) _ (c .before .before .yard-at .ensures) (c .if1 .left)
+    beside-inside _ _ _ (w .before .before .read .ensures) _ (w .o .given .1) _ (c .before .before .yard-at .ensures) (omega (arith, c .if1 .left))
 
 pub read-in-spec : {M : Type 1} → statement M
 read-in-spec =

@@ -1,3 +1,4 @@
+use native.Mathlib.Omega.{arith}
 use mathlib.Core.Path.{_≡_, sym, _∙_}
 use borrow.Author.Tests.{not-true, not-false}
 use Rattle.book.specs.Open.{openRefusal}
@@ -44,12 +45,12 @@ cast-count c = search needs
 returns-3 : tie.Need-returns-3
 returns-3 c =
     let w = c .before in
-    sym (none _ (body (w .before)) _ (w .u16-at .ensures) (c .if1 .taken))
+    sym (none _ (body (w .before)) _ (w .u16-at .ensures) (omega (arith, c .if1 .taken)))
 
 returns-4 : tie.Need-returns-4
 returns-4 c =
     let w = c .before .before in
-    sym (many _ (body (w .before)) _ (w .u16-at .ensures) (c .before .if1 .left) (c .if2 .taken))
+    sym (many _ (body (w .before)) _ (w .u16-at .ensures) (omega (arith, c .before .if1 .left)) (omega (arith, c .if2 .taken)))
 
 mul-if3 : tie.Need-mul-if3
 mul-if3 c = search needs
@@ -60,7 +61,8 @@ add-if3 c = search needs
 returns-5 : tie.Need-returns-5
 returns-5 c =
     let w = c .before .before .before in
-    sym (unsized _ (body (w .before)) _ (w .u16-at .ensures) (c .before .before .if1 .left) (c .before .if2 .left) (c .if3 .taken))
+    sym (unsized _ (body (w .before)) _ (w .u16-at .ensures) (omega (arith, c .before .before .if1 .left)) (omega (arith, c .before .if2 .left))
+    (c .if3 .taken))
 
 yards-rise-requires : tie.Need-yards-rise-requires
 yards-rise-requires c κs = search needs
@@ -69,14 +71,15 @@ returns-6 : tie.Need-returns-6
 returns-6 c =
     let v = c .before .before in
     let w = v .before .before .before in
-    sym (unordered _ (body (w .before)) _ (w .u16-at .ensures) (v .before .before .if1 .left) (v .before .if2 .left) (v .if3 .left)
+    sym (unordered _ (body (w .before)) _ (w .u16-at .ensures) (omega (arith, v .before .before .if1 .left)) (omega (arith, v .before .if2 .left))
+    (v .if3 .left)
     (sym (c .before .yards-rise .ensures) ∙ not-true _ (c .if4 .taken)))
 
 returns-7 : tie.Need-returns-7
 returns-7 c =
     let v = c .before .before in
     let w = v .before .before .before in
-    sym (sound _ (body (w .before)) _ (w .u16-at .ensures) (v .before .before .if1 .left) (v .before .if2 .left) (v .if3 .left)
+    sym (sound _ (body (w .before)) _ (w .u16-at .ensures) (omega (arith, v .before .before .if1 .left)) (omega (arith, v .before .if2 .left)) (v .if3 .left)
     (sym (c .before .yards-rise .ensures) ∙ not-false _ (c .if4 .left)))
 
 pub refusal-spec : {M : Type 1} → statement M

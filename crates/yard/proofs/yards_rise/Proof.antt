@@ -30,12 +30,13 @@ u16-at-requires c κs = search needs
 returns : tie.Need-returns Inv-loop μ-loop
 returns c =
     let w = c .before in
-    sym (falls _ _ _ _ _ (w .before .loop-test .taken) (w .u16-at .ensures) (c .if1 .taken)) ∙ w .before .before .loop .inv .1
+    sym (falls _ _ _ _ _ (w .before .loop-test .taken) (w .u16-at .ensures) (omega (arith, c .if1 .taken))) ∙ w .before .before .loop .inv .1
 
 returns-2 : tie.Need-returns-2 Inv-loop μ-loop
 returns-2 c =
     let w = c .before .before in
-    sym (high _ _ _ _ _ (w .before .loop-test .taken) (w .u16-at .ensures) (c .before .if1 .left) (c .if2 .taken)) ∙ w .before .before .loop .inv .1
+    sym (high _ _ _ _ _ (w .before .loop-test .taken) (w .u16-at .ensures) (omega (arith, c .before .if1 .left)) (omega (arith, c .if2 .taken)))
+    ∙ w .before .before .loop .inv .1
 
 add-low : tie.Need-add-low Inv-loop μ-loop
 add-low c = search needs
@@ -51,7 +52,7 @@ loop-again c =
     let w = c .before .before in
     let i = w .before .before in (
       omega arith,
-      goes-on _ _ _ _ _ (w .before .loop-test .taken) (w .u16-at .ensures) (c .before .if1 .left) (c .if2 .left)
+      goes-on _ _ _ _ _ (w .before .loop-test .taken) (w .u16-at .ensures) (omega (arith, c .before .if1 .left)) (omega (arith, c .if2 .left))
           ∙ i .loop .inv .1,
     )
 

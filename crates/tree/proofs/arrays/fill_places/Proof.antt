@@ -1,4 +1,5 @@
 use Rattle.tree_layout.proofs.Places.{place-first}
+use Rattle.tree_layout.proofs.Accessing.{its-regions, its-landmarks}
 use borrow.Author.Needs.{needs}
 use mathlib.Core.Path.{_≡_, sym, ap, _∙_}
 use Prim.Native.Nat.{_-_, _≤_}
@@ -17,14 +18,11 @@ Inv-loop b places₀ n m at₀ i₀ places at i =
 abbrev μ-loop : tie.MeasureT-loop
 μ-loop b places₀ n m at₀ i₀ places at i = n - i
 
-u16-at-requires : tie.Need-u16-at-requires Inv-loop μ-loop
-u16-at-requires c κs = search needs
+header-requires : tie.Need-header-requires Inv-loop μ-loop
+header-requires c κs = omega (arith, c .before .before .pre .0 .opens .headed)
 
 cast-n : tie.Need-cast-n Inv-loop μ-loop
 cast-n c = search needs
-
-u8-at-requires : tie.Need-u8-at-requires Inv-loop μ-loop
-u8-at-requires c κs = search needs
 
 cast-m : tie.Need-cast-m Inv-loop μ-loop
 cast-m c = search needs
@@ -37,21 +35,21 @@ mul-places c = search needs
 
 slice-write-places : tie.Need-slice-write-places Inv-loop μ-loop
 slice-write-places c =
-    let d = c .before .before in
-    let s = d .before .before .before .before in
-    place-slot _ (s .pre .0) _ _ (d .before .u16-at .ensures) (d .u8-at .ensures) _ _ _ _ (c .loop-test .taken) (s .pre .1) (c .before .loop .inv .2)
+    let s = c .before .before .before .before .before .before .before in
+    place-slot _ (s .pre .0) _ _ (its-regions _ _ (c .before .before .before .before .header .ensures)) (its-landmarks _ _
+    (c .before .before .before .before .header .ensures)) _ _ _ _ (c .loop-test .taken) (s .pre .1) (c .before .loop .inv .2)
 
 size-at-requires : tie.Need-size-at-requires Inv-loop μ-loop
 size-at-requires c κs =
-    let d = c .before .before in
-    let s = d .before .before .before .before in
-    place-room _ (s .pre .0) _ _ (d .before .u16-at .ensures) (d .u8-at .ensures) _ _ (c .loop-test .taken) (c .before .loop .inv .1)
+    place-room _ (c .before .before .before .before .before .before .before .pre .0) _ _ (its-regions _ _
+    (c .before .before .before .before .header .ensures)) (its-landmarks _ _ (c .before .before .before .before .header .ensures)) _ _
+    (c .loop-test .taken) (c .before .loop .inv .1)
 
 add-at : tie.Need-add-at Inv-loop μ-loop
 add-at c =
-    let d = c .before .before .before in
-    let s = d .before .before .before .before in
-    let h = place-end _ (s .pre .0) _ _ (d .before .u16-at .ensures) (d .u8-at .ensures) _ _ (c .before .loop-test .taken) (c .before .before .loop .inv .1) _ (c .size-at .ensures) in
+    let h = place-end _ (c .before .before .before .before .before .before .before .before .pre .0) _ _ (its-regions _ _
+    (c .before .before .before .before .before .header .ensures)) (its-landmarks _ _ (c .before .before .before .before .before .header .ensures)) _ _
+    (c .before .loop-test .taken) (c .before .before .loop .inv .1) _ (c .size-at .ensures) in
     search needs
 
 add-i : tie.Need-add-i Inv-loop μ-loop
@@ -62,11 +60,11 @@ loop-less c = search needs
 
 loop-again : tie.Need-loop-again Inv-loop μ-loop
 loop-again c =
-    let d = c .before .before .before in
-    let s = d .before .before .before .before in
     let l = c .before .before .loop in (
       omega arith,
-      place-next _ (s .pre .0) _ _ (d .before .u16-at .ensures) (d .u8-at .ensures) _ _ (c .before .loop-test .taken) (l .inv .1) _ (c .size-at .ensures),
+      place-next _ (c .before .before .before .before .before .before .before .before .pre .0) _ _ (its-regions _ _
+          (c .before .before .before .before .before .header .ensures)) (its-landmarks _ _ (c .before .before .before .before .before .header .ensures)) _ _
+          (c .before .loop-test .taken) (l .inv .1) _ (c .size-at .ensures),
       rw (l .inv .2, l .inv .1) (overwrite-next _ _ _),
     )
 
@@ -75,9 +73,9 @@ same-length c = ap length (c .before .loop .inv .2) ∙ overwrite-length _ _ _
 
 returns : tie.Need-returns Inv-loop μ-loop
 returns c =
-    let d = c .before .before in
-    let s = d .before .before .before .before in
-    c .before .loop .inv .2 ∙ places-done _ (s .pre .0) _ _ (d .before .u16-at .ensures) (d .u8-at .ensures) _ _ _ (c .before .loop .inv .0) (c .loop-test .left)
+    c .before .loop .inv .2 ∙ places-done _ (c .before .before .before .before .before .before .before .pre .0) _ _ (its-regions _ _
+    (c .before .before .before .before .header .ensures)) (its-landmarks _ _ (c .before .before .before .before .header .ensures)) _ _ _
+    (c .before .loop .inv .0) (c .loop-test .left)
 
 pub fill-places-spec : {M : Type 1} → statement M
 fill-places-spec =
@@ -85,9 +83,8 @@ fill-places-spec =
     (tie.spec
     Inv-loop
     μ-loop
-    u16-at-requires
+    header-requires
     cast-n
-    u8-at-requires
     cast-m
     loop-holds
     mul-places

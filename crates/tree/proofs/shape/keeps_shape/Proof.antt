@@ -1,3 +1,5 @@
+use Rattle.tree_layout.proofs.Accessing.{its-yards}
+use Rattle.tree.proofs.Fielding.{laid-header}
 use Rattle.tree.proofs.Recursing.{not-all, takes-all}
 use borrow.Author.Needs.{needs}
 use Rattle.tree.proofs.shape.keeps_shape.Statement.{statement}
@@ -15,15 +17,16 @@ returns c = not-all _ _ (c .before .before .before .before .before .pre) _ (c .b
 fields-requires : tie.Need-fields-requires
 fields-requires c κs = search needs
 
-u16-at-requires : tie.Need-u16-at-requires
-u16-at-requires c κs = search needs
+header-requires : tie.Need-header-requires
+header-requires c κs = laid-header _ _ (c .before .before .before .before .before .before .pre)
 
 returns-2 : tie.Need-returns-2
 returns-2 c =
-    let e = c .before .before .before in
-    takes-all _ _ (e .before .before .before .before .before .pre) _ (e .before .before .subtree-end .ensures) (e .if1 .left) _ (c .before .before .fields .ensures) _ (c .before .u16-at .ensures)
+    takes-all _ _ (c .before .before .before .before .before .before .before .before .before .pre) _
+    (c .before .before .before .before .before .before .subtree-end .ensures) (c .before .before .before .before .if1 .left) _
+    (c .before .before .before .fields .ensures) _ (its-yards _ _ (c .before .before .header .ensures))
 
 pub keeps-shape-spec : {M : Type 1} → statement M
 keeps-shape-spec =
     tie.close
-    (tie.spec subtree-end-requires cast-if1 returns fields-requires u16-at-requires returns-2)
+    (tie.spec subtree-end-requires cast-if1 returns fields-requires header-requires returns-2)

@@ -7,7 +7,8 @@ use Prim.Native.Nat.{ℕ, zero, suc, _+_, _-_, _*_, _≤_, _<_}
 use native.Mathlib.Decide.{ℕ-discrete}
 use native.Mathlib.Omega.{arith}
 use borrow.Author.Tests.{lt-ltb, le-ltb}
-use lib.ListN.{length, getD}
+use lib.ListN.{length, getD, set, take}
+use lib.Seq.{getD-set-same, getD-set-other, ext-getD, length-take-le, getD-take}
 use lib.Dec.{T, ltb, ltb→lt, lt→ltb}
 use Rattle.book.specs.Bytes.{u16At}
 use Rattle.book.proofs.Choosing.{and-left, and-right, and-both}
@@ -18,18 +19,24 @@ pub read-crew : (b : List ℕ) (i x : ℕ) → x ≡ u16At b (12 + 2 * i) → x 
 unfolding crewAt
 read-crew b i x e = e
 
-module _ (b : List ℕ) (n count k x : ℕ) (read : x ≡ u16At b (12 + 2 * k)) where
+module _ (b : List ℕ) (n count k x : ℕ) (read : x ≡ crewAt b k) where
   pub goes-on : k < count → x < n → inside n (crewsFrom b (count - (k + 1)) (k + 1)) ≡ inside n (crewsFrom b (count - k) k)
   unfolding crewsFrom inside
   goes-on p h =
       let s : count - k ≡ suc (count - (k + 1)) = omega arith in
-      simp (s, ← read-crew b k x read, lt-ltb x n h)
+      simp (s, ← read, lt-ltb x n h)
 
   pub stops : k < count → n ≤ x → inside n (crewsFrom b (count - k) k) ≡ false
   unfolding crewsFrom inside
   stops p h =
       let s : count - k ≡ suc (count - (k + 1)) = omega arith in
-      simp (s, ← read-crew b k x read, le-ltb x n h)
+      simp (s, ← read, le-ltb x n h)
+
+pub starts : (b : List ℕ) (n count : ℕ) → count ≡ crewCount b → inside n (crewsFrom b (count - 0) 0) ≡ inside n (crewsOf b)
+unfolding crewsOf
+starts b n count e =
+    let s : count - 0 ≡ crewCount b = omega arith in
+    ap (λ (k : ℕ). inside n (crewsFrom b k 0)) s
 
 pub ends : (b : List ℕ) (n count k : ℕ) → count ≤ k → inside n (crewsFrom b (count - k) k) ≡ true
 unfolding crewsFrom inside
@@ -93,3 +100,23 @@ module _ (b : List ℕ) where
   pub crews-at : (j : ℕ) → j < crewCount b → getD (crewsOf b) j 0 ≡ crewAt b j
   unfolding crewsOf
   crews-at j h = let e : 0 + j ≡ j = omega arith in at-from (crewCount b) 0 j h ∙ ap (crewAt b) e
+
+-- ---- copies of their junctions
+
+module _ (b out : List ℕ) where
+  -- one crew more
+  pub copied-next : (i x : ℕ) → i < length out → x ≡ crewAt b i → ((j : ℕ) → j < i → getD out j 0 ≡ crewAt b j)
+      → (j : ℕ) → j < i + 1 → getD (set out i x) j 0 ≡ crewAt b j
+  copied-next i x room e f j h = go (ℕ-discrete i j)
+    where
+      go : Dec (i ≡ j) → getD (set out i x) j 0 ≡ crewAt b j
+      go (yes s) = rw (← s) (getD-set-same out i x 0 room ∙ e)
+      go (no s) = getD-set-other out i j x 0 (λ z. s (sym z)) ∙ f j (omega arith)
+
+  -- all of them
+  pub copied-all : (n i : ℕ) → n ≡ crewCount b → n ≤ length out → ((j : ℕ) → j < i → getD out j 0 ≡ crewAt b j) → n ≤ i
+      → take (crewCount b) out ≡ crewsOf b
+  copied-all n i e room f h =
+      let l : length (take (crewCount b) out) ≡ crewCount b = length-take-le (crewCount b) out (omega arith) in
+      ext-getD 0 (take (crewCount b) out) (crewsOf b) (l ∙ sym (crews-length b))
+      (λ j p. getD-take (crewCount b) out j 0 (omega arith) ∙ f j (omega arith) ∙ sym (crews-at b j (omega arith)))
