@@ -10,7 +10,8 @@ ghost use Rattle.road_layout.specs.Road.{junctions};
 ghost use Rattle.adjacency.specs.Arcs.{net};
 ghost use Rattle.adjacency.specs.Adjacency.{countIn, Adjacency, IsAdjacency};
 ghost use Rattle.road.specs.Dijkstra.{far, at, distances};
-ghost use Rattle.road.specs.Queue.{mark, reach, Above, shortenBoth, relaxBoth, Walking, WalkingIn, IsWalking, Roomy};
+ghost use Rattle.road.specs.Queue.{mark, reach, Above, shortenBoth, relaxBoth};
+ghost use Rattle.road.specs.Queue.{Walking, WalkingIn, IsWalking, Roomy};
 
 // The mark of a junction that is not reached, and the word of one that is not queued.
 pub const FAR: u32 = 4294967295;

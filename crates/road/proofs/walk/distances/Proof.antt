@@ -38,9 +38,9 @@ cast-n c = search needs
 
 loop-holds : tie.Need-loop-holds Inv-loop μ-loop
 loop-holds c =
-    let p = c .before .before .before .before .before .before .before .before .before .before .before .pre in
-    let w = walking-start (c .before .before .before .before .before .before .before .before .before .before .before .args .adj .now) (c .before .before .before .before .before .start .ensures) in
-    let z = walking-sizes _ _ _ _ _ _ (p .2) w (p .0) in
+    let s = c .before .before .before .before .before .before .before .before .before .before .before in
+    let w = walking-start (s .args .adj .now) (c .before .before .before .before .before .start .ensures) in
+    let z = walking-sizes _ _ _ _ _ _ (s .pre .2) w (s .pre .0) in
     (omega arith, z .distances, z .marks, z .words, λ source below v. v)
 
 slice-aggregate-round : tie.Need-slice-aggregate-round Inv-loop μ-loop
@@ -55,7 +55,8 @@ round-requires c κs =
     let s = far .before .before .before .before .before .before in
     let l = c .before .before .before .before .loop in
     let w = walking-start (s .args .adj .now) (far .start .ensures) in
-    let less : l .k < countIn (s .args .adj .now) = omega (arith, c .before .before .before .before .before .junctions .ensures, c .before .before .before .loop-test .taken) in
+    let less : l .k < countIn (s .args .adj .now) =
+    omega (arith, c .before .before .before .before .before .junctions .ensures, c .before .before .before .loop-test .taken) in
     (s .pre .0, record { source = _; round = _; below = s .pre .2; unfinished = less; walking = l .inv .4 _ (s .pre .2) w })
 
 add-k : tie.Need-add-k Inv-loop μ-loop
