@@ -39,7 +39,8 @@ module _ (b : List ℕ) where
     pub cut-off : reached (distances (net b) (junctions b) 0) (junctions b) ≡ false → Refused 6 ≡ told (roadRefusal b) (junctions b) (roadCount b)
     unfolding roadRefusal
     cut-off t =
-        sym (ap (λ (x : ℕ). told x (junctions b) (roadCount b)) (first-later (layoutRefusal b) _ z ∙ fails-if _ 6 0 t) ∙ told-refused 6 (junctions b) (roadCount b) (omega arith))
+        sym (ap (λ (x : ℕ). told x (junctions b) (roadCount b)) (first-later (layoutRefusal b) _ z ∙ fails-if _ 6 0 t)
+        ∙ told-refused 6 (junctions b) (roadCount b) (omega arith))
 
     pub sound : (n r : ℕ) → reached (distances (net b) (junctions b) 0) (junctions b) ≡ true → n ≡ junctions b → r ≡ roadCount b
         → Sound n r ≡ told (roadRefusal b) (junctions b) (roadCount b)

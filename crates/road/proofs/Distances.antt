@@ -5,7 +5,6 @@ use mathlib.Core.List.{List}
 use Prim.Native.Nat.{ℕ, _+_, _*_, _≤_, _<_}
 use native.Mathlib.Decide.{ℕ-discrete}
 use native.Mathlib.Omega.{arith}
-use lib.ListN.{length}
 use lib.Dec.{T}
 use Rattle.road_layout.specs.Road.{Road}
 use Rattle.adjacency.specs.Arcs.{Arc, arcs}
@@ -69,11 +68,6 @@ module _ (net : List Arc) (n : ℕ) (small : n ≤ width) (sound : Sound n net) 
     pub dist-bound-all : (v : ℕ) → along-arcs net n source v ≢ far → along-arcs net n source v ≤ 1023 * 65535
     dist-bound-all v h = omega (arith, dist-bound v h)
 
-    -- There is a distance, or the mark, for each junction that a book may have.
-    pub distances-length : length (distances net n source) ≡ width
-    unfolding distances
-    distances-length = inv .size
-
     pub dist-self : along-arcs net n source source ≡ 0
     unfolding distances
     dist-self = inv .home
@@ -90,7 +84,8 @@ module _ (net : List Arc) (n : ℕ) (small : n ≤ width) (sound : Sound n net) 
       reached e = dist-none u bu w e (along-arcs net n u v + along-arcs net n v w) legs
 
 -- Along roads the distance there is the distance back, the mark too.
-pub dist-symmetric : (rs : List Road) (n : ℕ) → n ≤ width → Sound n (arcs rs) → (u v : ℕ) → u < n → v < n → along-arcs (arcs rs) n u v ≡ along-arcs (arcs rs) n v u
+pub dist-symmetric : (rs : List Road) (n : ℕ) → n ≤ width → Sound n (arcs rs) → (u v : ℕ) → u < n → v < n
+    → along-arcs (arcs rs) n u v ≡ along-arcs (arcs rs) n v u
 dist-symmetric rs n small sound u v bu bv = go (ℕ-discrete (along-arcs (arcs rs) n u v) far) (ℕ-discrete (along-arcs (arcs rs) n v u) far)
   where
     none : (u v : ℕ) → u < n → v < n → along-arcs (arcs rs) n u v ≡ far → along-arcs (arcs rs) n v u ≢ far → ⊥

@@ -35,7 +35,8 @@ module _ (st : State) where
   pick-below zero h = omega arith
   pick-below (suc zero) h = choose-case (λ p. p < 1) (ltb (score st 0) (score st 0)) (λ t. omega arith) (λ t. omega arith)
   pick-below (suc (suc k)) h =
-      choose-case (λ p. p < suc (suc k)) (ltb (score st (suc k)) (score st (pick st (suc k)))) (λ t. omega arith) (λ t. omega (arith, pick-below (suc k) (omega arith)))
+      choose-case (λ p. p < suc (suc k)) (ltb (score st (suc k)) (score st (pick st (suc k)))) (λ t. omega arith)
+      (λ t. omega (arith, pick-below (suc k) (omega arith)))
 
   pub pick-least : (k v : ℕ) → v < k → score st (pick st k) ≤ score st v
   unfolding pick nearer

@@ -104,7 +104,8 @@ module _ {net : List Arc} {n source j : ℕ} {st : State} (small : n ≤ width) 
         near′ v h (inl e) = omega (arith, inv .near v (rw e at h))
         near′ v h (inr x) = omega (arith, sound (x .arc) (x .mem) .few, inv .near u reached)
 
-        settled′ : (a : Arc) → List·Memᴰ a net → T (walked done (a .from)) → (a .from ≡ u) ⊎ T (walked (st .done) (a .from)) → at es (a .to) ≤ at es (a .from) + a .seconds
+        settled′ : (a : Arc) → List·Memᴰ a net → T (walked done (a .from)) → (a .from ≡ u) ⊎ T (walked (st .done) (a .from))
+            → at es (a .to) ≤ at es (a .from) + a .seconds
         settled′ a m t (inl f) = rw (kept (a .from) t, f) (relaxed .arrive a m f)
         settled′ a m t (inr k) = omega (arith, kept (a .from) t, inv .settled a m k, relaxed .lower (a .to))
 

@@ -199,13 +199,15 @@ module _ (b : List ℕ) (source k : ℕ) (ds : List ℕ) (done : List Bool) (que
 
       rounded′ : state ds′ (set done u true) ≡ roundAt (net b) st (pick st (junctions b))
       rounded′ =
-          on-state ds′ ds done u (net b) (ap (λ (r : Reach). r .ds) e ∙ relax-ds u d (net b) (reach ds (putLeaf queue u mark)) ∙ ap (λ (x : ℕ). relax u x (net b) ds) (sym (own h)))
+          on-state ds′ ds done u (net b)
+          (ap (λ (r : Reach). r .ds) e ∙ relax-ds u d (net b) (reach ds (putLeaf queue u mark)) ∙ ap (λ (x : ℕ). relax u x (net b) ds) (sym (own h)))
           ∙ rw (nearest h .picked) (sym (round-on (net b) st (pick st (junctions b)) (rw (← nearest h .picked) (rw (nearest h .scored) (nearest h .reached)))))
 
   -- none is left to walk on from
   round-rests : mark ≤ top queue → Walking b source (k + 1) ds done queue
   round-rests h = record {
-    rounded = sym (round-off (net b) st (pick st (junctions b)) (top-none queue st (w .queued) (pick st (junctions b)) (omega (arith, pick-below st (junctions b) (omega arith), small)) h))
+    rounded = sym (round-off (net b) st (pick st (junctions b))
+        (top-none queue st (w .queued) (pick st (junctions b)) (omega (arith, pick-below st (junctions b) (omega arith), small)) h))
         ∙ sym (rounds-more (net b) (junctions b) k (start source) st (w .rounded));
     queued = w .queued;
   }
@@ -288,7 +290,8 @@ started b source h = record {
         ∙ sym (word-queued (state ds done) source (rw s (omega arith)) ∙ ap (λ (y : ℕ). word y source) s))
     words v l (no n) =
         put-other (replicate queueWords mark) source source v h n ∙ cleared-leaf mark v l
-        ∙ sym (word-marked (state ds done) v (rw (score-open (state ds done) v (none v) ∙ at-set-other (replicate 1024 far) source v 0 n ∙ at-replicate 1024 v) (omega arith)))
+        ∙ sym (word-marked (state ds done) v (rw (score-open (state ds done) v (none v)
+        ∙ at-set-other (replicate 1024 far) source v 0 n ∙ at-replicate 1024 v) (omega arith)))
 
 -- the same, by the parts that were written
 pub starts-by : (b : List ℕ) (source : ℕ) (ds queue queue′ : List ℕ) (done : List Bool) → source < width → ds ≡ replicate 1024 far → done ≡ replicate 1024 false

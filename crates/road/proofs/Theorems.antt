@@ -140,7 +140,8 @@ module _ (b : List ℕ) where
   unfolding roadRefusal
   cut-off-exact = (λ e. there e (ℕ-discrete (layoutRefusal b) 0), λ c. back-again (c .0) (c .1))
     where
-      last : refuse (reached from-zero (junctions b)) 6 0 ≡ 6 → T (reached from-zero (junctions b)) ⊎ T (not (reached from-zero (junctions b))) → T (not (reached from-zero (junctions b)))
+      last : refuse (reached from-zero (junctions b)) 6 0 ≡ 6
+          → T (reached from-zero (junctions b)) ⊎ T (not (reached from-zero (junctions b))) → T (not (reached from-zero (junctions b)))
       last e (inl t) = absurd (omega (arith, sym (passes (reached from-zero (junctions b)) 6 0 t) ∙ e))
       last e (inr t) = t
 

@@ -10,7 +10,7 @@ use Rattle.book.specs.Choose.{choose}
 use Rattle.tournament.specs.Tournament.{queueWords, putLeaf, leaf, Tournament}
 use Rattle.road_layout.specs.Road.{junctions}
 use Rattle.adjacency.specs.Arcs.{Arc, net}
-use Rattle.adjacency.specs.Adjacency.{Adjacency}
+use Rattle.adjacency.specs.Adjacency.{countIn, Adjacency}
 use Rattle.road.specs.Dijkstra.{far, width, at, State, score, start, rounds}
 
 abbrev pub state : List ℕ → List Bool → State
@@ -63,6 +63,14 @@ pub record Walking (b : List ℕ) (source k : ℕ) (ds : List ℕ) (done : List 
 -- They do so in every road book whose adjacency the array is.
 abbrev pub WalkingIn : List ℕ → ℕ → ℕ → List ℕ → List Bool → List ℕ → Type 0
 WalkingIn adj source k ds done queue = (b : List ℕ) → Adjacency b adj → Walking b source k ds done queue
+
+-- The arrays are those of some walk that has a round left.
+pub record IsWalking (adj ds : List ℕ) (done : List Bool) (queue : List ℕ) : Type 0 where
+  pub source : ℕ
+  pub round : ℕ
+  pub below : source < countIn adj
+  pub unfinished : round < countIn adj
+  pub walking : WalkingIn adj source round ds done queue
 
 -- The arrays' lengths.
 pub record Roomy (ds : List ℕ) (done : List Bool) (queue : List ℕ) : Type 0 where

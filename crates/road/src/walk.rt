@@ -10,7 +10,8 @@ ghost use Rattle.road_layout.specs.Road.{junctions};
 ghost use Rattle.adjacency.specs.Arcs.{net};
 ghost use Rattle.adjacency.specs.Adjacency.{countIn, Adjacency, IsAdjacency};
 ghost use Rattle.road.specs.Dijkstra.{far, at, distances};
-ghost use Rattle.road.specs.Queue.{mark, reach, Above, shortenBoth, relaxBoth, Walking, WalkingIn, Roomy};
+ghost use Rattle.road.specs.Queue.{mark, reach, Above, shortenBoth, relaxBoth};
+ghost use Rattle.road.specs.Queue.{Walking, WalkingIn, IsWalking, Roomy};
 
 // The mark of a junction that is not reached, and the word of one that is not queued.
 pub const FAR: u32 = 4294967295;
@@ -73,19 +74,12 @@ fn walk_on(adj: &[u16], row: &mut [u32], done: &mut [bool], queue: &mut [u64], u
     relax(adj, row, queue, u, d);
 }
 
-// Round k + 1 of the walk from a source: walks on from the nearest junction that is reached and not yet walked on from.
-pub fn round(
-    adj: &[u16],
-    row: &mut [u32],
-    done: &mut [bool],
-    queue: &mut [u64],
-    source: Junction,
-    k: usize,
-)
-    requires { ⌜ IsAdjacency (now adj) × (source .number < countIn (now adj)) × (k < countIn (now adj))
-        × WalkingIn (now adj) (source .number) k (now row) (now done) (now queue) ⌝ }
-    ensures { λ _. ⌜ WalkingIn (now (adj .entry)) (source .number) (k + 1)
-        (now (row .exit)) (now (done .exit)) (now (queue .exit)) ⌝ }
+// The next round of a walk: walks on from the nearest junction that is reached and not yet walked on from.
+pub fn round(adj: &[u16], row: &mut [u32], done: &mut [bool], queue: &mut [u64])
+    requires { ⌜ IsAdjacency (now adj) × IsWalking (now adj) (now row) (now done) (now queue) ⌝ }
+    ensures { λ _. ⌜ ((source k : ℕ) → source < countIn (now (adj .entry))
+        → WalkingIn (now (adj .entry)) source k (now (row .entry)) (now (done .entry)) (now (queue .entry))
+        → WalkingIn (now (adj .entry)) source (k + 1) (now (row .exit)) (now (done .exit)) (now (queue .exit))) ⌝ }
 {
     let t = tournament::least(queue);
     if t < MARK {
@@ -131,7 +125,7 @@ pub fn distances(adj: &[u16], row: &mut [u32], source: Junction)
     let n = adjacency::junctions(adj) as usize;
     let mut k: usize = 0;
     while k < n {
-        round(adj, row, &mut done, &mut queue, source, k);
+        round(adj, row, &mut done, &mut queue);
         k += 1;
     }
 }

@@ -53,7 +53,7 @@ returns-4 c =
     let o = body (c .before .before .before .before) in
     let n = c .before .before .before .junction-count .ensures in
     let r = c .before .before .road-count .ensures in
-    refused _ o _ _ n r 3 (many-junctions _ o _ _ n r (omega arith) (c .if2 .taken)) (omega arith)
+    refused _ o _ _ n r 3 (many-junctions _ o _ _ n r (omega arith) (omega (arith, c .if2 .taken))) (omega arith)
 
 returns-5 : tie.Need-returns-5
 returns-5 c =

@@ -26,14 +26,17 @@ returns-5 : tie.Need-returns-5
 unfolding roadOk after
 returns-5 c =
     let few = le-leb (c .before .before .before .before .before .before .args .road .seconds) 65535 (omega arith) in
-    simp (lt-ltb, le-ltb, le-leb, few, ne-eqb, c .before .before .before .before .before .if1 .left, c .before .before .before .before .if2 .left, c .before .before .if3 .left, c .before .if4 .left, c .if5 .taken)
+    let one = c .before .before .before .before .before .if1 .left in
+    let two = c .before .before .before .before .if2 .left in
+    simp (lt-ltb, le-ltb, le-leb, few, ne-eqb, one, two, c .before .before .if3 .left, c .before .if4 .left, c .if5 .taken)
 
 returns-6 : tie.Need-returns-6
 unfolding roadOk after
 returns-6 c =
     let few = le-leb (c .before .before .before .before .before .before .args .road .seconds) 65535 (omega arith) in
-    let same = eq-eqb _ _ (c .if5 .left) in
-    simp (lt-ltb, le-ltb, le-leb, few, same, c .before .before .before .before .before .if1 .left, c .before .before .before .before .if2 .left, c .before .before .if3 .left, c .before .if4 .left)
+    let one = c .before .before .before .before .before .if1 .left in
+    let two = c .before .before .before .before .if2 .left in
+    simp (lt-ltb, le-ltb, le-leb, few, eq-eqb _ _ (c .if5 .left), one, two, c .before .before .if3 .left, c .before .if4 .left)
 
 pub road-ok-spec : {M : Type 1} → statement M
 road-ok-spec = tie.close (tie.spec returns returns-2 returns-3 returns-4 returns-5 returns-6)

@@ -1,6 +1,7 @@
 use borrow.Author.Needs.{needs}
+use Rattle.adjacency.specs.Adjacency.{countIn}
 use mathlib.Core.Path.{_≡_, refl, sym, _∙_}
-use Prim.Native.Nat.{_-_, _≤_}
+use Prim.Native.Nat.{ℕ, _-_, _≤_, _<_}
 use native.Mathlib.Omega.{arith}
 use lib.ListN.{length}
 use Rattle.tournament.specs.Tournament.{queueWords}
@@ -11,11 +12,12 @@ use Rattle.road.proofs.walk.distances.Statement.{statement}
 use Rattle.road.proofs.walk.distances.Tie as tie
 
 abbrev Inv-loop : tie.InvT-loop
-Inv-loop adj row₀ source done₀ queue₀ n k₀ row done queue k =
-    (k ≤ n) × (length row ≡ 1024) × (length done ≡ 1024) × (length queue ≡ queueWords) × WalkingIn adj (source .number) k row done queue
+Inv-loop adj row₀ done₀ queue₀ n k₀ row done queue k =
+    (k ≤ n) × (length row ≡ 1024) × (length done ≡ 1024) × (length queue ≡ queueWords)
+    × ((source : ℕ) → source < countIn adj → WalkingIn adj source 0 row₀ done₀ queue₀ → WalkingIn adj source k row done queue)
 
 abbrev μ-loop : tie.MeasureT-loop
-μ-loop adj row₀ source done₀ queue₀ n k₀ row done queue k = n - k
+μ-loop adj row₀ done₀ queue₀ n k₀ row done queue k = n - k
 
 slice-aggregate-start : tie.Need-slice-aggregate-start Inv-loop μ-loop
 slice-aggregate-start c = search needs
@@ -36,11 +38,10 @@ cast-n c = search needs
 
 loop-holds : tie.Need-loop-holds Inv-loop μ-loop
 loop-holds c =
-    let far = c .before .before .before .before .before .before .before .before in
-    let p = far .before .before .before .pre in
-    let w = walking-start (far .before .before .before .args .adj .now) (c .before .before .before .before .before .start .ensures) in
-    let z = walking-sizes _ _ _ _ _ _ (p .2) w (p .0) in
-    (omega arith, z .distances, z .marks, z .words, w)
+    let s = c .before .before .before .before .before .before .before .before .before .before .before in
+    let w = walking-start (s .args .adj .now) (c .before .before .before .before .before .start .ensures) in
+    let z = walking-sizes _ _ _ _ _ _ (s .pre .2) w (s .pre .0) in
+    (omega arith, z .distances, z .marks, z .words, λ source below v. v)
 
 slice-aggregate-round : tie.Need-slice-aggregate-round Inv-loop μ-loop
 slice-aggregate-round c = search needs
@@ -50,13 +51,13 @@ slice-aggregate-round-2 c = search needs
 
 round-requires : tie.Need-round-requires Inv-loop μ-loop
 round-requires c κs =
-    let far = c .before .before .before .before .before .before .before .before in
-    let p = far .before .before .before .before .before .before .before .before .pre in (
-      p .0,
-      p .2,
-      omega (arith, c .before .before .before .before .before .junctions .ensures, c .before .before .before .loop-test .taken),
-      c .before .before .before .before .loop .inv .4,
-    )
+    let far = c .before .before .before .before .before .before .before .before .before .before in
+    let s = far .before .before .before .before .before .before in
+    let l = c .before .before .before .before .loop in
+    let w = walking-start (s .args .adj .now) (far .start .ensures) in
+    let less : l .k < countIn (s .args .adj .now) =
+    omega (arith, c .before .before .before .before .before .junctions .ensures, c .before .before .before .loop-test .taken) in
+    (s .pre .0, record { source = _; round = _; below = s .pre .2; unfinished = less; walking = l .inv .4 _ (s .pre .2) w })
 
 add-k : tie.Need-add-k Inv-loop μ-loop
 add-k c = search needs
@@ -66,11 +67,13 @@ loop-less c = search needs
 
 loop-again : tie.Need-loop-again Inv-loop μ-loop
 loop-again c =
-    let far = c .before .before .before .before .before .before .before .before in
-    let p = far .before .before .before .before .before .before .before .before .before .before .before .before .before .pre in
-    let w = c .before .before .before .before .round .ensures in
-    let z = walking-sizes _ _ _ _ _ _ (p .2) w (p .0) in
-    (omega arith, z .distances, z .marks, z .words, w)
+    let far = c .before .before .before .before .before .before .before .before .before .before .before .before .before .before .before in
+    let s = far .before .before .before .before .before .before in
+    let l = c .before .before .before .before .before .before .before .before .before .loop in
+    let on = c .before .before .before .before .round .ensures in
+    let w = walking-start (s .args .adj .now) (far .start .ensures) in
+    let z = walking-sizes _ _ _ _ _ _ (s .pre .2) (on _ _ (s .pre .2) (l .inv .4 _ (s .pre .2) w)) (s .pre .0) in
+    (omega arith, z .distances, z .marks, z .words, λ source below v. on source _ below (l .inv .4 source below v))
 
 same-length : tie.Need-same-length Inv-loop μ-loop
 same-length c =
@@ -78,7 +81,11 @@ same-length c =
     c .before .loop .inv .1 ∙ sym (far .before .before .before .before .before .pre .1)
 
 returns : tie.Need-returns Inv-loop μ-loop
-returns c = finished _ _ _ _ _ _ (omega (arith, c .before .before .junctions .ensures)) (c .before .loop .inv .4)
+returns c =
+    let far = c .before .before .before .before .before .before .before in
+    let s = far .before .before .before .before .before .before in
+    let w = walking-start (s .args .adj .now) (far .start .ensures) in
+    finished _ _ _ _ _ _ (omega (arith, c .before .before .junctions .ensures)) (c .before .loop .inv .4 _ (s .pre .2) w)
 
 pub distances-spec : {M : Type 1} → statement M
 distances-spec =

@@ -6,8 +6,9 @@ use Rattle.road.proofs.walk.round.Tie as tie
 
 least-requires : tie.Need-least-requires
 least-requires c κs =
-    let p = c .before .before .before .before .before .pre in
-    walking-sizes _ _ _ _ _ _ (p .1) (p .3) (p .0) .words
+    let i = c .before .before .before .before .before .pre .0 in
+    let w = c .before .before .before .before .before .pre .1 in
+    walking-sizes _ _ _ _ _ _ (w .below) (w .walking) i .words
 
 cast-walk-on : tie.Need-cast-walk-on
 cast-walk-on c = search needs
@@ -17,14 +18,15 @@ cast-walk-on-2 c = search needs
 
 walk-on-requires : tie.Need-walk-on-requires
 walk-on-requires c κs =
-    let p = c .before .before .before .before .before .before .before .before .before .before .pre in
+    let i = c .before .before .before .before .before .before .before .before .before .before .pre .0 in
+    let w = c .before .before .before .before .before .before .before .before .before .before .pre .1 in
     let e = c .before .before .before .before .least .ensures in
     let t = c .before .before .before .if1 .taken in (
-      p .0,
-      walking-sizes _ _ _ _ _ _ (p .1) (p .3) (p .0),
+      i,
+      walking-sizes _ _ _ _ _ _ (w .below) (w .walking) i,
       omega arith,
-      walking-near _ _ _ _ _ _ (p .1) (p .3) _ e (p .0) t (p .2),
-      walking-above _ _ _ _ _ _ (p .1) (p .3) _ e (p .0) t,
+      walking-near _ _ _ _ _ _ (w .below) (w .walking) _ e i t (w .unfinished),
+      walking-above _ _ _ _ _ _ (w .below) (w .walking) _ e i t,
     )
 
 same-length : tie.Need-same-length
@@ -38,18 +40,16 @@ same-length-3 c = search needs
 
 returns : tie.Need-returns
 returns c =
-    let far = c .before .before .before .before .before .before .before .before in
-    let p = far .before .before .before .before .before .before .before .before .before .pre in
-    let w = c .before .before .before .before .before .before .walk-on .ensures in
-    walking-on _ _ _ _ _ _ (p .1) (p .3) _ (far .before .before .before .least .ensures) _ _ _ (far .before .before .if1 .taken) (w .0) (w .1)
+    let on = c .before .before .before .before .before .before .walk-on .ensures in
+    let far = c .before .before .before .before .before .before .before .before .before .before in
+    λ source k below w. walking-on _ source k _ _ _ below w _ (far .before .least .ensures) _ _ _ (far .if1 .taken) (on .0) (on .1)
 
 same-length-4 : tie.Need-same-length-4
 same-length-4 c = search needs
 
 returns-2 : tie.Need-returns-2
 returns-2 c =
-    let p = c .before .before .before .before .before .before .before .pre in
-    walking-rests _ _ _ _ _ _ (p .1) (p .3) _ (c .before .least .ensures) (c .if1 .left)
+    λ source k below w. walking-rests _ source k _ _ _ below w _ (c .before .least .ensures) (c .if1 .left)
 
 pub round-spec : {M : Type 1} → statement M
 round-spec =
