@@ -30,7 +30,7 @@ fn query_n() -> [u8; 16]
 
 // Writes an example's name, and that a search by its books is accepted or by which number it is refused.
 fn answer(name: &[u8], road: &[u8], tree: &[u8], query: &[u8]) {
-    let mut work = [0u32; 16384];
+    let mut work = [0u32; work_area::WORDS];
     let mut results = [0u32; 128];
     let found = search::search(road, tree, query, &mut work, &mut results);
     io::write_all(STDOUT_FILENO, name);

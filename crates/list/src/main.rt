@@ -27,7 +27,7 @@ fn find(input: &[u8], results: &mut [u32]) -> Found
     ensures found { λ r. ⌜ foundOf r ≡ foundIn (now (input .entry)) (length (now (results .entry))) ⌝ }
     ensures results { λ _. ⌜ now (results .exit) ≡ resultsIn (now (input .entry)) (now (results .entry)) ⌝ }
 {
-    let mut work = [0u32; 16384];
+    let mut work = [0u32; work_area::WORDS];
     let end = book_end(input);
     let rest = &input[end..];
     let stop = book_end(rest);

@@ -13,7 +13,7 @@ use Rattle.book.specs.declared.Opened.the-variants as Opened
 use Rattle.book.proofs.Choosing.{first-later, first-earlier, passes-if, fails-if}
 use Rattle.book.proofs.Opening.{opened-refused}
 use Rattle.road_layout.specs.Road.{junctions, roadCount}
-use Rattle.road_layout.specs.Layout.{roadsOk, layoutRefusal, told}
+use Rattle.road_layout.specs.Layout.{roadsOk, layoutRefusal, told, numberOf}
 use Rattle.road_layout.specs.declared.RoadBook.the-variants.{Sound, Refused}
 
 -- a refusal's number is what is told
@@ -84,3 +84,9 @@ module _ (b : List ℕ) (o : openRefusal b 4 ≡ 0) (n count : ℕ) (en : n ≡ 
 
     pub right : count ≤ 4096 → length b ≡ 9 + 6 * count → roadsOk b n count 0 0 0 ≡ true → layoutRefusal b ≡ 0
     right r s t = counted ∙ passes-if _ _ _ (le-leb _ _ r) ∙ passes-if _ _ _ (eq-eqb _ _ s) ∙ passes-if _ _ _ t
+
+-- the number that an answer has
+pub number-told : (x j r : ℕ) → numberOf (told x j r) ≡ x
+unfolding numberOf told
+number-told zero j r = refl
+number-told (suc x) j r = refl

@@ -42,3 +42,8 @@ layoutRefusal b =
 unfoldable pub told : ℕ → ℕ → ℕ → RoadBook
 told zero j r = Sound j r
 told (suc n) j r = Refused (suc n)
+
+-- the number of an answer: "The number of an accepted call is 0."
+unfoldable pub numberOf : RoadBook → ℕ
+numberOf (Sound j r) = 0
+numberOf (Refused why) = why

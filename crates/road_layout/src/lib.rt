@@ -3,12 +3,25 @@ ghost use mathlib.Core.Path.{_≡_};
 ghost use Prim.Native.Nat.{_+_, _*_, _≤_};
 ghost use lib.ListN.{length};
 ghost use Rattle.road_layout.specs.Road.{junctions, roadCount, roadAt};
-ghost use Rattle.road_layout.specs.Layout.{roadOk, roadsOk, layoutRefusal, told};
+ghost use Rattle.road_layout.specs.Layout.{roadOk, roadsOk, layoutRefusal, told, numberOf};
 
 // What reading a road book finds: its counts, or the number of the test that turns it back.
 pub enum RoadBook {
     Sound { junctions: u16, roads: u16 },
     Refused(u8),
+}
+
+// The number of an answer, 0 for a book that is read.
+pub fn number(o: RoadBook) -> u8
+    ensures { λ r. ⌜ r ≡ numberOf o ⌝ }
+{
+    match o {
+        RoadBook::Sound {
+            junctions: _,
+            roads: _,
+        } => 0,
+        RoadBook::Refused(why) => why,
+    }
 }
 
 // A road: its low end, its high end and its seconds.

@@ -1,6 +1,5 @@
 -- The numbers that a search returns, by the definition's answer. Assumes nothing.
 use mathlib.Core.Path.{_≡_, ap}
-use Prim.Native.Nat.{ℕ}
 use Rattle.search_call.specs.Call.{Found}
 use Rattle.search.specs.declared.Found.{Found as Returned}
 use Rattle.search.specs.Found.{foundOf}

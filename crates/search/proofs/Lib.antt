@@ -1,6 +1,5 @@
-pub mod Copying
+pub mod Reading
 pub mod Reporting
-pub mod Rooms
 pub mod Preparing
-pub mod Answering
+pub mod Calling
 pub mod Fields

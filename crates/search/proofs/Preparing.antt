@@ -1,85 +1,93 @@
 -- An accepted call: what its books' arrays are, and that they are all a search asks. Assumes nothing.
-use mathlib.Core.Path.{_≡_, refl, sym, ap, _∙_}
-use mathlib.Core.List.{List, [], _∷_}
+use mathlib.Core.Path.{_≡_, refl, sym, _∙_}
+use mathlib.Core.List.{List, [], _∷_, _++_}
 use Prim.Native.Nat.{ℕ, suc, _+_, _*_, _≤_, _<_}
 use native.Mathlib.Omega.{arith}
-use lib.ListN.{length, getD, take}
-use lib.Seq.{length-take-le}
-use Rattle.book.specs.Bytes.{Bytes, u8At, u16At}
+use lib.ListN.{length, getD, take, drop, length-append}
+use lib.Seq.{length-take-le, take-at}
+use Rattle.book.specs.Bytes.{Bytes}
 use Rattle.book.proofs.Writing.{bytes-none, bytes-cons}
-use Rattle.road_layout.specs.Road.{junctions}
-use Rattle.road_layout.specs.Layout.{layoutRefusal}
-use Rattle.road.proofs.Answering.{layout-zero}
-use Rattle.road_rows.specs.Rows.{AreJunctions, Rowed}
-use Rattle.tree_layout.specs.Decode.{junctionCount, regionCount, landmarkCount}
+use Rattle.work_area.specs.Work.{workWords, zeroed}
+use Rattle.work_area.proofs.Zeroing.{zeroed-over}
+use Rattle.adjacency.specs.Adjacency.{countIn, IsAdjacency}
+use Rattle.road.specs.Rows.{Within, Rowed}
+use Rattle.tree_layout.specs.Decode.{junctionCount}
 use Rattle.tree_layout.specs.Facts.{TreeLayout}
-use Rattle.tree_layout.proofs.Reading.{region-count, landmark-count}
-use Rattle.tree.specs.Answer.{placesAfter, endsAfter}
-use Rattle.tree.proofs.Theorems.{tree-facts}
-use Rattle.tree.proofs.Answering.{accepted-laid, accepted-slots, accepted-room, accepted-ends}
-use Rattle.query.specs.Query.{crewCount, crewsOf, aggregateOf, kOf, limitOf, queryOf}
+use Rattle.query.specs.Query.{crewCount, crewsOf, aggregateOf, limitOf, queryOf}
 use Rattle.query.specs.declared.Query.{Query}
-use Rattle.query.proofs.Reading.{asked-aggregate, asked-wanted, asked-limit, asked-crews}
+use Rattle.query.proofs.Reading.{its-aggregate, its-k, its-limit, its-crews}
 use Rattle.search_rules.specs.Books.{searchOf, Passed}
-use Rattle.search_rules.specs.Run.{answer}
-use Rattle.search_sheet.specs.Filling.{rootPlaces}
-use Rattle.search_sheet.proofs.Filled.{sheet-filled}
-use Rattle.search_inner.specs.Children.{Ended}
+use Rattle.search_rules.specs.Run.{Answer, answer}
+use Rattle.search_bounds.specs.Rows.{sheetWords}
+use Rattle.search_bounds.specs.Sheet.{rootPlaces}
+use Rattle.search_bounds.proofs.Filled.{sheet-filled}
 use Rattle.search_leaf.specs.Ready.{Ready}
 use Rattle.search_call.specs.Call.{searchAnswer}
 use Rattle.search_call.specs.Accepted.{Accepted}
+use Rattle.search.specs.District.{District}
 
 -- what every element says of a book
 pub bytes-all : (b : List ℕ) → ((i : ℕ) → getD b i 0 < 256) → Bytes b
 bytes-all [] f = bytes-none
 bytes-all (x ∷ b) f = bytes-cons x b (f 0) (bytes-all b (λ i. f (suc i)))
 
-module _ (road tree query : List ℕ) (work results : ℕ) (a : Accepted road tree query work results) where
-  -- ---- the books
+-- the first n of m words
+pub part-room : (n m k : ℕ) → n ≤ m → k ≡ m → n ≤ k
+part-room n m k h e = omega arith
 
-  road-laid : layoutRefusal road ≡ 0
-  road-laid = layout-zero road (a .roads)
+pub part-of : {A : Type 0} (n m : ℕ) (l : List A) → n ≤ m → length l ≡ m → n ≡ length (take n l)
+part-of n m l h e = sym (length-take-le n l (part-room n m (length l) h e))
 
+-- ---- the work area, when its first words are back
+
+pub lent-size : (work : List ℕ) → workWords ≤ length work → length (take workWords work) ≡ workWords
+lent-size work full = length-take-le workWords work full
+
+module _ (work part : List ℕ) (size : length part ≡ workWords) where
+  pub back-full : workWords ≤ length (part ++ drop workWords work)
+  back-full = omega (arith, length-append part (drop workWords work))
+
+  pub back-part : workWords ≡ length (take workWords (part ++ drop workWords work))
+  back-part = sym (length-take-le workWords (part ++ drop workWords work) back-full)
+
+  pub back-taken : take workWords (part ++ drop workWords work) ≡ part
+  back-taken = take-at part (drop workWords work) workWords size
+
+  pub back-zeroed : (out : List ℕ) → out ≡ zeroed workWords (part ++ drop workWords work) → out ≡ zeroed workWords work
+  back-zeroed out e = e ∙ zeroed-over workWords part work size
+
+-- ---- the call
+
+module _ {road tree adj places ends query : List ℕ} {work results : ℕ} (d : District road tree adj places ends)
+    (a : Accepted road tree query work results) where
   tree-laid : TreeLayout tree
-  tree-laid = tree-facts tree (a .shape) .layout
+  tree-laid = d .laid .layout
 
-  pub tree-header : 12 ≤ length tree
-  tree-header = omega (arith, tree-laid .opens .headed)
-
-  pub query-header : 12 ≤ length query
-  query-header = omega (arith, a .asked .sized)
-
-  pub crews-needs : (length query ≡ 12 + 2 * crewCount query) × (crewCount query ≤ 16)
-  crews-needs = (a .asked .sized, a .asked .few-crews)
+  pub crews-needs : (room : ℕ) → room ≡ 16 → (length query ≡ 12 + 2 * crewCount query) × (crewCount query ≤ room)
+  crews-needs room e = (a .asked .sized, omega (arith, a .asked .few-crews))
 
   -- ---- what the query asks
 
   module _ (asked : Query) (read : asked ≡ queryOf query) where
-    crews-count : asked .crews ≡ crewCount query
-    crews-count = ap (λ (q : Query). q .crews) read ∙ asked-crews query
-
-    wanted-is : asked .wanted ≡ kOf query
-    wanted-is = ap (λ (q : Query). q .wanted) read ∙ asked-wanted query
-
     pub few-crews : asked .crews ≤ 16
-    few-crews = omega (arith, crews-count, a .asked .few-crews)
+    few-crews = omega (arith, its-crews query asked read, a .asked .few-crews)
 
-    pub few-wanted : asked .wanted ≤ 64
-    few-wanted = omega (arith, wanted-is, a .asked .few-wanted)
+    pub few-k : asked .k ≤ 64
+    few-k = omega (arith, its-k query asked read, a .asked .few-k)
 
-    pub results-room : 2 * asked .wanted ≤ results
-    results-room = omega (arith, wanted-is, a .results-full)
+    pub results-room : (n : ℕ) → n ≤ asked .k → 2 * n ≤ results
+    results-room n h = omega (arith, its-k query asked read, a .results-full)
 
     module _ (q : ℕ) (count : q ≡ asked .crews) (copied : List ℕ) (crews : take (crewCount query) copied ≡ crewsOf query) where
       crews-are : take q copied ≡ crewsOf query
-      crews-are = let e : q ≡ crewCount query = count ∙ crews-count in rw e crews
+      crews-are = let e : q ≡ crewCount query = count ∙ its-crews query asked read in rw e crews
 
       -- the search is the call's
-      pub same-search : answer (searchOf road tree (asked .aggregate) (asked .wanted) (take q copied)) (asked .limit) ≡ searchAnswer road tree query
+      same-search : answer (searchOf road tree (asked .aggregate) (asked .k) (take q copied)) (asked .limit) ≡ searchAnswer road tree query
       same-search =
-          let g : asked .aggregate ≡ aggregateOf query = ap (λ (x : Query). x .aggregate) read ∙ asked-aggregate query in
-          let l : asked .limit ≡ limitOf query = ap (λ (x : Query). x .limit) read ∙ asked-limit query in
-          rw (crews-are, g, wanted-is, l) refl
+          let g : asked .aggregate ≡ aggregateOf query = its-aggregate query asked read in
+          let l : asked .limit ≡ limitOf query = its-limit query asked read in
+          rw (crews-are, g, its-k query asked read, l) refl
 
       -- ---- the arrays
 
@@ -88,44 +96,30 @@ module _ (road tree query : List ℕ) (work results : ℕ) (a : Accepted road tr
         passed = rw crews-are (a .books bytes)
 
         -- a row of distances for each of the root's landmarks, and for each crew
-        pub rows-need : (sheet drives : ℕ) → sheet ≡ 4096 → drives ≡ 16384 → (layoutRefusal road ≡ 0) × TreeLayout tree × (junctionCount tree ≡ junctions road)
-            × AreJunctions road (take q copied) × (sheet ≡ 4096) × (1024 * length (take q copied) ≤ drives)
-        rows-need sheet drives e f = (road-laid, tree-laid, a .counts, passed .there, e, omega (arith, passed .few))
+        pub rows-need : (sheet drives : ℕ) → sheet ≡ sheetWords → drives ≡ workWords
+            → IsAdjacency adj × TreeLayout tree × (junctionCount tree ≡ countIn adj) × Within (countIn adj) (take q copied)
+            × (sheet ≡ sheetWords) × (1024 * length (take q copied) ≤ drives)
+        rows-need sheet drives e f = (
+          record { book = road; adjacent = d .adjacent },
+          tree-laid,
+          d .counts ∙ sym (d .adjacent .count),
+          λ t m. omega (arith, passed .there t m, d .adjacent .count),
+          e,
+          omega (arith, passed .few),
+        )
 
-        module _ (r : ℕ) (regions : r ≡ u16At tree 7) (old new : List ℕ) (wide : 511 ≤ length old) (placed : new ≡ placesAfter tree old) where
-          r-is : r ≡ regionCount tree
-          r-is = regions ∙ sym (region-count tree)
+        pub ready : (drives part sheet : List ℕ) → drives ≡ part → Rowed road (take q copied) part → length sheet ≡ sheetWords
+            → Rowed road (rootPlaces tree) sheet → Ready road tree (asked .aggregate) (asked .k) (take q copied) drives places sheet
+        ready drives part sheet e driven four rowed = record {
+          passed = passed;
+          driven = rw e driven;
+          laid = d .laid;
+          sheeted = sheet-filled road tree tree-laid (asked .aggregate) (asked .k) (take q copied) sheet four rowed;
+        }
 
-          pub ready : (drives sheet : List ℕ) (rows : ℕ) → Rowed road (take q copied) drives → length sheet ≡ 4096 → Rowed road (rootPlaces tree) sheet
-              → rows ≡ u8At tree 11 → Ready road tree (asked .aggregate) (asked .wanted) (take q copied) drives (take r new) sheet rows
-          ready drives sheet rows driven four rowed landmarks =
-              let m : rows ≡ landmarkCount tree = landmarks ∙ sym (landmark-count tree) in
-              record {
-                passed = passed;
-                driven = driven;
-                laid = accepted-laid tree (a .shape) r r-is old new wide placed;
-                sheeted = rw m (sheet-filled road tree tree-laid (a .counts) (asked .aggregate) (asked .wanted) (take q copied) sheet four rowed);
-              }
-
-  -- the first entries of the arrays, one for each region
-  module _ (r : ℕ) (regions : r ≡ u16At tree 7) (old new : List ℕ) (wide : 511 ≤ length old) where
-    number : r ≡ regionCount tree
-    number = regions ∙ sym (region-count tree)
-
-    pub place-room : new ≡ placesAfter tree old → r ≤ length new
-    place-room e = accepted-slots tree (a .shape) r number old new wide e
-
-    pub place-length : new ≡ placesAfter tree old → r ≡ length (take r new)
-    place-length e = sym (length-take-le r new (place-room e))
-
-    pub end-room : new ≡ endsAfter tree old → r ≤ length new
-    end-room e = accepted-room tree (a .shape) r number old new wide e
-
-    pub end-length : new ≡ endsAfter tree old → r ≡ length (take r new)
-    end-length e = sym (length-take-le r new (end-room e))
-
-    pub ended : new ≡ endsAfter tree old → Ended tree (take r new)
-    ended e = record {
-      count = sym (end-length e) ∙ number;
-      held = λ j h. accepted-ends tree (a .shape) r number old new wide e j (omega (arith, end-length e));
-    }
+        -- and what the steps come to is the call's answer
+        pub answered : (drives part sheet : List ℕ) → drives ≡ part → Rowed road (take q copied) part → length sheet ≡ sheetWords
+            → Rowed road (rootPlaces tree) sheet → (o : Answer)
+            → (Ready road tree (asked .aggregate) (asked .k) (take q copied) drives places sheet
+            → o ≡ answer (searchOf road tree (asked .aggregate) (asked .k) (take q copied)) (asked .limit)) → o ≡ searchAnswer road tree query
+        answered drives part sheet e driven four rowed o f = f (ready drives part sheet e driven four rowed) ∙ same-search

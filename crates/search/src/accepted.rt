@@ -1,17 +1,22 @@
-// A call that no test turns back: its arrays, its steps, and what it reports.
+// A call that no test turns back: its rows, its steps, and what it reports.
 use crate::Found;
-use crate::crews;
+use query::Query;
+use search_bounds::sheet;
 use search_run::Outcome;
 ghost use mathlib.Core.Path.{_≡_};
-ghost use Prim.Native.Nat.{_*_, _≤_};
+ghost use mathlib.Core.List.{List};
+ghost use Prim.Native.Nat.{ℕ, _*_, _≤_};
 ghost use lib.ListN.{length};
-ghost use Rattle.search_rules.specs.Books.{searchOf};
-ghost use Rattle.search_rules.specs.Run.{answer};
-ghost use Rattle.search_inner.specs.Children.{Ended};
-ghost use Rattle.search_leaf.specs.Ready.{Ready};
+ghost use Rattle.work_area.specs.Work.{workWords, zeroed};
+ghost use Rattle.query.specs.Query.{queryOf};
+ghost use Rattle.search_run.specs.Answer.{answerOf};
 ghost use Rattle.search_call.specs.Call.{accepted, searchAnswer};
 ghost use Rattle.search_call.specs.Accepted.{Accepted};
-ghost use Rattle.search.specs.Found.{foundOf, answerOf, writtenBy};
+ghost use Rattle.search.specs.District.{District, IsDistrict};
+ghost use Rattle.search.specs.Found.{foundOf, writtenBy};
+
+// The most crews that a query has.
+const CREWS: usize = 16;
 
 // "Settled writes (yard, distance) words into the result area and nothing after them; spent writes nothing there."
 fn report(o: Outcome, results: &mut [u32]) -> Found
@@ -41,93 +46,35 @@ fn report(o: Outcome, results: &mut [u32]) -> Found
     }
 }
 
-// Searches under a step limit, with a word for each region and for each junction.
-fn searched(
-    road: &[u8],
-    drives: &[u32],
-    crews: &[u16],
-    code: u8,
-    wanted: usize,
-    sheet: &[u32],
-    rows: usize,
+// Searches a district for what a query asks. The crews' rows stand in the work area, which is zeroed then.
+pub fn search(
+    adj: &[u16],
     tree: &[u8],
     places: &[usize],
     ends: &[usize],
-    limit: u32,
+    query: &[u8],
+    asked: Query,
+    work: &mut [u32],
     results: &mut [u32],
 ) -> Found
-    requires { ⌜ Ready (now road) (now tree) code wanted (now crews) (now drives) (now places) (now sheet) rows
-        × Ended (now tree) (now ends) × (wanted ≤ 64) × (2 * wanted ≤ length (now results)) ⌝ }
-    ensures found { λ r. ⌜ foundOf r
-        ≡ accepted (answer (searchOf (now (road .entry)) (now (tree .entry)) code wanted (now (crews .entry))) limit) ⌝ }
-    ensures results { λ _. ⌜ now (results .exit)
-        ≡ writtenBy (answer (searchOf (now (road .entry)) (now (tree .entry)) code wanted (now (crews .entry))) limit) (now (results .entry)) ⌝ }
+    requires { ⌜ IsDistrict (now tree) (now adj) (now places) (now ends) × (asked ≡ queryOf (now query))
+        × ((road : List ℕ) → District road (now tree) (now adj) (now places) (now ends)
+        → Accepted road (now tree) (now query) (length (now work)) (length (now results))) ⌝ }
+    ensures found { λ r. ⌜ ((road : List ℕ)
+        → District road (now (tree .entry)) (now (adj .entry)) (now (places .entry)) (now (ends .entry))
+        → foundOf r ≡ accepted (searchAnswer road (now (tree .entry)) (now (query .entry)))) ⌝ }
+    ensures work { λ _. ⌜ now (work .exit) ≡ zeroed workWords (now (work .entry)) ⌝ }
+    ensures results { λ _. ⌜ ((road : List ℕ)
+        → District road (now (tree .entry)) (now (adj .entry)) (now (places .entry)) (now (ends .entry))
+        → now (results .exit)
+        ≡ writtenBy (searchAnswer road (now (tree .entry)) (now (query .entry))) (now (results .entry))) ⌝ }
 {
-    let mut picked = [0u8; 511];
-    let mut keys = [0u64; 511];
-    let mut firsts = [0u64; 511];
-    let mut fs = [0u64; 1024];
-    let mut bounds = [0u64; 1024];
-    let mut yards = [0u64; 1024];
-    let mut gone = [false; 1024];
-    let mut measured = [0u16; 256];
-    let r = places.len();
-    let n = book::u16_at(tree, 5) as usize;
-    let o = search_run::run(
-        road,
-        drives,
-        crews,
-        code,
-        wanted,
-        sheet,
-        rows,
-        tree,
-        places,
-        ends,
-        &mut picked[..r],
-        &mut fs[..n],
-        &mut bounds[..n],
-        &mut keys[..r],
-        &mut yards[..n],
-        &mut firsts[..r],
-        &mut gone[..n],
-        &mut measured,
-        limit,
-    );
-    report(o, results)
-}
-
-// Searches by the books of a call that no test turns back.
-pub fn accepted_search(road: &[u8], tree: &[u8], query: &[u8], results: &mut [u32]) -> Found
-    requires { ⌜ Accepted (now road) (now tree) (now query) 16384 (length (now results)) ⌝ }
-    ensures found { λ r. ⌜ foundOf r ≡ accepted (searchAnswer (now (road .entry)) (now (tree .entry)) (now (query .entry))) ⌝ }
-    ensures results { λ _. ⌜ now (results .exit)
-        ≡ writtenBy (searchAnswer (now (road .entry)) (now (tree .entry)) (now (query .entry))) (now (results .entry)) ⌝ }
-{
-    let mut crews = [0u16; 16];
-    crews::copy(query, &mut crews);
-    let asked = query::asked(query);
+    let mut crews = [0u16; CREWS];
+    query::crews(query, &mut crews);
     let q = asked.crews as usize;
-    let mut sheet = [0u32; 4096];
-    let mut drives = [0u32; 16384];
-    search_sheet::prepare(road, tree, &crews[..q], &mut sheet, &mut drives);
-    let mut places = [0usize; 511];
-    let mut ends = [0usize; 511];
-    let o = tree::read(tree, &mut places, &mut ends);
-    let rows = book::u8_at(tree, 11) as usize;
-    let r = book::u16_at(tree, 7) as usize;
-    searched(
-        road,
-        &drives,
-        &crews[..q],
-        asked.aggregate,
-        asked.wanted as usize,
-        &sheet,
-        rows,
-        tree,
-        &places[..r],
-        &ends[..r],
-        asked.limit,
-        results,
-    )
+    let mut sheet = [0u32; sheet::WORDS];
+    sheet::prepare(adj, tree, &crews[..q], &mut sheet, &mut work[..work_area::WORDS]);
+    let o = search_run::run(tree, places, ends, &sheet, &work[..work_area::WORDS], &crews[..q], asked);
+    work_area::zero_words(work);
+    report(o, results)
 }

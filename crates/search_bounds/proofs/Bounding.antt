@@ -4,11 +4,11 @@ use mathlib.Core.List.{List}
 use Prim.Native.Nat.{ℕ, _<_}
 use native.Mathlib.Omega.{arith}
 use lib.ListN.{length, getD}
-use Rattle.book.specs.Bytes.{u8At}
 use Rattle.book.proofs.Lists.{getD-mem}
 use Rattle.tree_layout.specs.Values.{Mark}
 use Rattle.tree_layout.specs.Decode.{landmarkCount}
-use Rattle.tree_layout.proofs.Reading.{landmark-count}
+use Rattle.tree_layout.specs.Reading.{headerOf}
+use Rattle.tree_layout.specs.declared.Header.{Header}
 use Rattle.search_rules.specs.Bounds.{aggregate, greatestOf, crewBound}
 use Rattle.tree_layout.specs.Values.{noMark}
 use Rattle.tree_layout.specs.declared.Landmark.{Landmark}
@@ -23,13 +23,14 @@ crew-there crews s j h = s .there (getD crews j 0) (getD-mem crews j 0 h)
 
 -- ---- the landmarks of a record
 
-module _ (b : List ℕ) (at : ℕ) (r : RecordAt b at) (m : ℕ) (e : m ≡ u8At b 11) where
+module _ (b : List ℕ) (h : Header) (e : h ≡ headerOf b) where
   -- their number, as it is read
-  pub count-read : m ≡ landmarkCount b
-  count-read = e ∙ sym (landmark-count b)
+  pub count-read : h .landmarks ≡ landmarkCount b
+  unfolding headerOf
+  count-read = ap (λ (x : Header). x .landmarks) e
 
-  pub count-marks : length (marksAt b at) ≡ m
-  count-marks = marks-count b at ∙ sym count-read
+  pub count-marks : (at : ℕ) → length (marksAt b at) ≡ h .landmarks
+  count-marks at = marks-count b at ∙ sym count-read
 
 module _ (b : List ℕ) (at : ℕ) (r : RecordAt b at) (j : ℕ) (h : j < landmarkCount b) (k : Landmark)
     (e : k ≡ landmarkOf (getD (marksAt b at) j noMark)) where

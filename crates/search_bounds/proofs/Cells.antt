@@ -7,7 +7,7 @@ use native.Mathlib.Omega.{arith}
 use lib.Dec.{eqb}
 use Rattle.book.proofs.Choosing.{choose-yes, choose-no}
 use Rattle.book.proofs.Lists.{ne→neqb}
-use Rattle.road_rows.specs.Rows.{cell}
+use Rattle.road.specs.Rows.{cell}
 use Rattle.search_rules.specs.Bounds.{apart}
 use Rattle.search_bounds.specs.Rows.{rowsLower, rowsUpper}
 

@@ -5,3 +5,5 @@ pub mod Picking
 pub mod Numbered
 pub mod Sheets
 pub mod Searching
+pub mod Places
+pub mod Filled

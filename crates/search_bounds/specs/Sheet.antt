@@ -1,13 +1,23 @@
--- The sheet of a search. Assumes nothing: this is a statement.
+-- The sheet of a search, and its sources. Assumes nothing: these are definitions.
 use mathlib.Core.Path.{_≡_}
-use mathlib.Core.List.{List}
+use mathlib.Core.List.{List, [], _∷_}
 use Prim.Native.Nat.{ℕ, _<_}
 use lib.ListN.{length, getD}
-use Rattle.road_rows.specs.Rows.{cell}
+use Rattle.road.specs.Rows.{cell}
 use Rattle.search_rules.specs.Instance.{Instance, marks}
 use Rattle.search_rules.specs.Bounds.{sheetAt}
-use Rattle.tree_layout.specs.Values.{noMark}
+use Rattle.tree_layout.specs.Values.{Mark, noMark}
+use Rattle.tree_layout.specs.Marks.{marksAt}
 use Rattle.search_bounds.specs.Rows.{Rows}
+
+-- the junctions of some landmarks
+unfoldable pub placesOf : List Mark → List ℕ
+placesOf [] = []
+placesOf (k ∷ ks) = k .place ∷ placesOf ks
+
+-- "the root's landmarks r": their junctions; the root's record is the first, at byte 12
+unfoldable pub rootPlaces : List ℕ → List ℕ
+rootPlaces tree = placesOf (marksAt tree 12)
 
 -- "The sheet holds d from the root's landmarks r to every junction.": a row for each of the root's landmarks, in their order
 pub record Sheet (i : Instance) (rows : ℕ) (sheet : List ℕ) : Type 0 where

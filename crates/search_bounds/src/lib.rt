@@ -3,3 +3,4 @@ pub mod numbers; // numbers.rt: the difference, the aggregate and the greater of
 pub mod picks; // picks.rt: the landmark that a leaf picks
 pub mod regions; // regions.rt: a region's bound
 pub mod rows; // rows.rt: LB and UB by the rows of the sheet, and a crew's bound
+pub mod sheet; // sheet.rt: the sheet and the crews' rows, by walks over the roads

@@ -1,5 +1,6 @@
 // The landmark that a leaf picks.
 use tree_layout::landmarks;
+use tree_layout::records;
 use crate::numbers;
 use crate::rows;
 use tree_layout::Region;
@@ -54,7 +55,8 @@ fn pick_at(tree: &[u8], at: usize, sheet: &[u32], rows: usize, crews: &[u16]) ->
     requires { ⌜ RecordAt (now tree) at × Rows (now sheet) rows × Crews (now crews) ⌝ }
     ensures { λ p. ⌜ p ≡ rowsChosen (now (sheet .entry)) rows (now (crews .entry)) (marksAt (now (tree .entry)) at) ⌝ }
 {
-    let m = book::u8_at(tree, 11) as usize;
+    let h = records::header(tree);
+    let m = h.landmarks as usize;
     let mut best = mark_weight(tree, at, 0, sheet, rows, crews);
     let mut p: usize = 0;
     let mut j: usize = 1;

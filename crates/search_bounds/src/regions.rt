@@ -1,6 +1,7 @@
 // A region's bound.
 use tree_layout::Landmark;
 use tree_layout::landmarks;
+use tree_layout::records;
 use crate::numbers;
 use crate::rows;
 use tree_layout::Region;
@@ -31,7 +32,8 @@ fn crew_region(tree: &[u8], at: usize, sheet: &[u32], rows: usize, q: u16) -> u3
     requires { ⌜ RecordAt (now tree) at × Rows (now sheet) rows × (q < 1024) ⌝ }
     ensures { λ x. ⌜ x ≡ rowsCrew (now (sheet .entry)) rows (marksAt (now (tree .entry)) at) q ⌝ }
 {
-    let m = book::u8_at(tree, 11) as usize;
+    let h = records::header(tree);
+    let m = h.landmarks as usize;
     let mut x: u32 = 0;
     let mut j: usize = 0;
     while j < m {

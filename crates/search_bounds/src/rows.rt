@@ -1,12 +1,12 @@
 // LB and UB by the sheet's rows, and a crew's bound.
 use crate::numbers;
 use crate::numbers::wide;
-use road_rows::cell;
+use road::rows::cell;
 use tournament::lesser;
 ghost use mathlib.Core.Path.{_≡_};
 ghost use Prim.Native.Nat.{_+_, _-_, _<_};
 ghost use lib.ListN.{length};
-ghost use Rattle.road_rows.specs.Rows.{cell};
+ghost use Rattle.road.specs.Rows.{cell};
 ghost use Rattle.search_rules.specs.Bounds.{apart, crewBound};
 ghost use Rattle.search_bounds.specs.Rows.{rowsLower, rowsUpper, Rows};
 

@@ -4,8 +4,8 @@ use mathlib.Core.List.{List}
 use Prim.Native.Nat.{ℕ, _*_, _≤_, _<_}
 use native.Mathlib.Omega.{arith}
 use borrow.Author.Tests.{eq-eqb, ne-eqb, le-leb, lt-leb}
-use lib.Dec.{eqb, leb}
-use Rattle.book.proofs.Choosing.{passes-if, fails-if, first-earlier, first-later}
+use lib.Dec.{eqb, leb, eqb→eq}
+use Rattle.book.proofs.Choosing.{passed, passes-if, fails-if, first-earlier, first-later, first-none}
 use Rattle.work_area.specs.Work.{workWords}
 use Rattle.work_area.proofs.Zeroing.{work-short, work-enough}
 use Rattle.road_layout.specs.Road.{junctions}
@@ -30,6 +30,13 @@ module _ (tree : List ℕ) (n : ℕ) where
     pub counts-agree : junctionCount tree ≡ n → treeRefusalIn tree n ≡ 0
     unfolding treeRefusalIn
     counts-agree e = first-later (treeRefusal tree) _ ok ∙ passes-if (eqb (junctionCount tree) n) 8 0 (eq-eqb _ _ e)
+
+  -- and back: a tree book that none turns back
+  pub tree-passed : treeRefusalIn tree n ≡ 0 → (treeRefusal tree ≡ 0) × (junctionCount tree ≡ n)
+  unfolding treeRefusalIn
+  tree-passed e =
+      let a = first-none _ _ e in
+      (a .0, eqb→eq (junctionCount tree) n (passed _ _ _ (a .1) (omega arith) .0))
 
 -- ---- the areas
 

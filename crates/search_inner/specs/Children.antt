@@ -1,30 +1,30 @@
--- The keys of a region's children, by arrays. Assumes nothing: these are definitions.
+-- The keys of a region's children, by a search's words. Assumes nothing: these are definitions.
 use mathlib.Core.Path.{_≡_}
 use mathlib.Core.List.{List, [], _∷_, List·Memᴰ as Mem}
-use Prim.Native.Nat.{ℕ, _<_, max}
+use Prim.Native.Nat.{ℕ, _+_, _<_, max}
 use lib.ListN.{length, getD, set}
 use Rattle.tree_layout.specs.Values.{regionAt}
 use Rattle.tree_layout.specs.Decode.{decode, regionCount}
 use Rattle.tree.specs.Yards.{endOf, childrenOf}
 use Rattle.search_bounds.specs.Bounds.{rowsBound}
+use Rattle.search_state.specs.State.{wordCount, firstsAt}
 
 -- "A region's key is the greater of this and its parent's key.": region c's, by the sheet's rows
 unfoldable pub keyOf : (tree sheet : List ℕ) → (rows code : ℕ) → (crews : List ℕ) → (parent c : ℕ) → ℕ
 keyOf tree sheet rows code crews parent c = max (rowsBound sheet rows code crews (regionAt (decode tree .regions) c .marks)) parent
 
--- the words of some numbers set
-unfoldable pub putKeys : (ℕ → ℕ) → List ℕ → List ℕ → List ℕ
-putKeys g [] ws = ws
-putKeys g (c ∷ cs) ws = putKeys g cs (set ws c (g c))
+-- the words of a search of r regions and n junctions with the keys and the first keys of some regions set
+unfoldable pub putKeys : (ℕ → ℕ) → (r n : ℕ) → List ℕ → List ℕ → List ℕ
+putKeys g r n [] ws = ws
+putKeys g r n (c ∷ cs) ws = putKeys g r n cs (set (set ws c (g c)) (firstsAt r n + c) (g c))
 
 -- for each region the number of the region after its subtree
 pub record Ended (tree ends : List ℕ) : Type 0 where
   pub count : length ends ≡ regionCount tree
   pub held : (j : ℕ) → j < length ends → getD ends j 0 ≡ endOf (decode tree .regions) j
 
--- a region and its children have a word in each of two arrays
-pub record Slots (tree keys firsts : List ℕ) (r : ℕ) : Type 0 where
-  pub keys-count : length keys ≡ regionCount tree
-  pub firsts-count : length firsts ≡ regionCount tree
-  pub self : r < regionCount tree
-  pub children : (c : ℕ) → Mem c (childrenOf (decode tree .regions) r) → c < regionCount tree
+-- region v and its children have words in those of a search of r regions and n junctions
+pub record Slots (tree : List ℕ) (r n : ℕ) (words : List ℕ) (v : ℕ) : Type 0 where
+  pub count : length words ≡ wordCount r n
+  pub self : v < r
+  pub children : (c : ℕ) → Mem c (childrenOf (decode tree .regions) v) → c < r

@@ -2,11 +2,11 @@
 use search_bounds::numbers;
 use search_bounds::regions;
 use tree_layout::Region;
+use tree_layout::records;
 ghost use mathlib.Core.Path.{_≡_};
-ghost use mathlib.Core.List.{List·Memᴰ};
-ghost use Prim.Native.Nat.{ℕ, _≤_, _<_};
+ghost use Prim.Native.Nat.{ℕ, _<_};
 ghost use lib.ListN.{length, set};
-ghost use Rattle.tree_layout.specs.Decode.{decode};
+ghost use Rattle.tree_layout.specs.Decode.{decode, junctionCount, landmarkCount};
 ghost use Rattle.tree.specs.Arrays.{Laid};
 ghost use Rattle.tree.specs.Yards.{childrenOf};
 ghost use Rattle.search_rules.specs.Queue.{unqueued};
@@ -38,23 +38,24 @@ pub fn open_inner(
     places: &[usize],
     ends: &[usize],
     sheet: &[u32],
-    rows: usize,
-    code: u8,
     crews: &[u16],
-    keys: &mut [u64],
-    firsts: &mut [u64],
+    code: u8,
+    words: &mut [u64],
     r: Region,
     a: u64,
 )
-    requires { ⌜ Laid (now tree) (now places) × Ended (now tree) (now ends) × Rows (now sheet) rows × Crews (now crews)
-        × Slots (now tree) (now keys) (now firsts) (r .number) ⌝ }
-    ensures keys { λ _. ⌜ now (keys .exit) ≡ putKeys (keyOf (now (tree .entry)) (now (sheet .entry)) rows code (now (crews .entry)) a)
-        (childrenOf (decode (now (tree .entry)) .regions) (r .number)) (set (now (keys .entry)) (r .number) unqueued) ⌝ }
-    ensures firsts { λ _. ⌜ now (firsts .exit) ≡ putKeys (keyOf (now (tree .entry)) (now (sheet .entry)) rows code (now (crews .entry)) a)
-        (childrenOf (decode (now (tree .entry)) .regions) (r .number)) (now (firsts .entry)) ⌝ }
+    requires { ⌜ Laid (now tree) (now places) × Ended (now tree) (now ends) × Rows (now sheet) (landmarkCount (now tree)) × Crews (now crews)
+        × Slots (now tree) (length (now places)) (junctionCount (now tree)) (now words) (r .number) ⌝ }
+    ensures { λ _. ⌜ now (words .exit)
+        ≡ putKeys (keyOf (now (tree .entry)) (now (sheet .entry)) (landmarkCount (now (tree .entry))) code (now (crews .entry)) a)
+        (length (now (places .entry))) (junctionCount (now (tree .entry)))
+        (childrenOf (decode (now (tree .entry)) .regions) (r .number)) (set (now (words .entry)) (r .number) unqueued) ⌝ }
 {
+    let h = records::header(tree);
+    let rows = h.landmarks as usize;
+    let firsts = places.len() + h.junctions as usize;
     let i = r.number as usize;
-    keys[i] = search_queue::UNQUEUED;
+    words[i] = search_queue::UNQUEUED;
     let f = tree::regions::fields(tree, places, r);
     let n = f.children;
     let mut c = i + 1;
@@ -62,8 +63,8 @@ pub fn open_inner(
     while k < n {
         let child = Region { number: c as u16 };
         let w = key(tree, places, sheet, rows, code, crews, child, a);
-        keys[c] = w;
-        firsts[c] = w;
+        words[c] = w;
+        words[firsts + c] = w;
         c = ends[c];
         k += 1;
     }

@@ -10,11 +10,15 @@ use lib.Seq.{getD-set-same, getD-set-other}
 use lib.Dec.{T, eqb→eq}
 use Rattle.book.specs.Bytes.{u8At, u16At}
 use Rattle.road_layout.specs.Road.{junctions}
-use Rattle.search_yards.specs.Measures.{Driven, toCrews}
+use Rattle.search_yards.specs.Measures.{Driven, IsDriven, toCrews}
 use Rattle.tree_layout.specs.Values.{Mark, Region, regionAt}
-use Rattle.tree_layout.specs.Decode.{decode, regionCount, landmarkCount, placeOf, listPart, readList, markSize}
+use Rattle.tree_layout.specs.Decode.{decode, junctionCount, regionCount, landmarkCount, placeOf, listPart, readList, markSize}
+use Rattle.tree_layout.specs.Reading.{headerOf}
+use Rattle.tree_layout.specs.Accessors.{fieldsAt}
+use Rattle.tree_layout.specs.declared.Header.{Header}
+use Rattle.tree_layout.specs.declared.Fields.{Fields}
 use Rattle.tree_layout.proofs.Places.{decode-length}
-use Rattle.tree_layout.proofs.Reading.{leaf-list, leaf-place, list-part}
+use Rattle.tree_layout.proofs.Reading.{leaf-list, leaf-place}
 use Rattle.tree_layout.proofs.MarkPlaces.{listMark, region-marks, leaf-mark-at}
 use Rattle.tree.proofs.Fielding.{laid-region, laid-children}
 use Rattle.search_rules.specs.Instance.{Instance, size, marks, leaf}
@@ -32,13 +36,23 @@ use Rattle.tree_layout.specs.Marks.{markPlace, RecordAt}
 use Rattle.tree_layout.proofs.RecordFields.{place-is, list-inside}
 use Rattle.search_bounds.proofs.Numbered.{record-of}
 use Rattle.search_bounds.proofs.Searching.{crews-of as rows-crews, lower-of, chosen-of, chosen-few}
-use Rattle.search_leaves.specs.Leaves.{Near, byYard, fIn, boundIn, listAt, Opened}
-use Rattle.search_leaves.proofs.Opening.{part-list, opened, opened-kept}
-use Rattle.search_leaves.proofs.Filling.{by-yard-length}
-use Rattle.search_leaf.specs.Ready.{unopened, IsPick, Ready, Cached, IsLeaf, OpenLeaf}
+use Rattle.search_leaves.specs.Leaves.{Near, byYard, byYards, fIn, boundIn, listAt, Opened}
+use Rattle.search_leaves.proofs.Opening.{list-here, header-regions-are, header-junctions-are, opened, opened-kept}
+use Rattle.search_leaves.proofs.Filling.{by-yard-length, by-yards-parts}
+use Rattle.search_state.specs.State.{wordCount, picksAt, regionKeysIn, yardKeysIn, firstsIn, picksIn, fsIn, boundsIn, goneIn}
+use Rattle.search_state.proofs.Cells.{Parts, parts-of, part-at, store-pick}
+use Rattle.search_leaf.specs.Ready.{unopened, IsPick, Ready, Cached, IsLeaf, OpenLeaf, Leafed, SameQueue}
 
-module _ (road tree : List ℕ) (code wanted : ℕ) (crews drives places sheet : List ℕ) (rows : ℕ)
-    (ready : Ready road tree code wanted crews drives places sheet rows) where
+-- the yards' number among the fields that were read
+pub yards-of : (tree : List ℕ) (at : ℕ) (f : Fields) → f ≡ fieldsAt tree at → f .yards ≡ u16At tree (at + 5)
+yards-of tree at f e = rw e refl
+
+-- nothing is stored
+pub same-none : (r n : ℕ) (ws : List ℕ) → SameQueue r n ws ws
+same-none r n ws = record { keys = refl; yards = refl; firsts = refl; gone = refl }
+
+module _ (road tree : List ℕ) (code wanted : ℕ) (crews drives places sheet : List ℕ)
+    (ready : Ready road tree code wanted crews drives places sheet) where
   abbrev i : Instance
   i = searchOf road tree code wanted crews
 
@@ -72,36 +86,76 @@ module _ (road tree : List ℕ) (code wanted : ℕ) (crews drives places sheet :
   marks-count r h = rw (marks-at r, laid-region tree places (ready .laid) r h) (region-marks tree (landmarkCount tree) (placeOf tree r))
 
   -- the number that the rows give is that of the landmark
-  pub pick-of : (r : ℕ) → r < size i → (p : ℕ) → p ≡ rowsChosen sheet rows crews (regionAt (decode tree .regions) r .marks) → IsPick i r p
-  pick-of r h p e = record {
+  pub pick-of : (r : ℕ) → r < size i → (p rows : ℕ) → landmarkCount tree ≡ rows
+      → p ≡ rowsChosen sheet rows crews (regionAt (decode tree .regions) r .marks) → IsPick i r p
+  pick-of r h p rows w q = record {
     inside = omega (
       arith,
       marks-count r (omega (arith, size-of, ready .laid .count)),
       chosen-few road tree code wanted crews
-          (ready .passed) rows sheet (ready .sheeted) r (omega (arith, size-of, decode-length tree)) p e,
+          (ready .passed) (landmarkCount tree) sheet (ready .sheeted) r (omega (arith, size-of, decode-length tree)) p e,
     );
-    is = rw (marks-at r) (chosen-of road tree code wanted crews (ready .passed) rows sheet (ready .sheeted) r
+    is = rw (marks-at r) (chosen-of road tree code wanted crews (ready .passed) (landmarkCount tree) sheet (ready .sheeted) r
         (omega (arith, size-of, decode-length tree)) p e);
   }
+    where
+      e : p ≡ rowsChosen sheet (landmarkCount tree) crews (regionAt (decode tree .regions) r .marks)
+      e = rw w q
 
-  -- a word for each junction
-  pub words-room : (ws : List ℕ) → length ws ≡ i .tree .junctions → junctions road ≤ length ws
-  words-room ws e = omega (arith, junctions-of)
+  -- the tree book's junctions are the instance's
+  pub tree-junctions : i .tree .junctions ≡ junctionCount tree
+  tree-junctions = junctions-of ∙ ready .passed .counts
+
+  -- leaf r has a place
+  pub slot : (r : ℕ) → IsLeaf i r → r < length places
+  slot r l = omega (arith, l .inside, size-of, ready .laid .count)
+
+  -- ---- the words of a search of which leaf r is taken
+
+  -- there is a word for everything
+  pub words-are : (r : ℕ) (ws : List ℕ) → Leafed i (length places) (junctionCount tree) ws r → (ws′ : List ℕ) → length ws′ ≡ length ws
+      → length ws′ ≡ wordCount (regionCount tree) (junctionCount tree)
+  words-are r ws q ws′ e = e ∙ rw (ready .laid .count) at (q .count)
+
+  module _ (r : ℕ) (ws : List ℕ) (q : Leafed i (length places) (junctionCount tree) ws r) (h : Header) (eh : h ≡ headerOf tree) where
+    pub region-inside : r < h .regions
+    region-inside = omega (arith, slot r (q .isLeaf), ready .laid .count, header-regions-are tree h eh)
+
+    -- the word of its landmark's number
+    module _ (j : ℕ) (ej : j ≡ picksAt (h .regions) (h .junctions) + r) where
+      pick-place : j ≡ picksAt (length places) (junctionCount tree) + r
+      pick-place = omega (arith, ready .laid .count, header-regions-are tree h eh, header-junctions-are tree h eh)
+
+      pub pick-room : j < length ws
+      pick-room = omega (arith, pick-place, q .count, slot r (q .isLeaf))
+
+      -- a leaf that was taken before is open
+      pub open-already : (p : ℕ) → p ≡ getD ws j 0 → p ≢ unopened
+          → OpenLeaf i (picksIn (length places) (junctionCount tree) ws) (fsIn (length places) (junctionCount tree) ws)
+          (boundsIn (length places) (junctionCount tree) ws) r p
+      open-already p ep u = record {
+        cached = q .cached;
+        pick = rw is (q .cached .picked r (q .isLeaf .inside) (q .isLeaf .is) v);
+        opened = q .cached .opened r (q .isLeaf .inside) (q .isLeaf .is) v;
+      }
+        where
+          is : p ≡ getD (picksIn (length places) (junctionCount tree) ws) r 0
+          is = ep ∙ sym (part-at ws (picksAt (length places) (junctionCount tree)) (length places) r j 0 pick-place (slot r (q .isLeaf)))
+
+          v : getD (picksIn (length places) (junctionCount tree) ws) r 0 ≢ unopened
+          v = rw (← is) u
 
   -- ---- leaf r, whose record stands at a place
 
   module _ (r : ℕ) (l : IsLeaf i r) (at : ℕ) (e : at ≡ getD places r 0) where
-    pub slot : r < length places
-    slot = omega (arith, l .inside, size-of, ready .laid .count)
-
     here : at ≡ placeOf tree r
-    here = e ∙ ready .laid .held r slot
+    here = e ∙ ready .laid .held r (slot r l)
 
     pub record-here : RecordAt tree at
-    record-here = record-of tree places (ready .laid) r slot at e
+    record-here = record-of tree places (ready .laid) r (slot r l) at e
 
     childless : u8At tree (at + 4) ≡ 0
-    childless = rw here (sym (laid-children tree places (ready .laid) r slot) ∙ leaf-at r (l .is))
+    childless = rw here (sym (laid-children tree places (ready .laid) r (slot r l)) ∙ leaf-at r (l .is))
 
     pub chosen-mark : Mem (chosen i r) (marks i r)
     chosen-mark = chosen-in i well r (l .inside)
@@ -109,9 +163,9 @@ module _ (road tree : List ℕ) (code wanted : ℕ) (crews drives places sheet :
     -- number p is its landmark's
     module _ (p n place : ℕ) (pick : IsPick i r p) (en : n ≡ u16At tree (at + 5)) (ep : place ≡ markPlace tree at p) where
       pub pick-inside : p < landmarkCount tree
-      pick-inside = omega (arith, marks-count r slot, pick .inside)
+      pick-inside = omega (arith, marks-count r (slot r l), pick .inside)
 
-      pub pick-small : p < 4
+      pick-small : p < 4
       pick-small = omega (arith, pick-inside, ready .laid .layout .landmarks .1)
 
       stands : place ≡ (at + 7) + p * markSize (u8At tree (at + 4)) (u16At tree (at + 5))
@@ -120,35 +174,37 @@ module _ (road tree : List ℕ) (code wanted : ℕ) (crews drives places sheet :
       mark-is : chosen i r ≡ listMark tree n place
       mark-is =
           sym (pick .is) ∙ (ap (λ (ms : List Mark). getD ms p noMark)
-          (marks-at r ∙ ap (λ (g : Region). g .marks) (rw (← here) at (laid-region tree places (ready .laid) r slot)))
+          (marks-at r ∙ ap (λ (g : Region). g .marks) (rw (← here) at (laid-region tree places (ready .laid) r (slot r l))))
           ∙ (leaf-mark-at tree (landmarkCount tree) at p place noMark pick-inside stands childless ∙ ap (λ (m : ℕ). listMark tree m place) (sym en)))
 
       pub list-room : place + (2 + 6 * n) ≤ length tree
       list-room = list-inside tree at record-here p pick-inside place ep (u8At tree (at + 4)) n refl childless en
 
       part : listAt tree place n ≡ readList (listPart tree n (place + 2)) n 0
-      part =
-          sym (part-list road tree place n (place + 2) (place + 2 + 6 * n) (ready .passed .roads .layout) refl refl list-room)
-          ∙ ap (λ (p : List ℕ). readList p n 0) (list-part tree n (place + 2) (place + 2 + 6 * n) refl)
+      part = sym (list-here tree place n (listPart tree n (place + 2)) refl)
 
       -- its list, its junction, and where they are
       pub list-of : chosen i r .list ≡ listAt tree place n
       list-of = ap (λ (m : Mark). m .list) mark-is ∙ (leaf-list (u16At tree place) (readList (listPart tree n (place + 2)) n 0) ∙ sym part)
 
-      pub place-of : chosen i r .place ≡ u16At tree place
+      place-of : chosen i r .place ≡ u16At tree place
       place-of = ap (λ (m : Mark). m .place) mark-is ∙ leaf-place (u16At tree place) (readList (listPart tree n (place + 2)) n 0)
 
       pub place-near : u16At tree place < junctions road
       place-near = omega (arith, well .shape .places r (chosen i r) chosen-mark, place-of, junctions-of)
 
-      pub list-near : Near (junctions road) (listAt tree place n)
-      list-near e k = omega (arith, well .shape .yards r (chosen i r) e (l .is) chosen-mark (rw list-of k), junctions-of)
+      pub list-near : Near (junctionCount tree) (listAt tree place n)
+      list-near e k = omega (arith, well .shape .yards r (chosen i r) e (l .is) chosen-mark (rw list-of k), tree-junctions)
+
+      -- the crews' rows reach its junction
+      pub driven-to : IsDriven crews drives (u16At tree place)
+      driven-to = record { road = road; driven = driven-of; junction = place-near }
 
       -- ---- the leaf is opened
 
       module _ (picks fs bounds fs′ bounds′ : List ℕ) (c : Cached i picks fs bounds)
           (f-set : fs′ ≡ byYard (fIn code (toCrews road (u16At tree place) crews)) (listAt tree place n) fs)
-          (bound-set : bounds′ ≡ byYard (boundIn code sheet rows crews (toCrews road (u16At tree place) crews))
+          (bound-set : bounds′ ≡ byYard (boundIn code sheet (landmarkCount tree) crews (toCrews road (u16At tree place) crews))
           (listAt tree place n) bounds) where
         m : Mark
         m = chosen i r
@@ -157,7 +213,7 @@ module _ (road tree : List ℕ) (code wanted : ℕ) (crews drives places sheet :
         unfolding m
         f-new = rw (place-of, list-of) f-set
 
-        bound-new : bounds′ ≡ byYard (boundIn code sheet rows crews (toCrews road (m .place) crews)) (m .list) bounds
+        bound-new : bounds′ ≡ byYard (boundIn code sheet (landmarkCount tree) crews (toCrews road (m .place) crews)) (m .list) bounds
         unfolding m
         bound-new = rw (place-of, list-of) bound-set
 
@@ -167,17 +223,17 @@ module _ (road tree : List ℕ) (code wanted : ℕ) (crews drives places sheet :
 
         new : Opened i (chosen i r) fs′ bounds′
         unfolding m
-        new = opened road tree code wanted crews sheet rows m fs bounds fs′ bounds′ f-new bound-new (near fs (c .fs-count)) (near bounds
+        new = opened road tree code wanted crews sheet (landmarkCount tree) m fs bounds fs′ bounds′ f-new bound-new (near fs (c .fs-count)) (near bounds
             (c .bounds-count))
             (λ e h j k. well .shape .once-listed r (chosen i r) e h (l .is) chosen-mark j k)
-            (λ e k q j. lower-of road tree code wanted crews (ready .passed) rows sheet (ready .sheeted) (e .yard) q
-            (rowsLower sheet rows (e .yard) q)
+            (λ e k q j. lower-of road tree code wanted crews (ready .passed) (landmarkCount tree) sheet (ready .sheeted) (e .yard) q
+            (rowsLower sheet (landmarkCount tree) (e .yard) q)
             (omega (arith, well .shape .yards r (chosen i r) e (l .is) chosen-mark k, junctions-of)) (ready .passed .there q j) refl)
 
         -- another leaf stays open
         old : (s : ℕ) → s ≢ r → s < size i → T (leaf i s) → Opened i (chosen i s) fs bounds → Opened i (chosen i s) fs′ bounds′
         unfolding m
-        old s d h t o = opened-kept road tree code wanted crews sheet rows m fs bounds fs′ bounds′ f-new bound-new (near fs (c .fs-count))
+        old s d h t o = opened-kept road tree code wanted crews sheet (landmarkCount tree) m fs bounds fs′ bounds′ f-new bound-new (near fs (c .fs-count))
             (near bounds (c .bounds-count)) (chosen i s)
             (λ e g k j q. d (well .shape .one-leaf s r (chosen i s) (chosen i r) (e .yard) t (l .is) (chosen-in i well s h) chosen-mark
             (record { element = g; mem = j; names = sym q }) (record { element = e; mem = k; names = refl })))
@@ -203,8 +259,39 @@ module _ (road tree : List ℕ) (code wanted : ℕ) (crews drives places sheet :
               picks-count = length-set picks r p ∙ c .picks-count;
               fs-count = ap length f-set ∙ (by-yard-length (fIn code (toCrews road (u16At tree place) crews))
                   (listAt tree place n) fs ∙ c .fs-count);
-              bounds-count = ap length bound-set ∙ (by-yard-length (boundIn code sheet rows crews (toCrews road (u16At tree place) crews))
+              bounds-count = ap length bound-set ∙ (by-yard-length (boundIn code sheet (landmarkCount tree) crews (toCrews road (u16At tree place) crews))
                   (listAt tree place n) bounds ∙ c .bounds-count);
               picked = λ s h t o. one s (ℕ-discrete s r) h t o .0;
               opened = λ s h t o. one s (ℕ-discrete s r) h t o .1;
             }
+
+      -- the words of a search, with the landmark's number and then its yards' f and bounds set
+      module _ (ws ws′ : List ℕ) (q : Leafed i (length places) (junctionCount tree) ws r) (h : Header) (eh : h ≡ headerOf tree) (j : ℕ)
+          (ej : j ≡ picksAt (h .regions) (h .junctions) + r)
+          (stored : ws′ ≡ byYards (regionCount tree) (junctionCount tree) (fIn code (toCrews road (u16At tree place) crews))
+          (boundIn code sheet (landmarkCount tree) crews (toCrews road (u16At tree place) crews)) (listAt tree place n) (set ws j p)) where
+        parts : Parts (length places) (junctionCount tree) ws′
+            (regionKeysIn (length places) (junctionCount tree) ws)
+            (yardKeysIn (length places) (junctionCount tree) ws)
+            (firstsIn (length places) (junctionCount tree) ws)
+            (set (picksIn (length places) (junctionCount tree) ws) r p)
+            (byYard (fIn code (toCrews road (u16At tree place) crews)) (listAt tree place n) (fsIn (length places) (junctionCount tree) ws))
+            (byYard (boundIn code sheet (landmarkCount tree) crews (toCrews road (u16At tree place) crews)) (listAt tree place n)
+            (boundsIn (length places) (junctionCount tree) ws))
+            (goneIn (length places) (junctionCount tree) ws)
+        parts = rw (stored, ← ready .laid .count) (by-yards-parts (length places) (junctionCount tree)
+            (fIn code (toCrews road (u16At tree place) crews)) (boundIn code sheet (landmarkCount tree) crews (toCrews road (u16At tree place) crews))
+            (listAt tree place n) list-near (store-pick (parts-of (length places) (junctionCount tree) ws) j p r (pick-place r ws q h eh j ej) (slot r l)))
+
+        pub same-queue : SameQueue (length places) (junctionCount tree) ws ws′
+        same-queue = record { keys = parts .keys-are; yards = parts .yards-are; firsts = parts .firsts-are; gone = parts .gone-are }
+
+        pub open-leaf : OpenLeaf i (picksIn (length places) (junctionCount tree) ws′) (fsIn (length places) (junctionCount tree) ws′)
+            (boundsIn (length places) (junctionCount tree) ws′) r p
+        open-leaf = rw (parts .picks-are, parts .fs-are, parts .bounds-are) (opens
+            (picksIn (length places) (junctionCount tree) ws) (fsIn (length places) (junctionCount tree) ws)
+            (boundsIn (length places) (junctionCount tree) ws)
+            (byYard (fIn code (toCrews road (u16At tree place) crews)) (listAt tree place n) (fsIn (length places) (junctionCount tree) ws))
+            (byYard (boundIn code sheet (landmarkCount tree) crews (toCrews road (u16At tree place) crews)) (listAt tree place n)
+            (boundsIn (length places) (junctionCount tree) ws))
+            (q .cached) refl refl (λ e. omega (arith, pick-small)))

@@ -2,14 +2,16 @@
 use mathlib.Core.Path.{_≡_, refl, sym, ap, _∙_}
 use mathlib.Core.Bool.{Bool, true}
 use mathlib.Core.List.{List, List·Memᴰ as Mem}
-use Prim.Native.Nat.{ℕ, _+_, _*_, _-_, _≤_, max}
+use Prim.Native.Nat.{ℕ, _+_, _≤_, _<_, max}
 use native.Mathlib.Omega.{arith}
-use lib.ListN.{length, getD, set, take, drop}
+use lib.ListN.{length, getD, set}
 use Rattle.book.specs.Bytes.{u16At}
 use Rattle.book.proofs.Lists.{getD-mem}
-use Rattle.road_layout.specs.Road.{junctions}
 use Rattle.tree_layout.specs.Values.{Element, Mark}
-use Rattle.tree_layout.specs.Decode.{readList}
+use Rattle.tree_layout.specs.Decode.{readList, listPart, junctionCount}
+use Rattle.tree_layout.specs.Reading.{headerOf}
+use Rattle.tree_layout.specs.Marks.{markPlace}
+use Rattle.tree_layout.specs.declared.Header.{Header}
 use Rattle.tree_layout.proofs.Formed.{readList-length}
 use Rattle.search_rules.specs.Instance.{Instance}
 use Rattle.search_rules.specs.Books.{searchOf}
@@ -21,15 +23,14 @@ use Rattle.search_rules.proofs.Steps.{open-leaf-on}
 use Rattle.search_rules.proofs.Turns.{word-at}
 use Rattle.search_held.specs.declared.Held.{Held}
 use Rattle.search_held.specs.Pairs.{heldOf}
-use Rattle.search_state.specs.State.{stateOf, newest}
-use Rattle.search_state.proofs.Newest.{state-is}
-use Rattle.tree_layout.specs.Marks.{markPlace}
-use Rattle.search_leaves.specs.Leaves.{Near, wordsOf, Opened}
-use Rattle.search_leaves.proofs.Opening.{part-list, part-near, part-room, opened-place, opened-f}
-use Rattle.search_next.specs.Next.{nextIn, nextWord}
-use Rattle.search_next.proofs.Nexts.{next-in, next-word}
-use Rattle.search_leaf.specs.Ready.{IsPick, Ready, IsLeaf, Waiting}
-use Rattle.search_leaf.proofs.Landmarks.{junctions-of, record-here, list-room, list-of, list-near}
+use Rattle.search_state.specs.State.{regionKeysIn, yardKeysIn, firstsIn, picksIn, fsIn, boundsIn, goneIn, stateOf, newest}
+use Rattle.search_state.proofs.Cells.{Parts, parts-of, state-by}
+use Rattle.search_leaves.specs.Leaves.{wordsOf, Opened}
+use Rattle.search_leaves.proofs.Opening.{list-here, header-regions-are, header-junctions-are, opened-place, opened-f}
+use Rattle.search_next.specs.Next.{nextIn, nextWord, leafQueued}
+use Rattle.search_next.proofs.Nexts.{next-in, next-word, leaf-queued, leaving-by}
+use Rattle.search_leaf.specs.Ready.{IsPick, Ready, Cached, IsLeaf, OpenLeaf, Waiting, Leafed, SameQueue}
+use Rattle.search_leaf.proofs.Landmarks.{well, tree-junctions, slot, record-here, chosen-mark, list-of}
 
 -- ---- the definition's next element, by the words of the leaf's yards
 
@@ -45,81 +46,134 @@ module _ (i : Instance) (m : Mark) (fs bounds : List ℕ) (o : Opened i m fs bou
       (wordAt (wordsOf fs gone (m .list)) (pick (wordsOf fs gone (m .list)) n)) count refl refl)
 
   next-mem : 1 ≤ n → Mem (nextIn fs gone es n) (m .list)
-  next-mem h = rw (next-in fs gone es n, same) (getD-mem (m .list) (pick (wordsOf fs gone (m .list)) n) noElement (rw (← count) (pick-range (wordsOf fs gone (m .list)) n h)))
+  next-mem h = rw (next-in fs gone es n, same)
+      (getD-mem (m .list) (pick (wordsOf fs gone (m .list)) n) noElement (rw (← count) (pick-range (wordsOf fs gone (m .list)) n h)))
 
   bound-is : 1 ≤ n → getD bounds (nextIn fs gone es n .yard) 0 ≡ yardBound i m (nextIn fs gone es n)
   bound-is h = o .keys (nextIn fs gone es n) (next-mem h)
 
--- ---- the part of the book that is the list of a ready search's leaf
+-- ---- the list of a ready search's leaf
 
-module _ (road tree : List ℕ) (code wanted : ℕ) (crews drives places sheet : List ℕ) (rows : ℕ)
-    (ready : Ready road tree code wanted crews drives places sheet rows)
+module _ (road tree : List ℕ) (code wanted : ℕ) (crews drives places sheet : List ℕ)
+    (ready : Ready road tree code wanted crews drives places sheet)
     (r : ℕ) (l : IsLeaf (searchOf road tree code wanted crews) r) (at : ℕ) (e : at ≡ getD places r 0)
     (p n place : ℕ) (picks : IsPick (searchOf road tree code wanted crews) r p) (en : n ≡ u16At tree (at + 5)) (ep : place ≡ markPlace tree at p)
-    (a z : ℕ) (ea : a ≡ place + 2) (ez : z ≡ a + 6 * n) where
+    (list : List ℕ) (el : list ≡ listPart tree n (place + 2)) where
   abbrev i : Instance
   i = searchOf road tree code wanted crews
 
   abbrev es : List Element
-  es = readList (take (z - a) (drop a tree)) n 0
+  es = readList list n 0
 
-  room : place + (2 + 6 * n) ≤ length tree
-  room = list-room road tree code wanted crews drives places sheet rows ready r l at e p n place picks en ep
+  abbrev regions : ℕ
+  regions = length places
 
-  list-here : es ≡ chosen i r .list
-  list-here = part-list road tree place n a z (ready .passed .roads .layout) ea ez room
-      ∙ sym (list-of road tree code wanted crews drives places sheet rows ready r l at e p n place picks en ep)
+  abbrev junctions : ℕ
+  junctions = junctionCount tree
+
+  list-is : es ≡ chosen i r .list
+  list-is = list-here tree place n list el
+      ∙ sym (list-of road tree code wanted crews drives places sheet ready r l at e p n place picks en ep)
 
   pub list-some : 1 ≤ n
-  list-some = rw en (record-here road tree code wanted crews drives places sheet rows ready r l at e .some)
+  list-some = rw en (record-here road tree code wanted crews drives places sheet ready r l at e .some)
 
-  pub list-whole : 6 * n ≤ length (take (z - a) (drop a tree))
-  list-whole = part-room road tree place n a z (ready .passed .roads .layout) ea ez room
-
-  pub list-end : (a ≤ z) × (z ≤ length tree)
-  list-end = let x = room in (omega arith, omega arith)
-
-  -- there is a word for each of its yards
-  pub list-words : (w : ℕ) → w ≡ i .tree .junctions → Near w es
-  list-words w q = part-near road tree place n a z (ready .passed .roads .layout) ea ez room
-      w (omega (arith, junctions-of road tree code wanted crews drives places sheet rows ready))
-      (list-near road tree code wanted crews drives places sheet rows ready r l at e p n place picks en ep)
+  count : n ≡ length (chosen i r .list)
+  count = sym (readList-length list n 0) ∙ ap length list-is
 
   -- what is stored is what the definition says
-  module _ (fs bounds keys yards firsts keys′ yards′ : List ℕ) (gone gone′ : List Bool) (o : Opened i (chosen i r) fs bounds)
-      (w : Waiting i keys yards firsts gone r)
-      (eg : gone′ ≡ set gone (nextIn fs gone es n .yard) true)
-      (ey : yards′ ≡ set yards (nextIn fs gone es n .yard) (max (getD bounds (nextIn fs gone es n .yard) 0) (getD firsts r 0)))
-      (ek : keys′ ≡ set keys r (againKey (getD firsts r 0) (nextWord fs gone′ es n))) where
+  module _ (fs bounds keys yards firsts : List ℕ) (gone : List Bool) (o : Opened i (chosen i r) fs bounds)
+      (w : Waiting i keys yards firsts gone r) where
     m : Mark
     m = chosen i r
 
     x : Element
     x = nextIn fs gone es n
 
-    count : n ≡ length (m .list)
-    unfolding m
-    count = sym (readList-length (take (z - a) (drop a tree)) n 0) ∙ ap length list-here
-
     first : getD firsts r 0 ≡ wordAt firsts r
     first = sym (word-at firsts r 0 (omega (arith, l .inside, w .firsts-count)))
 
-    pub leaf-taken : (held : Held) (measured : List ℕ) (counted : ℕ)
-        → stateOf keys′ yards′ firsts gone′ held measured counted ≡ openLeaf i (stateOf keys yards firsts gone held measured counted) r
+    leaf-state : (held : Held) (measured : List ℕ) (counted : ℕ) → record {
+      regionKeys = set keys r (againKey (getD firsts r 0) (nextWord fs (set gone (nextIn fs gone es n .yard) true) es n));
+      yardKeys = set yards (nextIn fs gone es n .yard) (max (getD bounds (nextIn fs gone es n .yard) 0) (getD firsts r 0));
+      firsts = firsts;
+      gone = set gone (nextIn fs gone es n .yard) true;
+      held = heldOf held;
+      measured = newest measured counted;
+    } ≡ openLeaf i (record { regionKeys = keys; yardKeys = yards; firsts = firsts; gone = gone; held = heldOf held; measured = newest measured counted }) r
     unfolding m x
-    leaf-taken held measured counted =
-        state-is keys′ yards′ firsts gone′ held measured counted
-        ∙ (rw (
-          ek,
-          ey,
-          eg,
+    leaf-state held measured counted =
+        rw (
           first,
-          bound-is i m fs bounds o gone n es count list-here list-some,
-          word-is i m fs bounds o
-              (set gone (x .yard) true) n es count list-here,
+          bound-is i m fs bounds o gone n es count list-is list-some,
+          word-is i m fs bounds o (set gone (x .yard) true) n es count list-is,
         ) refl
-        ∙ sym (ap (λ (s : State). openLeaf i s r) (state-is keys yards firsts gone held measured counted)
-        ∙ open-leaf-on i st r m x refl (next-is i m fs bounds o gone n es count list-here) (w .waits)))
+        ∙ sym (open-leaf-on i st r m x refl (next-is i m fs bounds o gone n es count list-is) (w .waits))
       where
         st : State
         st = record { regionKeys = keys; yardKeys = yards; firsts = firsts; gone = gone; held = heldOf held; measured = newest measured counted }
+
+  -- the words before, when the leaf is open, and when its next yard and the leaf are queued
+  module _ (ws ws′ : List ℕ) (q : Leafed i (length places) (junctionCount tree) ws r)
+      (same : SameQueue (length places) (junctionCount tree) ws ws′)
+      (o : OpenLeaf i (picksIn (length places) (junctionCount tree) ws′) (fsIn (length places) (junctionCount tree) ws′)
+      (boundsIn (length places) (junctionCount tree) ws′) r p) where
+    waits : Waiting i (regionKeysIn regions junctions ws′) (yardKeysIn regions junctions ws′) (firstsIn regions junctions ws′)
+        (goneIn regions junctions ws′) r
+    waits = rw (same .keys, same .yards, same .firsts, same .gone) (q .waiting)
+
+    y : ℕ
+    y = nextIn (fsIn regions junctions ws′) (goneIn regions junctions ws′) es n .yard
+
+    y-inside : y < junctions
+    unfolding y
+    y-inside = omega (
+      arith,
+      tree-junctions road tree code wanted crews drives places sheet ready,
+      well road tree code wanted crews drives places sheet ready .shape .yards r (chosen i r)
+          (nextIn (fsIn regions junctions ws′) (goneIn regions junctions ws′) es n) (l .is)
+          (chosen-mark road tree code wanted crews drives places sheet ready r l at e)
+          (next-mem i (chosen i r) (fsIn regions junctions ws′) (boundsIn regions junctions ws′) (o .opened)
+          (goneIn regions junctions ws′) n es count list-is list-some),
+    )
+
+    same-state : (held : Held) (measured : List ℕ) (counted : ℕ)
+        → stateOf regions junctions ws held measured counted ≡ record {
+          regionKeys = regionKeysIn regions junctions ws′;
+          yardKeys = yardKeysIn regions junctions ws′;
+          firsts = firstsIn regions junctions ws′;
+          gone = goneIn regions junctions ws′;
+          held = heldOf held;
+          measured = newest measured counted;
+        }
+    same-state held measured counted =
+        state-by (parts-of regions junctions ws) held measured counted ∙ rw (same .keys, same .yards, same .firsts, same .gone) refl
+
+    module _ (ws″ : List ℕ) (h : Header) (eh : h ≡ headerOf tree)
+        (stored : ws″ ≡ leafQueued (h .regions) (h .junctions) (readList list n 0) n ws′ r) where
+      is : ws″ ≡ leafQueued regions junctions es n ws′ r
+      is = rw (ready .laid .count, header-regions-are tree h eh, header-junctions-are tree h eh) stored
+
+      parts : Parts regions junctions ws″
+          (set (regionKeysIn regions junctions ws′) r (againKey (getD (firstsIn regions junctions ws′) r 0)
+          (nextWord (fsIn regions junctions ws′) (set (goneIn regions junctions ws′) y true) es n)))
+          (set (yardKeysIn regions junctions ws′) y (max (getD (boundsIn regions junctions ws′) y 0) (getD (firstsIn regions junctions ws′) r 0)))
+          (firstsIn regions junctions ws′) (picksIn regions junctions ws′) (fsIn regions junctions ws′) (boundsIn regions junctions ws′)
+          (set (goneIn regions junctions ws′) y true)
+      unfolding y
+      parts = rw is (leaf-queued regions junctions es n ws′ r (slot road tree code wanted crews drives places sheet ready r l) y
+          (sym (leaving-by regions junctions es n ws′)) y-inside)
+
+      pub leaf-cached : Cached i (picksIn (length places) (junctionCount tree) ws″) (fsIn (length places) (junctionCount tree) ws″)
+          (boundsIn (length places) (junctionCount tree) ws″)
+      leaf-cached = rw (parts .picks-are, parts .fs-are, parts .bounds-are) (o .cached)
+
+      pub leaf-taken : (held : Held) (measured : List ℕ) (counted : ℕ)
+          → stateOf (length places) (junctionCount tree) ws″ held measured counted
+          ≡ openLeaf i (stateOf (length places) (junctionCount tree) ws held measured counted) r
+      unfolding y
+      leaf-taken held measured counted =
+          state-by parts held measured counted
+          ∙ (leaf-state (fsIn regions junctions ws′) (boundsIn regions junctions ws′) (regionKeysIn regions junctions ws′)
+          (yardKeysIn regions junctions ws′) (firstsIn regions junctions ws′) (goneIn regions junctions ws′) (o .opened) waits held measured counted
+          ∙ sym (ap (λ (s : State). openLeaf i s r) (same-state held measured counted)))

@@ -6,7 +6,8 @@ use mathlib.Core.List.{List}
 use Prim.Native.Nat.{ℕ, _<_}
 use lib.ListN.{length, getD}
 use lib.Dec.{T}
-use Rattle.road_rows.specs.Rows.{Rowed}
+use Rattle.road.specs.Rows.{Rowed}
+use Rattle.tree_layout.specs.Decode.{landmarkCount}
 use Rattle.tree.specs.Arrays.{Laid}
 use Rattle.search_rules.specs.Instance.{Instance, size, marks, leaf}
 use Rattle.search_rules.specs.Books.{searchOf, Passed}
@@ -15,6 +16,7 @@ use Rattle.tree_layout.specs.Values.{noMark}
 use Rattle.search_rules.specs.Queue.{unqueued}
 use Rattle.search_rules.specs.Step.{nextF}
 use Rattle.search_bounds.specs.Sheet.{Sheet}
+use Rattle.search_state.specs.State.{wordCount, regionKeysIn, yardKeysIn, firstsIn, picksIn, fsIn, boundsIn, goneIn}
 use Rattle.search_leaves.specs.Leaves.{Opened}
 
 -- number p is that of the landmark that region r picks, among its own
@@ -23,15 +25,20 @@ pub record IsPick (i : Instance) (r p : ℕ) : Type 0 where
   pub is : getD (marks i r) p noMark ≡ chosen i r
 
 -- the books and the crews are accepted, each crew has its row of distances, the places are the tree book's, and the sheet is filled
-pub record Ready (road tree : List ℕ) (code wanted : ℕ) (crews drives places sheet : List ℕ) (rows : ℕ) : Type 0 where
+pub record Ready (road tree : List ℕ) (code k : ℕ) (crews drives places sheet : List ℕ) : Type 0 where
   pub passed : Passed road tree crews
   pub driven : Rowed road crews drives
   pub laid : Laid tree places
-  pub sheeted : Sheet (searchOf road tree code wanted crews) rows sheet
+  pub sheeted : Sheet (searchOf road tree code k crews) (landmarkCount tree) sheet
+
+-- beside some road book
+pub record Readied (tree : List ℕ) (code k : ℕ) (crews drives places sheet : List ℕ) : Type 0 where
+  pub road : List ℕ
+  pub ready : Ready road tree code k crews drives places sheet
 
 -- the mark of a leaf that was never taken
 abbrev pub unopened : ℕ
-unopened = 255
+unopened = 18446744073709551615
 
 -- for each leaf that was taken the number of its landmark, and at its yards' junctions their f and their bounds
 pub record Cached (i : Instance) (picks fs bounds : List ℕ) : Type 0 where
@@ -59,3 +66,18 @@ pub record Waiting (i : Instance) (keys yards firsts : List ℕ) (gone : List Bo
   pub yards-count : length yards ≡ i .tree .junctions
   pub gone-count : length gone ≡ i .tree .junctions
   pub waits : nextF i gone (chosen i r) < unqueued
+
+-- of a search of r regions and n junctions: region l is a leaf of which some yard remains,
+-- and the words keep what was taken before
+pub record Leafed (i : Instance) (r n : ℕ) (words : List ℕ) (l : ℕ) : Type 0 where
+  pub count : length words ≡ wordCount r n
+  pub cached : Cached i (picksIn r n words) (fsIn r n words) (boundsIn r n words)
+  pub isLeaf : IsLeaf i l
+  pub waiting : Waiting i (regionKeysIn r n words) (yardKeysIn r n words) (firstsIn r n words) (goneIn r n words) l
+
+-- of the words before and after, the keys, the first keys and which yards have left are the same
+pub record SameQueue (r n : ℕ) (before after : List ℕ) : Type 0 where
+  pub keys : regionKeysIn r n after ≡ regionKeysIn r n before
+  pub yards : yardKeysIn r n after ≡ yardKeysIn r n before
+  pub firsts : firstsIn r n after ≡ firstsIn r n before
+  pub gone : goneIn r n after ≡ goneIn r n before

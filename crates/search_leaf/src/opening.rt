@@ -1,97 +1,95 @@
 // A leaf when first taken picks its landmark, and its yards get their f and their bounds.
-use tree_layout::landmarks;
+use query::Query;
 use search_bounds::picks;
+use search_leaves::parts;
 use tree_layout::Region;
+use tree_layout::landmarks;
+use tree_layout::records;
+ghost use mathlib.Core.List.{List};
+ghost use Prim.Native.Nat.{ℕ};
+ghost use lib.ListN.{length};
+ghost use Rattle.tree_layout.specs.Decode.{junctionCount};
 ghost use Rattle.search_rules.specs.Books.{searchOf};
-ghost use Rattle.search_leaf.specs.Ready.{Ready, IsLeaf, Cached, OpenLeaf};
-
-// The mark of a leaf that was never taken.
-pub const UNOPENED: u8 = 255;
+ghost use Rattle.search_state.specs.State.{picksIn, fsIn, boundsIn};
+ghost use Rattle.search_leaf.specs.Ready.{Ready, Readied, Leafed, SameQueue, OpenLeaf};
 
 // Opens leaf r, and gives the number of its landmark among its own.
 fn open(
-    road: &[u8],
-    drives: &[u32],
-    crews: &[u16],
-    code: u8,
-    wanted: usize,
-    sheet: &[u32],
-    rows: usize,
     tree: &[u8],
     places: &[usize],
-    picked: &mut [u8],
-    fs: &mut [u64],
-    bounds: &mut [u64],
+    sheet: &[u32],
+    drives: &[u32],
+    crews: &[u16],
+    asked: Query,
+    words: &mut [u64],
     r: Region,
 ) -> usize
-    requires { ⌜ Ready (now road) (now tree) code wanted (now crews) (now drives) (now places) (now sheet) rows
-        × Cached (searchOf (now road) (now tree) code wanted (now crews)) (now picked) (now fs) (now bounds)
-        × IsLeaf (searchOf (now road) (now tree) code wanted (now crews)) (r .number) ⌝ }
-    ensures { λ p. ⌜ OpenLeaf (searchOf (now (road .entry)) (now (tree .entry)) code wanted (now (crews .entry)))
-        (now (picked .exit)) (now (fs .exit)) (now (bounds .exit)) (r .number) p ⌝ }
+    requires { ⌜ Readied (now tree) (asked .aggregate) (asked .wanted) (now crews) (now drives) (now places) (now sheet)
+        × ((road : List ℕ)
+        → Ready road (now tree) (asked .aggregate) (asked .wanted) (now crews) (now drives) (now places) (now sheet)
+        → Leafed (searchOf road (now tree) (asked .aggregate) (asked .wanted) (now crews))
+        (length (now places)) (junctionCount (now tree)) (now words) (r .number)) ⌝ }
+    ensures same { λ _. ⌜ SameQueue (length (now (places .entry))) (junctionCount (now (tree .entry)))
+        (now (words .entry)) (now (words .exit)) ⌝ }
+    ensures open { λ p. ⌜ ((road : List ℕ)
+        → Ready road (now (tree .entry)) (asked .aggregate) (asked .wanted)
+        (now (crews .entry)) (now (drives .entry)) (now (places .entry)) (now (sheet .entry))
+        → OpenLeaf (searchOf road (now (tree .entry)) (asked .aggregate) (asked .wanted) (now (crews .entry)))
+        (picksIn (length (now (places .entry))) (junctionCount (now (tree .entry))) (now (words .exit)))
+        (fsIn (length (now (places .entry))) (junctionCount (now (tree .entry))) (now (words .exit)))
+        (boundsIn (length (now (places .entry))) (junctionCount (now (tree .entry))) (now (words .exit)))
+        (r .number) p) ⌝ }
 {
-    let i = r.number as usize;
-    let p = picks::choose_mark(tree, places, sheet, rows, crews, r);
-    picked[i] = p as u8;
-    let at = places[i];
-    let n = book::u16_at(tree, at + 5) as usize;
+    let h = records::header(tree);
+    let p = picks::choose_mark(tree, places, sheet, h.landmarks as usize, crews, r);
+    let pick_place = parts::pick_at(h, r);
+    words[pick_place] = p as u64;
+    let at = places[r.number as usize];
+    let yards = records::fields(tree, at).yards as usize;
     let place = landmarks::mark_place(tree, at, p);
     search_leaves::open(
-        road,
-        drives,
-        crews,
-        code,
-        sheet,
-        rows,
         tree,
         place,
-        n,
-        fs,
-        bounds,
+        yards,
+        sheet,
+        drives,
+        crews,
+        asked.aggregate,
+        words,
     );
     p
 }
 
 // The number of leaf r's landmark among its own; the leaf is opened when it is first taken.
 pub fn landmark(
-    road: &[u8],
-    drives: &[u32],
-    crews: &[u16],
-    code: u8,
-    wanted: usize,
-    sheet: &[u32],
-    rows: usize,
     tree: &[u8],
     places: &[usize],
-    picked: &mut [u8],
-    fs: &mut [u64],
-    bounds: &mut [u64],
+    sheet: &[u32],
+    drives: &[u32],
+    crews: &[u16],
+    asked: Query,
+    words: &mut [u64],
     r: Region,
 ) -> usize
-    requires { ⌜ Ready (now road) (now tree) code wanted (now crews) (now drives) (now places) (now sheet) rows
-        × Cached (searchOf (now road) (now tree) code wanted (now crews)) (now picked) (now fs) (now bounds)
-        × IsLeaf (searchOf (now road) (now tree) code wanted (now crews)) (r .number) ⌝ }
-    ensures { λ p. ⌜ OpenLeaf (searchOf (now (road .entry)) (now (tree .entry)) code wanted (now (crews .entry)))
-        (now (picked .exit)) (now (fs .exit)) (now (bounds .exit)) (r .number) p ⌝ }
+    requires { ⌜ Readied (now tree) (asked .aggregate) (asked .wanted) (now crews) (now drives) (now places) (now sheet)
+        × ((road : List ℕ)
+        → Ready road (now tree) (asked .aggregate) (asked .wanted) (now crews) (now drives) (now places) (now sheet)
+        → Leafed (searchOf road (now tree) (asked .aggregate) (asked .wanted) (now crews))
+        (length (now places)) (junctionCount (now tree)) (now words) (r .number)) ⌝ }
+    ensures same { λ _. ⌜ SameQueue (length (now (places .entry))) (junctionCount (now (tree .entry)))
+        (now (words .entry)) (now (words .exit)) ⌝ }
+    ensures open { λ p. ⌜ ((road : List ℕ)
+        → Ready road (now (tree .entry)) (asked .aggregate) (asked .wanted)
+        (now (crews .entry)) (now (drives .entry)) (now (places .entry)) (now (sheet .entry))
+        → OpenLeaf (searchOf road (now (tree .entry)) (asked .aggregate) (asked .wanted) (now (crews .entry)))
+        (picksIn (length (now (places .entry))) (junctionCount (now (tree .entry))) (now (words .exit)))
+        (fsIn (length (now (places .entry))) (junctionCount (now (tree .entry))) (now (words .exit)))
+        (boundsIn (length (now (places .entry))) (junctionCount (now (tree .entry))) (now (words .exit)))
+        (r .number) p) ⌝ }
 {
-    let i = r.number as usize;
-    let p = picked[i];
-    if p != UNOPENED {
+    let p = words[parts::pick_at(records::header(tree), r)];
+    if p != search_queue::UNQUEUED {
         return p as usize;
     }
-    open(
-        road,
-        drives,
-        crews,
-        code,
-        wanted,
-        sheet,
-        rows,
-        tree,
-        places,
-        picked,
-        fs,
-        bounds,
-        r,
-    )
+    open(tree, places, sheet, drives, crews, asked, words, r)
 }

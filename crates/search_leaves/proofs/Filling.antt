@@ -1,5 +1,6 @@
 -- Words set by yard, one element at a time. Assumes nothing.
 use mathlib.Core.Path.{_≡_, refl, sym, ap, _∙_}
+use mathlib.Core.Bool.{Bool}
 use mathlib.Core.List.{List, [], _∷_, List·Memᴰ as Mem, List·Memᴰ·head as head, List·Memᴰ·tail as tail, List·Memᴰ·not-nil}
 use Prim.Native.Nat.{ℕ, zero, suc, _+_, _*_, _-_, _≤_, _<_}
 use native.Mathlib.Decide.{ℕ-discrete}
@@ -7,59 +8,76 @@ use native.Mathlib.Nat.{sub-zero}
 use native.Mathlib.Omega.{arith}
 use lib.ListN.{length, getD, set, length-set}
 use lib.Seq.{getD-set-same, getD-set-other}
-use Rattle.book.specs.Bytes.{u16At, u32At}
 use Rattle.tree_layout.specs.Values.{Element}
 use Rattle.tree_layout.specs.Decode.{elementAt, readList}
+use Rattle.tree_layout.specs.Accessors.{listedAt}
+use Rattle.tree_layout.specs.declared.Listed.{Listed}
 use Rattle.tree_layout.proofs.Reading.{element-yard, list-turn, list-none}
 use Rattle.tree_layout.proofs.Decoding.{element-is, read-list-next}
-use Rattle.search_leaves.specs.Leaves.{Near, byYard}
+use Rattle.search_state.specs.State.{fsAt, boundsAt}
+use Rattle.search_state.proofs.Cells.{Parts, store-f, store-bound}
+use Rattle.search_leaves.specs.Leaves.{Near, byYard, byYards}
 
--- ---- with k of n elements done, the next one at a place
+-- ---- an element by its number
 
--- the rest of the list, and where its yards are
-pub record Rest (p : List ℕ) (n k at : ℕ) : Type 0 where
-  pub inside : k ≤ n
-  pub room : at + 6 * (n - k) ≤ length p
-  pub members : (e : Element) → Mem e (readList p (n - k) at) → Mem e (readList p n 0)
+element-mem : (p : List ℕ) (n at k : ℕ) → k < n → Mem (elementAt p (at + 6 * k)) (readList p n at)
+element-mem p zero at k h = absurd (omega arith)
+element-mem p (suc n) at zero h =
+    let z : at + 6 * 0 ≡ at = omega arith in
+    rw (z, read-list-next p n at) (head refl)
+element-mem p (suc n) at (suc k) h =
+    let z : at + 6 * suc k ≡ at + 6 + 6 * k = omega arith in
+    rw (z, read-list-next p n at) (tail (element-mem p n (at + 6) k (omega arith)))
 
-pub rest-all : (p : List ℕ) (n : ℕ) → 6 * n ≤ length p → Rest p n 0 0
-rest-all p n h = record { inside = omega arith; room = omega arith; members = λ e m. rw sub-zero at m }
+-- the yard of element number k is where the list's yards are
+pub yard-near : (p : List ℕ) (n k w : ℕ) (e : Listed) → k < n → e ≡ listedAt p k → Near w (readList p n 0) → e .yard < w
+yard-near p n k w e h q near =
+    let z : 0 + 6 * k ≡ 6 * k = omega arith in
+    rw (q, ← element-yard p (6 * k)) (near (elementAt p (6 * k)) (rw z at (element-mem p n 0 k h)))
 
-module _ {p : List ℕ} {n k at : ℕ} (r : Rest p n k at) (h : k < n) where
-  -- the element there is one of the list
-  pub rest-here : Mem (elementAt p at) (readList p n 0)
-  rest-here = r .members (elementAt p at) (rw (list-turn p n k at h) (head refl))
+-- ---- with k of n elements done
 
-  pub rest-next : Rest p n (k + 1) (at + 6)
-  rest-next = record { inside = omega arith; room = omega (arith, r .room); members = λ e m. r .members e (rw (list-turn p n k at h) (tail m)) }
-
-  -- its yard is where the list's yards are
-  pub rest-near : (w yard : ℕ) → yard ≡ u16At p (at + 4) → Near w (readList p n 0) → yard < w
-  rest-near w yard e near = rw (e, ← element-yard p at) (near (elementAt p at) rest-here)
-
--- words set by yard from the place on are those set from the start
-pub record Filled (g : Element → ℕ) (p : List ℕ) (n k at : ℕ) (ws₀ ws : List ℕ) : Type 0 where
+-- two words set by yard from the place on are those set from the start
+pub record Filled (regions junctions : ℕ) (g b : Element → ℕ) (p : List ℕ) (n k : ℕ) (ws₀ ws : List ℕ) : Type 0 where
   pub same : length ws ≡ length ws₀
-  pub rest : byYard g (readList p (n - k) at) ws ≡ byYard g (readList p n 0) ws₀
+  pub rest : byYards regions junctions g b (readList p (n - k) (6 * k)) ws ≡ byYards regions junctions g b (readList p n 0) ws₀
 
-pub filled-none : (g : Element → ℕ) (p : List ℕ) (n : ℕ) (ws : List ℕ) → Filled g p n 0 0 ws ws
-filled-none g p n ws = record { same = refl; rest = simp sub-zero }
+module _ (regions junctions : ℕ) (g b : Element → ℕ) (p : List ℕ) (n : ℕ) where
+  pub filled-none : (ws : List ℕ) → Filled regions junctions g b p n 0 ws ws
+  filled-none ws = record { same = refl; rest = simp sub-zero }
 
-pub filled-more : (g : Element → ℕ) (p : List ℕ) (n k at : ℕ) (ws₀ ws : List ℕ) → Filled g p n k at ws₀ ws → k < n
-    → (distance yard x : ℕ) → distance ≡ u32At p at → yard ≡ u16At p (at + 4) → x ≡ g (record { distance = distance; yard = yard })
-    → Filled g p n (k + 1) (at + 6) ws₀ (set ws yard x)
-unfolding byYard
-filled-more g p n k at ws₀ ws f h distance yard x d y e = record {
-  same = length-set ws yard x ∙ f .same;
-  rest = sym step ∙ f .rest;
-}
-  where
-    step : byYard g (readList p (n - k) at) ws ≡ byYard g (readList p (n - (k + 1)) (at + 6)) (set ws yard x)
-    step = rw (list-turn p n k at h, element-is p at, ← d, ← y, e) refl
+  module _ (k : ℕ) (ws₀ ws : List ℕ) (f : Filled regions junctions g b p n k ws₀ ws) where
+    pub filled-more : k < n → (e : Listed) → e ≡ listedAt p k → (x y i j : ℕ)
+        → x ≡ g (record { distance = e .distance; yard = e .yard }) → y ≡ b (record { distance = e .distance; yard = e .yard })
+        → i ≡ fsAt regions junctions + e .yard → j ≡ boundsAt regions junctions + e .yard
+        → Filled regions junctions g b p n (k + 1) ws₀ (set (set ws i x) j y)
+    unfolding byYards
+    filled-more h e q x y i j ex ey ei ej = record {
+      same = length-set (set ws i x) j y ∙ (length-set ws i x ∙ f .same);
+      rest = sym step ∙ f .rest;
+    }
+      where
+        is : elementAt p (6 * k) ≡ record { distance = e .distance; yard = e .yard }
+        is = element-is p (6 * k) ∙ rw q refl
 
-pub filled-all : (g : Element → ℕ) (p : List ℕ) (n k at : ℕ) (ws₀ ws : List ℕ) → Filled g p n k at ws₀ ws → n ≤ k → ws ≡ byYard g (readList p n 0) ws₀
-unfolding byYard
-filled-all g p n k at ws₀ ws f h = rw (list-none p n k at h) at (f .rest)
+        step : byYards regions junctions g b (readList p (n - k) (6 * k)) ws
+            ≡ byYards regions junctions g b (readList p (n - (k + 1)) (6 * (k + 1))) (set (set ws i x) j y)
+        step = let z : 6 * (k + 1) ≡ 6 * k + 6 = omega arith in rw (z, ex, ey, ei, ej, list-turn p n k (6 * k) h, is) refl
+
+    pub filled-all : n ≤ k → ws ≡ byYards regions junctions g b (readList p n 0) ws₀
+    unfolding byYards
+    filled-all h = rw (list-none p n k (6 * k) h) at (f .rest)
+
+-- ---- the parts of words that are so set
+
+pub by-yards-parts : (r n : ℕ) (g b : Element → ℕ) (es : List Element) {ws keys yards firsts picks fs bounds : List ℕ} {gone : List Bool}
+    → Near n es → Parts r n ws keys yards firsts picks fs bounds gone
+    → Parts r n (byYards r n g b es ws) keys yards firsts picks (byYard g es fs) (byYard b es bounds) gone
+unfolding byYards byYard
+by-yards-parts r n g b [] near p = p
+by-yards-parts r n g b (e ∷ es) near p =
+    by-yards-parts r n g b es (λ x m. near x (tail m))
+    (store-bound (store-f p (fsAt r n + e .yard) (g e) (e .yard) refl (near e (head refl))) (boundsAt r n + e .yard) (b e) (e .yard) refl (near e (head refl)))
 
 -- ---- what the words are
 
@@ -92,20 +110,3 @@ module _ (g : Element → ℕ) where
       (rw q (getD-set-same ws (x .yard) (g x) 0 (near x (head refl)))) (λ a k s. ap g (once a e (tail k) (head q) s))
   by-yard-at (x ∷ xs) ws near once e (tail m) =
       by-yard-at xs (set ws (x .yard) (g x)) (λ a k. rw length-set (near a (tail k))) (λ a b j k s. once a b (tail j) (tail k) s) e m
-
--- ---- an element by its number
-
-element-mem : (p : List ℕ) (n at k : ℕ) → k < n → Mem (elementAt p (at + 6 * k)) (readList p n at)
-element-mem p zero at k h = absurd (omega arith)
-element-mem p (suc n) at zero h =
-    let z : at + 6 * 0 ≡ at = omega arith in
-    rw (z, read-list-next p n at) (head refl)
-element-mem p (suc n) at (suc k) h =
-    let z : at + 6 * suc k ≡ at + 6 + 6 * k = omega arith in
-    rw (z, read-list-next p n at) (tail (element-mem p n (at + 6) k (omega arith)))
-
--- the yard of element number k is where the list's yards are
-pub yard-near : (p : List ℕ) (n k w yard : ℕ) → k < n → yard ≡ u16At p (6 * k + 4) → Near w (readList p n 0) → yard < w
-yard-near p n k w yard h e near =
-    let z : 0 + 6 * k ≡ 6 * k = omega arith in
-    rw (e, ← element-yard p (6 * k)) (near (elementAt p (6 * k)) (rw z at (element-mem p n 0 k h)))

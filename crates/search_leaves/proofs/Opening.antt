@@ -1,69 +1,102 @@
 -- An opened leaf has the search's numbers at its yards, and another stays open. Assumes nothing.
-use mathlib.Core.Path.{_≡_, refl, ap, _∙_}
+use mathlib.Core.Path.{_≡_, refl, sym, ap, _∙_}
 use mathlib.Core.Logic.{_≢_}
 use mathlib.Core.Bool.{Bool}
 use mathlib.Core.List.{List, _++_, List·Memᴰ as Mem}
-use Prim.Native.Nat.{ℕ, _+_, _*_, _-_, _≤_, _<_}
+use Prim.Native.Nat.{ℕ, _+_, _*_, _≤_}
 use native.Mathlib.Omega.{arith}
-use lib.ListN.{length, take, drop, length-append, length-take, length-drop}
+use lib.ListN.{length, take, length-append, length-take, length-drop}
 use lib.Seq.{take-at}
 use Rattle.book.specs.Bytes.{u16At}
-use Rattle.road_layout.specs.Road.{junctions}
-use Rattle.road_layout.specs.Facts.{RoadLayout}
 use Rattle.tree_layout.specs.Values.{Element, Mark}
-use Rattle.tree_layout.specs.Decode.{readList}
-use Rattle.tree_layout.proofs.Reading.{list-part}
+use Rattle.tree_layout.specs.Decode.{readList, listPart, regionCount, junctionCount, landmarkCount}
+use Rattle.tree_layout.specs.Reading.{headerOf}
+use Rattle.tree_layout.specs.declared.Header.{Header}
+use Rattle.tree_layout.proofs.Reading.{header-regions, header-junctions}
+use Rattle.tree_layout.proofs.Decoding.{list-part-is}
 use Rattle.search_rules.specs.Instance.{Instance}
 use Rattle.search_rules.specs.Books.{searchOf}
 use Rattle.search_rules.specs.Bounds.{lower, f, yardBound}
 use Rattle.search_rules.specs.Queue.{wordAt, pick}
 use Rattle.search_rules.specs.Step.{nextPlace, nextF}
-use Rattle.search_bounds.specs.Rows.{rowsLower}
+use Rattle.search_bounds.specs.Rows.{Rows, rowsLower}
 use Rattle.search_bounds.specs.Bounds.{Crews}
-use Rattle.search_yards.specs.Measures.{Driven, toCrews}
-use Rattle.search_yards.proofs.ToCrews.{to-length}
+use Rattle.search_yards.specs.Measures.{Driven, IsDriven, toCrews}
 use Rattle.search_yards.proofs.Searching.{f-by, bound-by}
-use Rattle.search_leaves.specs.Leaves.{Near, byYard, fIn, boundIn, wordsOf, listAt, Opened}
+use Rattle.search_state.specs.State.{wordCount}
+use Rattle.search_leaves.specs.Leaves.{Near, byYard, byYards, fIn, boundIn, wordsOf, listAt, Opened}
 use Rattle.search_leaves.proofs.Filling.{by-yard-at, by-yard-kept}
 use Rattle.search_leaves.proofs.Scanning.{next-place, next-f}
 
--- ---- the part of the book
+-- ---- the list in the book
 
-module _ (road tree : List ℕ) (at yards a z : ℕ) (layout : RoadLayout road) (ea : a ≡ at + 2) (ez : z ≡ a + 6 * yards)
-    (room : at + (2 + 6 * yards) ≤ length tree) where
-  -- the part that is lent is the list's
-  pub part-list : readList (take (z - a) (drop a tree)) yards 0 ≡ listAt tree at yards
+module _ (tree : List ℕ) (at yards : ℕ) (l : List ℕ) (e : l ≡ listPart tree yards (at + 2)) where
+  -- the part that is read is the list's
+  pub list-here : readList l yards 0 ≡ listAt tree at yards
   unfolding listAt
-  part-list = rw (list-part tree yards a z ez, ea) refl
+  list-here = rw e refl
 
-  pub part-near : (w : ℕ) → junctions road ≤ w → Near (junctions road) (listAt tree at yards) → Near w (readList (take (z - a) (drop a tree)) yards 0)
-  part-near w h near e m = let k : e .yard < junctions road = near e (rw part-list at m) in omega arith
+  pub list-near : (w v : ℕ) → w ≡ v → Near w (listAt tree at yards) → Near v (readList l yards 0)
+  list-near w v q near x m = rw (← q) (near x (rw list-here at m))
 
-  pub part-room : 6 * yards ≤ length (take (z - a) (drop a tree))
-  part-room = simp (length-take, length-drop) (omega arith)
+  pub list-whole : at + (2 + 6 * yards) ≤ length tree → 6 * yards ≤ length l
+  list-whole h = rw (e, list-part-is tree yards (at + 2)) (simp (length-take, length-drop) (omega arith))
 
-  -- words set by the part and the distances that were computed
-  pub part-filled : (g : List ℕ → Element → ℕ) (crews out ws ws′ : List ℕ) (place : ℕ) → place ≡ u16At tree at → out ≡ toCrews road place crews
-      → ws′ ≡ byYard (g out) (readList (take (z - a) (drop a tree)) yards 0) ws → ws′ ≡ byYard (g (toCrews road (u16At tree at) crews)) (listAt tree at yards) ws
-  part-filled g crews out ws ws′ place p o e = rw (← p, ← o, ← part-list) e
+-- ---- the header's counts
+
+module _ (b : List ℕ) (h : Header) (e : h ≡ headerOf b) where
+  pub header-regions-are : regionCount b ≡ h .regions
+  header-regions-are = rw e (sym (header-regions b))
+
+  pub header-junctions-are : junctionCount b ≡ h .junctions
+  header-junctions-are = rw e (sym (header-junctions b))
+
+  pub header-landmarks-are : landmarkCount b ≡ h .landmarks
+  unfolding headerOf
+  header-landmarks-are = rw e refl
+
+  -- there is a word for all of them
+  pub header-words : (ws : List ℕ) → length ws ≡ wordCount (regionCount b) (junctionCount b) → length ws ≡ wordCount (h .regions) (h .junctions)
+  header-words ws q = rw (← header-regions-are, ← header-junctions-are) q
+
+  pub header-rows : (sheet : List ℕ) → Rows sheet (landmarkCount b) → Rows sheet (h .landmarks)
+  header-rows sheet r = rw (← header-landmarks-are) r
+
+-- the junction that was read is one of the road book's
+pub driven-at : (crews drives : List ℕ) (v w : ℕ) → v ≡ w → IsDriven crews drives w → IsDriven crews drives v
+driven-at crews drives v w e d = rw e d
 
 -- the crews have places in the sheet
 pub crews-wide : (road crews drives : List ℕ) → Driven road crews drives → Crews crews
 crews-wide road crews drives d = record { few = d .few; there = λ q m. omega (arith, d .there q m, d .roads .layout .few-junctions) }
 
 -- with the distances to the crews in the first words of an array
-module _ (road : List ℕ) (l : ℕ) (crews out rest : List ℕ) (e : out ≡ toCrews road l crews) where
-  words : length out ≡ length crews
-  words = ap length e ∙ to-length road l crews
+module _ (crews out rest : List ℕ) (e : length out ≡ length crews) where
+  pub front : take (length crews) (out ++ rest) ≡ out
+  front = take-at out rest (length crews) e
 
   pub front-room : length crews ≤ length (out ++ rest)
-  front-room = simp length-append (omega (arith, words))
-
-  pub front : take (length crews) (out ++ rest) ≡ toCrews road l crews
-  front = take-at out rest (length crews) words ∙ e
+  front-room = simp length-append (omega arith)
 
   pub front-length : length (take (length crews) (out ++ rest)) ≡ length crews
-  front-length = ap length front ∙ to-length road l crews
+  front-length = ap length front ∙ e
+
+-- words set by the list and the distances that were read
+module _ (tree : List ℕ) (at yards : ℕ) (l : List ℕ) (el : l ≡ listPart tree yards (at + 2)) (h : Header) (eh : h ≡ headerOf tree)
+    (code : ℕ) (sheet crews out rest : List ℕ) (count : length out ≡ length crews) (ws ws′ : List ℕ)
+    (filled : ws′ ≡ byYards (h .regions) (h .junctions) (fIn code (take (length crews) (out ++ rest)))
+    (boundIn code sheet (h .landmarks) crews (take (length crews) (out ++ rest))) (readList l yards 0) ws) where
+  pub opened-words : (road : List ℕ) (place : ℕ) → place ≡ u16At tree at → out ≡ toCrews road place crews
+      → ws′ ≡ byYards (regionCount tree) (junctionCount tree) (fIn code (toCrews road (u16At tree at) crews))
+      (boundIn code sheet (landmarkCount tree) crews (toCrews road (u16At tree at) crews)) (listAt tree at yards) ws
+  opened-words road place p o = rw (
+    ← p,
+    ← o,
+    ← list-here tree at yards l el,
+    header-regions-are tree h eh,
+    header-junctions-are tree h eh,
+    header-landmarks-are tree h eh,
+  ) (rw (front crews out rest count) at filled)
 
 -- ---- of a search of two books
 
@@ -78,7 +111,8 @@ module _ (road tree : List ℕ) (code wanted : ℕ) (crews : List ℕ) (sheet : 
   abbrev i : Instance
   i = searchOf road tree code wanted crews
 
-  pub opened : Once (m .list) → ((e : Element) → Mem e (m .list) → (q : ℕ) → Mem q crews → rowsLower sheet rows (e .yard) q ≡ lower i (e .yard) q) → Opened i m fs′ bounds′
+  pub opened : Once (m .list) → ((e : Element) → Mem e (m .list) → (q : ℕ) → Mem q crews → rowsLower sheet rows (e .yard) q ≡ lower i (e .yard) q) →
+      Opened i m fs′ bounds′
   opened once low = record {
     words = λ e k. rw f-set (by-yard-at (fIn code (toCrews road (m .place) crews)) (m .list) fs near-fs once e k)
         ∙ f-by road tree code wanted crews m e (toCrews road (m .place) crews) refl;
@@ -89,8 +123,10 @@ module _ (road tree : List ℕ) (code wanted : ℕ) (crews : List ℕ) (sheet : 
   -- a leaf of other yards that is open stays so
   pub opened-kept : (n : Mark) → ((e h : Element) → Mem e (m .list) → Mem h (n .list) → e .yard ≢ h .yard) → Opened i n fs bounds → Opened i n fs′ bounds′
   opened-kept n other o = record {
-    words = λ h k. rw f-set (by-yard-kept (fIn code (toCrews road (m .place) crews)) (m .list) fs (h .yard) (f i n h) near-fs (o .words h k) (λ e j q. absurd (other e h j k q)));
-    keys = λ h k. rw bound-set (by-yard-kept (boundIn code sheet rows crews (toCrews road (m .place) crews)) (m .list) bounds (h .yard) (yardBound i n h) near-bounds (o .keys h k)
+    words = λ h k. rw f-set
+        (by-yard-kept (fIn code (toCrews road (m .place) crews)) (m .list) fs (h .yard) (f i n h) near-fs (o .words h k) (λ e j q. absurd (other e h j k q)));
+    keys = λ h k. rw bound-set
+        (by-yard-kept (boundIn code sheet rows crews (toCrews road (m .place) crews)) (m .list) bounds (h .yard) (yardBound i n h) near-bounds (o .keys h k)
         (λ e j q. absurd (other e h j k q)));
   }
 

@@ -12,6 +12,7 @@ use Rattle.search_rules.specs.Bounds.{f, yardBound}
 use Rattle.search_rules.specs.Queue.{unqueued}
 use Rattle.search_rules.specs.Step.{left}
 use Rattle.search_yards.specs.Measures.{fBy, yardBoundBy}
+use Rattle.search_state.specs.State.{fsAt, boundsAt}
 
 -- every yard of a list is below n
 abbrev pub Near : ℕ → List Element → Type 0
@@ -21,6 +22,13 @@ Near n es = (e : Element) → Mem e es → e .yard < n
 unfoldable pub byYard : (Element → ℕ) → List Element → List ℕ → List ℕ
 byYard g [] ws = ws
 byYard g (e ∷ es) ws = byYard g es (set ws (e .yard) (g e))
+
+-- a search's words, with g of each element of a list set at its yard among the f's, and b of it among the bounds
+unfoldable pub byYards : (regions junctions : ℕ) → (g b : Element → ℕ) → List Element → List ℕ → List ℕ
+byYards regions junctions g b [] ws = ws
+byYards regions junctions g b (e ∷ es) ws =
+    byYards regions junctions g b es
+    (set (set ws (fsAt regions junctions + e .yard) (g e)) (boundsAt regions junctions + e .yard) (b e))
 
 -- an element's f, and its yard's bound: out has the landmark's distances to the crews
 abbrev pub fIn : ℕ → List ℕ → Element → ℕ

@@ -1,105 +1,100 @@
 // A leaf's list: f and the bound of each of its yards, and which leaves next.
-use book::Junction;
+pub mod parts; // parts.rt: where a search's words stand
+
 use search_queue::UNQUEUED;
+use tree_layout::Header;
+use tree_layout::records;
 ghost use mathlib.Core.Path.{_≡_};
-ghost use Prim.Native.Nat.{_+_, _*_, _≤_, _<_};
+ghost use mathlib.Core.List.{List};
+ghost use Prim.Native.Nat.{ℕ, _+_, _*_, _≤_, _<_};
 ghost use lib.ListN.{length};
 ghost use Rattle.book.specs.Bytes.{u16At};
 ghost use Rattle.road_layout.specs.Road.{junctions};
-ghost use Rattle.tree_layout.specs.Decode.{readList};
+ghost use Rattle.tree_layout.specs.Decode.{readList, junctionCount, regionCount, landmarkCount};
 ghost use Rattle.search_rules.specs.Queue.{wordAt, pick};
 ghost use Rattle.search_bounds.specs.Rows.{Rows};
 ghost use Rattle.search_bounds.specs.Bounds.{Crews};
-ghost use Rattle.search_yards.specs.Measures.{Driven, toCrews};
-ghost use Rattle.search_leaves.specs.Leaves.{Near, byYard, fIn, boundIn, wordOf, wordsOf, listAt};
+ghost use Rattle.search_yards.specs.Measures.{Driven, IsDriven, toCrews};
+ghost use Rattle.search_state.specs.State.{wordCount, fsIn, goneIn};
+ghost use Rattle.search_leaves.specs.Leaves.{Near, byYards, fIn, boundIn, wordOf, wordsOf, listAt};
 
 // Sets f and the bound of each yard of a landmark's list, given the landmark's distances to the crews.
 fn fill(
     list: &[u8],
     yards: usize,
     sheet: &[u32],
-    rows: usize,
     crews: &[u16],
     out: &[u32],
     code: u8,
-    fs: &mut [u64],
-    bounds: &mut [u64],
+    h: Header,
+    words: &mut [u64],
 )
-    requires { ⌜ (6 * yards ≤ length (now list)) × Rows (now sheet) rows × Crews (now crews) × (length (now out) ≡ length (now crews))
-        × Near 1024 (readList (now list) yards 0) × Near (length (now fs)) (readList (now list) yards 0)
-        × Near (length (now bounds)) (readList (now list) yards 0) ⌝ }
-    ensures { λ _. ⌜ (now (fs .exit) ≡ byYard (fIn code (now (out .entry))) (readList (now (list .entry)) yards 0) (now (fs .entry)))
-        × (now (bounds .exit)
-        ≡ byYard (boundIn code (now (sheet .entry)) rows (now (crews .entry)) (now (out .entry))) (readList (now (list .entry)) yards 0) (now (bounds .entry))) ⌝ }
+    requires { ⌜ (6 * yards ≤ length (now list)) × Rows (now sheet) (h .landmarks) × Crews (now crews)
+        × (length (now out) ≡ length (now crews)) × Near (h .junctions) (readList (now list) yards 0)
+        × (h .junctions ≤ 1024) × (length (now words) ≡ wordCount (h .regions) (h .junctions)) ⌝ }
+    ensures { λ _. ⌜ now (words .exit) ≡ byYards (h .regions) (h .junctions) (fIn code (now (out .entry)))
+        (boundIn code (now (sheet .entry)) (h .landmarks) (now (crews .entry)) (now (out .entry)))
+        (readList (now (list .entry)) yards 0) (now (words .entry)) ⌝ }
 {
-    let mut at: usize = 0;
+    let rows = h.landmarks as usize;
     let mut k: usize = 0;
     while k < yards {
-        let distance = book::u32_at(list, at);
-        let yard = book::u16_at(list, at + 4);
-        let i = yard as usize;
-        fs[i] = search_yards::f_of(out, code, distance);
-        bounds[i] = search_yards::yard_bound(sheet, rows, crews, out, code, yard, distance);
-        at += 6;
+        let e = records::element(list, k);
+        let y = e.yard;
+        let f = search_yards::f_of(out, code, e.distance);
+        let bound = search_yards::yard_bound(sheet, rows, crews, out, code, y, e.distance);
+        let f_place = parts::f_at(h, y);
+        let bound_place = parts::bound_at(h, y);
+        words[f_place] = f;
+        words[bound_place] = bound;
         k += 1;
     }
 }
 
 // Opens a leaf by its landmark that stands at a place of the tree book: sets f and the bound of each yard of its list.
 pub fn open(
-    road: &[u8],
-    drives: &[u32],
-    crews: &[u16],
-    code: u8,
-    sheet: &[u32],
-    rows: usize,
     tree: &[u8],
     at: usize,
     yards: usize,
-    fs: &mut [u64],
-    bounds: &mut [u64],
+    sheet: &[u32],
+    drives: &[u32],
+    crews: &[u16],
+    code: u8,
+    words: &mut [u64],
 )
-    requires { ⌜ Driven (now road) (now crews) (now drives) × Rows (now sheet) rows × (at + (2 + 6 * yards) ≤ length (now tree))
-        × (u16At (now tree) at < junctions (now road)) × Near (junctions (now road)) (listAt (now tree) at yards)
-        × (junctions (now road) ≤ length (now fs)) × (junctions (now road) ≤ length (now bounds)) ⌝ }
-    ensures fs { λ _. ⌜ now (fs .exit)
-        ≡ byYard (fIn code (toCrews (now (road .entry)) (u16At (now (tree .entry)) at) (now (crews .entry))))
-        (listAt (now (tree .entry)) at yards) (now (fs .entry)) ⌝ }
-    ensures bounds { λ _. ⌜ now (bounds .exit)
-        ≡ byYard (boundIn code (now (sheet .entry)) rows (now (crews .entry)) (toCrews (now (road .entry)) (u16At (now (tree .entry)) at) (now (crews .entry))))
-        (listAt (now (tree .entry)) at yards) (now (bounds .entry)) ⌝ }
+    requires { ⌜ IsDriven (now crews) (now drives) (u16At (now tree) at) × Rows (now sheet) (landmarkCount (now tree))
+        × (12 ≤ length (now tree)) × (at + (2 + 6 * yards) ≤ length (now tree)) × (junctionCount (now tree) ≤ 1024)
+        × Near (junctionCount (now tree)) (listAt (now tree) at yards)
+        × (length (now words) ≡ wordCount (regionCount (now tree)) (junctionCount (now tree))) ⌝ }
+    ensures { λ _. ⌜ ((road : List ℕ) → Driven road (now (crews .entry)) (now (drives .entry))
+        → u16At (now (tree .entry)) at < junctions road
+        → now (words .exit) ≡ byYards (regionCount (now (tree .entry))) (junctionCount (now (tree .entry)))
+        (fIn code (toCrews road (u16At (now (tree .entry)) at) (now (crews .entry))))
+        (boundIn code (now (sheet .entry)) (landmarkCount (now (tree .entry))) (now (crews .entry))
+        (toCrews road (u16At (now (tree .entry)) at) (now (crews .entry))))
+        (listAt (now (tree .entry)) at yards) (now (words .entry))) ⌝ }
 {
     let mut out = [0u32; 16];
     let q = crews.len();
-    let l = Junction {
-        number: book::u16_at(tree, at),
-    };
-    search_yards::to_crews(road, drives, crews, l, &mut out[..q]);
-    let a = at + 2;
-    let e = a + 6 * yards;
-    fill(
-        &tree[a..e],
-        yards,
-        sheet,
-        rows,
-        crews,
-        &out[..q],
-        code,
-        fs,
-        bounds,
-    );
+    let l = records::junction(tree, at);
+    search_yards::to_crews(drives, crews, l, &mut out[..q]);
+    let list = records::list(tree, at, yards);
+    let h = records::header(tree);
+    fill(list, yards, sheet, crews, &out[..q], code, h, words);
 }
 
-// A yard's word, or UNQUEUED if it has left.
-fn word_of(fs: &[u64], gone: &[bool], yard: u16) -> u64
-    requires { ⌜ (yard < length (now fs)) × (yard < length (now gone)) ⌝ }
-    ensures { λ r. ⌜ r ≡ wordOf (now (fs .entry)) (now (gone .entry)) yard ⌝ }
+// A yard's f, or UNQUEUED if it has left.
+fn word_of(h: Header, words: &[u64], y: u16) -> u64
+    requires { ⌜ (y < h .junctions) × (length (now words) ≡ wordCount (h .regions) (h .junctions)) ⌝ }
+    ensures { λ r. ⌜ r ≡ wordOf (fsIn (h .regions) (h .junctions) (now (words .entry)))
+        (goneIn (h .regions) (h .junctions) (now (words .entry))) y ⌝ }
 {
-    let i = yard as usize;
-    if gone[i] {
+    let g = parts::gone_at(h, y);
+    if words[g] == 0 {
         return UNQUEUED;
     }
-    fs[i]
+    let i = parts::f_at(h, y);
+    words[i]
 }
 
 // The place of the element that leaves next, and its f, or UNQUEUED if none remains.
@@ -109,17 +104,20 @@ pub struct Next {
 }
 
 // "Its list's elements leave by f .., then by place": the next of at least one.
-pub fn next_element(list: &[u8], yards: usize, fs: &[u64], gone: &[bool]) -> Next
-    requires { ⌜ (1 ≤ yards) × (6 * yards ≤ length (now list))
-        × Near (length (now fs)) (readList (now list) yards 0) × Near (length (now gone)) (readList (now list) yards 0) ⌝ }
-    ensures { λ r. ⌜ (r .place ≡ pick (wordsOf (now (fs .entry)) (now (gone .entry)) (readList (now (list .entry)) yards 0)) yards)
-        × (r .f ≡ wordAt (wordsOf (now (fs .entry)) (now (gone .entry)) (readList (now (list .entry)) yards 0)) (r .place)) ⌝ }
+pub fn next_element(list: &[u8], yards: usize, h: Header, words: &[u64]) -> Next
+    requires { ⌜ (1 ≤ yards) × (6 * yards ≤ length (now list)) × Near (h .junctions) (readList (now list) yards 0)
+        × (length (now words) ≡ wordCount (h .regions) (h .junctions)) ⌝ }
+    ensures { λ r. ⌜ (r .place ≡ pick (wordsOf (fsIn (h .regions) (h .junctions) (now (words .entry)))
+        (goneIn (h .regions) (h .junctions) (now (words .entry))) (readList (now (list .entry)) yards 0)) yards)
+        × (r .f ≡ wordAt (wordsOf (fsIn (h .regions) (h .junctions) (now (words .entry)))
+        (goneIn (h .regions) (h .junctions) (now (words .entry))) (readList (now (list .entry)) yards 0))
+        (r .place)) ⌝ }
 {
     let mut place: usize = 0;
-    let mut f = word_of(fs, gone, book::u16_at(list, 4));
+    let mut f = word_of(h, words, records::element(list, 0).yard);
     let mut k: usize = 1;
     while k < yards {
-        let w = word_of(fs, gone, book::u16_at(list, 6 * k + 4));
+        let w = word_of(h, words, records::element(list, k).yard);
         if w < f {
             place = k;
             f = w;

@@ -9,9 +9,9 @@ use lib.ListN.{length, getD}
 use lib.Dec.{ltb}
 use Rattle.book.specs.Choose.{choose}
 use Rattle.book.proofs.Choosing.{choose-yes, choose-no, true-T, false-T}
-use Rattle.search_rules.specs.Queue.{unqueued, wordAt, pick}
+use Rattle.search_rules.specs.Queue.{wordAt, pick}
 use Rattle.search_rules.proofs.Queue.{pick-range}
-use Rattle.search_rules.proofs.Turns.{word-at, word-past, pick-none, pick-more}
+use Rattle.search_rules.proofs.Turns.{word-at, pick-none, pick-more}
 
 -- of the first j words p is the number of the least, and w is that word
 pub record Picked (ws : List ℕ) (j p w : ℕ) : Type 0 where
@@ -46,10 +46,3 @@ module _ (ws : List ℕ) where
 
   pub picked-all : (j p w : ℕ) → Picked ws j p w → j ≡ length ws → p ≡ pick ws (length ws)
   picked-all j p w k e = rw (← e) (k .number)
-
--- the word of a number, which is read if it has one
-pub word-read : (ws : List ℕ) (p q : ℕ) → p ≡ q → p < length ws → getD ws p 0 ≡ wordAt ws q
-word-read ws p q e h = rw (← e) (sym (word-at ws p 0 h))
-
-pub word-none : (ws : List ℕ) (p q : ℕ) → p ≡ q → length ws ≤ p → unqueued ≡ wordAt ws q
-word-none ws p q e h = rw (← e) (sym (word-past ws p h))

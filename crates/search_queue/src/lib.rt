@@ -3,7 +3,7 @@ use tournament::lesser;
 ghost use mathlib.Core.Path.{_≡_};
 ghost use Prim.Native.Nat.{_+_, _≤_};
 ghost use lib.ListN.{length};
-ghost use Rattle.search_rules.specs.Queue.{wordAt, pick};
+ghost use Rattle.search_rules.specs.Queue.{pick};
 ghost use Rattle.search_queue.specs.Eights.{leastOfFour, leastOfEight, eightPass};
 
 // The word of what is not queued.
@@ -62,15 +62,4 @@ pub fn pick(words: &[u64]) -> usize
         }
     }
     p
-}
-
-// The least word, or the word of what is not queued.
-pub fn least(words: &[u64]) -> u64
-    ensures { λ r. ⌜ r ≡ wordAt (now (words .entry)) (pick (now (words .entry)) (length (now (words .entry)))) ⌝ }
-{
-    let p = pick(words);
-    if p < words.len() {
-        return words[p];
-    }
-    UNQUEUED
 }

@@ -1,104 +1,131 @@
--- The arrays before the first step are the definition's start. Assumes nothing.
+-- The words before the first step are the definition's start. Assumes nothing.
 use mathlib.Core.Path.{_≡_, refl, sym, ap, _∙_}
-use mathlib.Core.Bool.{Bool, false}
+use mathlib.Core.Bool.{false}
 use mathlib.Core.List.{List, []}
-use Prim.Native.Nat.{ℕ, _<_}
+use Prim.Native.Nat.{ℕ, _+_, _*_, _≤_, _<_}
 use native.Mathlib.Omega.{arith}
-use lib.ListN.{length, getD, set, replicate, length-replicate, getD-replicate}
+use lib.ListN.{length, getD, take, set, replicate, length-set, length-replicate, getD-replicate}
 use Rattle.tree_layout.specs.Values.{regionAt}
-use Rattle.tree_layout.specs.Decode.{decode}
-use Rattle.search_rules.specs.Instance.{Instance, size, leaf}
+use Rattle.tree_layout.specs.Decode.{decode, junctionCount, landmarkCount}
+use Rattle.tree_layout.specs.Reading.{headerOf}
+use Rattle.tree_layout.specs.declared.Header.{Header}
+use Rattle.tree_layout.proofs.Reading.{header-junctions}
+use Rattle.tree.specs.Arrays.{Laid}
+use Rattle.tree.proofs.Fielding.{laid-few}
+use Rattle.search_rules.specs.Instance.{Instance, size}
 use Rattle.search_rules.specs.Books.{searchOf}
+use Rattle.search_rules.specs.Bounds.{bound}
 use Rattle.search_rules.specs.Queue.{unqueued}
-use Rattle.search_rules.specs.Step.{start}
-use Rattle.search_rules.specs.Run.{Outcome, run}
+use Rattle.search_rules.specs.Run.{Outcome as Ended, run}
 use Rattle.search_rules.proofs.Steps.{start-is}
 use Rattle.search_rules.proofs.Turns.{run-start}
 use Rattle.search_held.specs.declared.Held.{Held}
 use Rattle.search_held.specs.Pairs.{heldOf}
-use Rattle.search_state.specs.State.{stateOf}
-use Rattle.search_state.proofs.Newest.{state-is, newest-none}
+use Rattle.search_state.specs.State.{wordCount, firstsAt, picksIn, fsIn, boundsIn, stateOf}
+use Rattle.search_state.proofs.Cells.{Parts, parts-replicate, store-key, store-first, state-by, part-replicate, part-all}
+use Rattle.search_state.proofs.Newest.{newest-none}
 use Rattle.search_bounds.specs.Bounds.{rowsBound}
 use Rattle.search_bounds.proofs.Searching.{bound-of}
-use Rattle.search_leaf.specs.Ready.{Ready, Cached, unopened}
-use Rattle.search_run.specs.Room.{Room}
-use Rattle.search_run.proofs.Running.{Runs, regions-of, junctions-of}
+use Rattle.search_leaf.specs.Ready.{Ready, Readied, Cached, unopened}
+use Rattle.search_step.specs.declared.Progress.{Progress}
+use Rattle.search_step.proofs.Opening.{cached-by, regions-of, junctions-are}
+use Rattle.search_step.proofs.Taking.{some-region, some-junction}
+use Rattle.search_run.specs.Answers.{putRoot}
+use Rattle.search_run.proofs.Running.{Runs, Steps}
 
 -- before a leaf is taken nothing is kept
-pub cached-none : (i : Instance) (picks fs bounds : List ℕ) (n : ℕ) → picks ≡ replicate n 255 → n ≡ size i → length fs ≡ i .tree .junctions
-    → length bounds ≡ i .tree .junctions → Cached i picks fs bounds
-cached-none i picks fs bounds n e h f b = record {
-  picks-count = ap length e ∙ (length-replicate n 255 ∙ h);
-  fs-count = f;
-  bounds-count = b;
-  picked = λ r k t o. absurd (o (marked r k));
-  opened = λ r k t o. absurd (o (marked r k));
+cached-none : (i : Instance) (r n : ℕ) → size i ≡ r → i .tree .junctions ≡ n → Cached i (replicate r unqueued) (replicate n unqueued) (replicate n unqueued)
+cached-none i r n er en = record {
+  picks-count = length-replicate r unqueued ∙ sym er;
+  fs-count = length-replicate n unqueued ∙ sym en;
+  bounds-count = length-replicate n unqueued ∙ sym en;
+  picked = λ v k t o. absurd (o (marked v k));
+  opened = λ v k t o. absurd (o (marked v k));
 }
   where
-    marked : (r : ℕ) → r < size i → getD picks r 0 ≡ unopened
-    marked r k = rw e (getD-replicate n r 255 0 (omega arith))
+    marked : (v : ℕ) → v < size i → getD (replicate r unqueued) v 0 ≡ unopened
+    marked v k = getD-replicate r v unqueued 0 (omega arith)
 
-module _ {road tree : List ℕ} {code wanted : ℕ} {crews drives places sheet : List ℕ} {rows : ℕ}
-    (ready : Ready road tree code wanted crews drives places sheet rows) where
+module _ {road tree : List ℕ} {code wanted : ℕ} {crews drives places sheet : List ℕ} (ready : Ready road tree code wanted crews drives places sheet)
+    (words : List ℕ) (held : Held) (measured : List ℕ) where
   abbrev i : Instance
   i = searchOf road tree code wanted crews
 
-  start-state : (keys yards firsts : List ℕ) (gone : List Bool) (held : Held) (measured : List ℕ) (nk ny nf ng w : ℕ) → nk ≡ size i
-      → ny ≡ i .tree .junctions → nf ≡ size i → ng ≡ i .tree .junctions
-      → w ≡ rowsBound sheet rows code crews (regionAt (decode tree .regions) 0 .marks)
-      → keys ≡ set (replicate nk unqueued) 0 w → yards ≡ replicate ny unqueued → firsts ≡ set (replicate nf unqueued) 0 w
-      → gone ≡ replicate ng false → heldOf held ≡ []
-      → stateOf keys yards firsts gone held measured 0 ≡ run i 0 .state
-  start-state keys yards firsts gone held measured nk ny nf ng w hk hy hf hg e ek ey ef eg eh =
-      state-is keys yards firsts gone held measured 0
-      ∙ (rw (
-        ek,
-        ey,
-        ef,
-        eg,
-        eh,
-        newest-none,
-        hk,
-        hy,
-        hf,
-        hg,
-        bound-of road tree code wanted crews
-            (ready .passed) rows sheet (ready .sheeted) 0 w e,
-      ) refl
-      ∙ sym (ap (λ (o : Outcome). o .state) (run-start i) ∙ start-is i))
+  abbrev r : ℕ
+  r = length places
 
-  start-taken : 0 ≡ run i 0 .taken
-  start-taken = sym (ap (λ (o : Outcome). o .taken) (run-start i))
+  abbrev n : ℕ
+  n = junctionCount tree
 
-  -- before the first step
-  module _ {picks fs bounds keys yards firsts : List ℕ} {gone : List Bool} {measured : List ℕ}
-      (room : Room tree picks fs bounds keys yards firsts gone measured) where
-    -- there is a root
-    pub some-region : (0 < length places) × (0 < length keys) × (0 < length firsts)
-    some-region = let h = ready .laid .layout .regions .0 in (
-      omega (arith, ready .laid .count),
-      omega (arith, room .keys-count),
-      omega
-          (arith, room .firsts-count),
-    )
+  abbrev key : ℕ
+  key = rowsBound sheet (landmarkCount tree) code crews (regionAt (decode tree .regions) 0 .marks)
 
-    pub runs-start : {picks′ keys′ yards′ firsts′ : List ℕ} {gone′ : List Bool} {held : Held} {limit : ℕ} → picks′ ≡ replicate (length picks) 255
-        → keys′ ≡ set (replicate (length keys) unqueued) 0 (rowsBound sheet rows code crews (regionAt (decode tree .regions) 0 .marks))
-        → yards′ ≡ replicate (length yards) unqueued
-        → firsts′ ≡ set (replicate (length firsts) unqueued) 0 (rowsBound sheet rows code crews (regionAt (decode tree .regions) 0 .marks))
-        → gone′ ≡ replicate (length gone) false → (heldOf held ≡ []) × (held .count ≡ 0)
-        → Runs i wanted limit (length measured) picks′ fs bounds keys′ yards′ firsts′ gone′ measured held 0 0
-    runs-start {picks′} {keys′} {yards′} {firsts′} {gone′} {held} ep ek ey ef eg h = record {
-      cached = cached-none i picks′ fs bounds (length picks) ep (room .picks-count ∙ sym (regions-of ready)) (room .fs-count ∙ sym (junctions-of ready))
-          (room .bounds-count ∙ sym (junctions-of ready));
-      stands = record {
-        is = start-state keys′ yards′ firsts′ gone′ held measured (length keys) (length yards) (length firsts) (length gone)
-            (rowsBound sheet rows code crews (regionAt (decode tree .regions) 0 .marks))
-            (room .keys-count ∙ sym (regions-of ready)) (room .yards-count ∙ sym (junctions-of ready)) (room .firsts-count ∙ sym (regions-of ready))
-            (room .gone-count ∙ sym (junctions-of ready)) refl ek ey ef eg (h .0);
-        counts = start-taken;
-      };
-      few = omega (arith, h .1);
-      within = omega arith;
-      same-room = refl;
+  module _ (e : words ≡ putRoot r n key (replicate (wordCount r n) unqueued)) (none : heldOf held ≡ []) where
+    start-parts : Parts r n words (set (replicate r unqueued) 0 key) (replicate n unqueued) (set (replicate r unqueued) 0 key)
+        (replicate r unqueued) (replicate n unqueued) (replicate n unqueued) (replicate n false)
+    unfolding putRoot
+    start-parts = rw e (store-first (store-key (parts-replicate r n unqueued (λ z. absurd (omega arith))) 0 key 0 refl (some-region ready))
+        (firstsAt r n) key 0 (omega arith) (some-region ready))
+
+    start-state : stateOf r n words held measured 0 ≡ run i 0 .state
+    start-state =
+        state-by start-parts held measured 0
+        ∙ (rw (none, newest-none measured, bound-of road tree code wanted crews (ready .passed) (landmarkCount tree) sheet (ready .sheeted) 0 key refl,
+        ← regions-of ready, ← junctions-are ready) refl
+        ∙ sym (ap (λ (o : Ended). o .state) (run-start i) ∙ start-is i))
+
+    starts : Runs i r n words (stateOf r n words held measured 0) 0
+    starts = record {
+      cached = cached-by start-parts (cached-none i r n (regions-of ready) (junctions-are ready));
+      is = start-state;
+      counts = sym (ap (λ (o : Ended). o .taken) (run-start i));
     }
+
+pub steps-start : (tree : List ℕ) (code wanted : ℕ) (crews drives places sheet : List ℕ) (limit : ℕ) (words₀ words : List ℕ) (held : Held) (measured : List ℕ)
+    → words₀ ≡ replicate (wordCount (length places) (junctionCount tree)) unqueued
+    → words ≡ putRoot (length places) (junctionCount tree)
+    (rowsBound sheet (landmarkCount tree) code crews (regionAt (decode tree .regions) 0 .marks)) words₀
+    → (heldOf held ≡ []) × (held .count ≡ 0)
+    → Steps tree code wanted crews drives places sheet limit (length measured) words measured (record { held = held; measured = 0 }) 0
+unfolding putRoot
+steps-start tree code wanted crews drives places sheet limit words₀ words held measured z e h = record {
+  size = long;
+  same = refl;
+  runs = λ road ready. starts ready words held measured (rw z at e) (h .0);
+  few = omega (arith, h .1);
+  most = omega arith;
+  within = omega arith;
+}
+  where
+    long : length words ≡ wordCount (length places) (junctionCount tree)
+    long = rw (e, z) (simp (length-set, length-set, length-replicate))
+
+-- the root's key, by the sheet's rows
+pub root-put : (tree sheet : List ℕ) (code : ℕ) (crews : List ℕ) (rows r n first w : ℕ) (ws : List ℕ) → rows ≡ landmarkCount tree → first ≡ firstsAt r n
+    → w ≡ rowsBound sheet rows code crews (regionAt (decode tree .regions) 0 .marks)
+    → set (set ws 0 w) first w ≡ putRoot r n (rowsBound sheet (landmarkCount tree) code crews (regionAt (decode tree .regions) 0 .marks)) ws
+unfolding putRoot
+root-put tree sheet code crews rows r n first w ws e f g = rw (f, g, e) refl
+
+-- ---- the counts
+
+pub some-place : (tree places : List ℕ) → Laid tree places → 0 < length places
+some-place tree places laid = omega (arith, laid .count, laid .layout .regions .0)
+
+-- how many words the queue has, and a search
+pub queue-count : (tree : List ℕ) (h : Header) (r : ℕ) → h ≡ headerOf tree → r + h .junctions ≡ r + junctionCount tree
+queue-count tree h r e = ap (λ (x : Header). r + x .junctions) e ∙ ap (λ (j : ℕ). r + j) (header-junctions tree)
+
+-- the first words of an array that has the word of what is not queued throughout
+pub first-words : (tree places : List ℕ) (h : Header) (m count : ℕ) → h ≡ headerOf tree → count ≡ 3 * length places + 4 * h .junctions → count ≤ m
+    → take count (replicate m unqueued) ≡ replicate (wordCount (length places) (junctionCount tree)) unqueued
+first-words tree places h m count e c k =
+    let j : h .junctions ≡ junctionCount tree = ap (λ (x : Header). x .junctions) e ∙ header-junctions tree in
+    let d : count ≡ wordCount (length places) (junctionCount tree) = omega arith in
+    sym (part-all (replicate m unqueued) count) ∙ (part-replicate m unqueued 0 count (omega arith) ∙ ap (λ (l : ℕ). replicate l unqueued) d)
+
+pub most-words : (tree places : List ℕ) (h : Header) (count : ℕ) → Laid tree places → h ≡ headerOf tree → count ≡ 3 * length places + 4 * h .junctions
+    → count ≤ 5629
+most-words tree places h count laid e c =
+    let j : h .junctions ≡ junctionCount tree = ap (λ (x : Header). x .junctions) e ∙ header-junctions tree in
+    omega (arith, laid-few tree places laid, laid .layout .junctions .1)

@@ -1,15 +1,32 @@
 // A search: its steps up to a limit.
+use query::Query;
+use search_bounds::regions;
 use search_held::Held;
+use search_step::Progress;
+use tree_layout::Region;
+use tree_layout::records;
 ghost use mathlib.Core.Path.{_≡_};
-ghost use Prim.Native.Nat.{ℕ, _≤_};
-ghost use lib.ListN.{length};
+ghost use mathlib.Core.List.{List};
+ghost use Prim.Native.Nat.{ℕ, _≤_, _<_};
+ghost use lib.ListN.{length, replicate};
+ghost use Rattle.tree_layout.specs.Values.{regionAt};
+ghost use Rattle.tree_layout.specs.Decode.{decode, junctionCount, landmarkCount};
+ghost use Rattle.tree.specs.Arrays.{Laid};
 ghost use Rattle.search_rules.specs.Books.{searchOf};
-ghost use Rattle.search_rules.specs.Step.{settled};
-ghost use Rattle.search_rules.specs.Run.{run};
-ghost use Rattle.search_state.specs.State.{stateOf};
+ghost use Rattle.search_rules.specs.Queue.{unqueued};
+ghost use Rattle.search_rules.specs.Run.{answer};
+ghost use Rattle.search_bounds.specs.Rows.{Rows};
+ghost use Rattle.search_bounds.specs.Bounds.{rowsBound, Crews};
+ghost use Rattle.search_state.specs.State.{wordCount};
 ghost use Rattle.search_inner.specs.Children.{Ended};
-ghost use Rattle.search_leaf.specs.Ready.{Ready};
-ghost use Rattle.search_run.specs.Room.{Room};
+ghost use Rattle.search_leaf.specs.Ready.{Ready, Readied};
+ghost use Rattle.search_run.specs.Answers.{putRoot, answerOf};
+
+// The words of the greatest search: of 511 regions and 1,024 junctions.
+const MOST_WORDS: usize = 5629;
+
+// The most yards that a search measures.
+const MOST_YARDS: usize = 256;
 
 // What a search comes to: the held yards, the number of the measured ones, the steps taken, and whether it is settled.
 pub struct Outcome {
@@ -19,95 +36,116 @@ pub struct Outcome {
     pub settled: bool,
 }
 
-// Takes steps until the search is settled or the limit's number is taken.
-pub fn run(
-    road: &[u8],
-    drives: &[u32],
+// "The queue starts with the root.": its key and its first key are its bound.
+fn queue_root(
+    tree: &[u8],
+    places: &[usize],
+    sheet: &[u32],
     crews: &[u16],
     code: u8,
-    wanted: usize,
-    sheet: &[u32],
-    rows: usize,
+    words: &mut [u64],
+)
+    requires { ⌜ Laid (now tree) (now places) × Rows (now sheet) (landmarkCount (now tree)) × Crews (now crews)
+        × (length (now words) ≡ wordCount (length (now places)) (junctionCount (now tree))) ⌝ }
+    ensures { λ _. ⌜ now (words .exit) ≡ putRoot (length (now (places .entry))) (junctionCount (now (tree .entry)))
+        (rowsBound (now (sheet .entry)) (landmarkCount (now (tree .entry))) code (now (crews .entry))
+        (regionAt (decode (now (tree .entry)) .regions) 0 .marks)) (now (words .entry)) ⌝ }
+{
+    let h = records::header(tree);
+    let rows = h.landmarks as usize;
+    let root = Region { number: 0 };
+    let w = regions::region_bound(tree, places, sheet, rows, code, crews, root);
+    words[0] = w;
+    let first = places.len() + h.junctions as usize;
+    words[first] = w;
+}
+
+// Takes steps until the search is settled or the limit's number is taken.
+fn steps(
     tree: &[u8],
     places: &[usize],
     ends: &[usize],
-    picked: &mut [u8],
-    fs: &mut [u64],
-    bounds: &mut [u64],
-    keys: &mut [u64],
-    yards: &mut [u64],
-    firsts: &mut [u64],
-    gone: &mut [bool],
+    sheet: &[u32],
+    drives: &[u32],
+    crews: &[u16],
+    asked: Query,
+    words: &mut [u64],
     measured: &mut [u16],
-    limit: u32,
 ) -> Outcome
-    requires { ⌜ Ready (now road) (now tree) code wanted (now crews) (now drives) (now places) (now sheet) rows
-        × Ended (now tree) (now ends)
-        × Room (now tree) (now picked) (now fs) (now bounds) (now keys) (now yards) (now firsts) (now gone) (now measured) × (wanted ≤ 64) ⌝ }
-    ensures state { λ o. ⌜ stateOf (now (keys .exit)) (now (yards .exit)) (now (firsts .exit)) (now (gone .exit)) (o .held) (now (measured .exit)) (o .measured)
-        ≡ run (searchOf (now (road .entry)) (now (tree .entry)) code wanted (now (crews .entry))) limit .state ⌝ }
-    ensures taken { λ o. ⌜ o .taken ≡ run (searchOf (now (road .entry)) (now (tree .entry)) code wanted (now (crews .entry))) limit .taken ⌝ }
-    ensures settled { λ o. ⌜ o .settled ≡ settled (searchOf (now (road .entry)) (now (tree .entry)) code wanted (now (crews .entry)))
-        (run (searchOf (now (road .entry)) (now (tree .entry)) code wanted (now (crews .entry))) limit .state) ⌝ }
-    ensures room { λ o. ⌜ o .held .count ≤ wanted ⌝ }
+    requires { ⌜ Readied (now tree) (asked .aggregate) (asked .wanted) (now crews) (now drives) (now places) (now sheet)
+        × Ended (now tree) (now ends) × (asked .wanted ≤ 64) × (256 ≤ length (now measured))
+        × (now words ≡ replicate (wordCount (length (now places)) (junctionCount (now tree))) unqueued) ⌝ }
+    ensures answer { λ o. ⌜ ((road : List ℕ)
+        → Ready road (now (tree .entry)) (asked .aggregate) (asked .wanted)
+        (now (crews .entry)) (now (drives .entry)) (now (places .entry)) (now (sheet .entry))
+        → answerOf o ≡ answer (searchOf road (now (tree .entry)) (asked .aggregate) (asked .wanted) (now (crews .entry))) (asked .limit)) ⌝ }
+    ensures room { λ o. ⌜ (o .held .count ≤ asked .wanted) × (o .measured ≤ 256) ⌝ }
 {
-    search_start::clear_picks(picked);
-    search_start::start(
-        tree,
-        places,
-        sheet,
-        rows,
-        code,
-        crews,
-        keys,
-        yards,
-        firsts,
-        gone,
-    );
-    let mut held = search_held::none();
-    let mut count: usize = 0;
+    queue_root(tree, places, sheet, crews, asked.aggregate, words);
+    let h = records::header(tree);
+    let queue = places.len() + h.junctions as usize;
+    let mut progress = Progress {
+        held: search_held::none(),
+        measured: 0,
+    };
     let mut taken: u32 = 0;
-    while taken < limit {
-        if search_state::settled(keys, yards, held, wanted) {
+    loop {
+        let p = search_queue::pick(&words[..queue]);
+        let held = progress.held;
+        if search_state::settled(words[p], held, asked.wanted as usize) {
             return Outcome {
                 held,
-                measured: count,
+                measured: progress.measured,
                 taken,
                 settled: true,
             };
         }
-        let p = search_step::step(
-            road,
-            drives,
-            crews,
-            code,
-            wanted,
-            sheet,
-            rows,
-            tree,
-            places,
-            ends,
-            picked,
-            fs,
-            bounds,
-            keys,
-            yards,
-            firsts,
-            gone,
-            held,
-            measured,
-            count,
+        if taken == asked.limit {
+            return Outcome {
+                held,
+                measured: progress.measured,
+                taken,
+                settled: false,
+            };
+        }
+        progress = search_step::step(
+            tree, places, ends, sheet, drives, crews, asked, words, measured, progress, p,
         );
-        let h = p.held;
-        held = h;
-        count = p.measured;
         taken += 1;
     }
-    let settled = search_state::settled(keys, yards, held, wanted);
-    Outcome {
-        held,
-        measured: count,
-        taken,
-        settled,
-    }
+}
+
+// Searches for what a query asks.
+pub fn run(
+    tree: &[u8],
+    places: &[usize],
+    ends: &[usize],
+    sheet: &[u32],
+    drives: &[u32],
+    crews: &[u16],
+    asked: Query,
+) -> Outcome
+    requires { ⌜ Readied (now tree) (asked .aggregate) (asked .wanted) (now crews) (now drives) (now places) (now sheet)
+        × Ended (now tree) (now ends) × (asked .wanted ≤ 64) ⌝ }
+    ensures answer { λ o. ⌜ ((road : List ℕ)
+        → Ready road (now (tree .entry)) (asked .aggregate) (asked .wanted)
+        (now (crews .entry)) (now (drives .entry)) (now (places .entry)) (now (sheet .entry))
+        → answerOf o ≡ answer (searchOf road (now (tree .entry)) (asked .aggregate) (asked .wanted) (now (crews .entry))) (asked .limit)) ⌝ }
+    ensures room { λ o. ⌜ (o .held .count ≤ asked .wanted) × (o .measured ≤ 256) ⌝ }
+{
+    let mut words = [search_queue::UNQUEUED; MOST_WORDS];
+    let mut measured = [0u16; MOST_YARDS];
+    let h = records::header(tree);
+    let count = 3 * places.len() + 4 * (h.junctions as usize);
+    steps(
+        tree,
+        places,
+        ends,
+        sheet,
+        drives,
+        crews,
+        asked,
+        &mut words[..count],
+        &mut measured,
+    )
 }

@@ -1,2 +1,4 @@
+pub mod Cells
+pub mod Choosing
 pub mod Settling
 pub mod Newest

@@ -1,16 +1,12 @@
--- A state by its arrays, and the measured yards in theirs. Assumes nothing.
-use mathlib.Core.Path.{_≡_, refl, sym, ap, _∙_}
+-- The measured yards in their array. Assumes nothing.
+use mathlib.Core.Path.{_≡_, refl, ap}
 use mathlib.Core.List.{List, [], _∷_}
 use Prim.Native.Nat.{ℕ, zero, suc, _+_, _≤_, _<_}
 use native.Mathlib.Numerals.{add-one}
 use native.Mathlib.Omega.{arith}
 use lib.ListN.{length, getD, set}
 use lib.Seq.{getD-set-same, getD-set-other}
-use mathlib.Core.Bool.{Bool}
-use Rattle.search_rules.specs.Step.{State}
-use Rattle.search_held.specs.declared.Held.{Held}
-use Rattle.search_held.specs.Pairs.{heldOf}
-use Rattle.search_state.specs.State.{newest, stateOf}
+use Rattle.search_state.specs.State.{newest}
 
 newest-kept : (l : List ℕ) (n j x : ℕ) → n ≤ j → newest (set l j x) n ≡ newest l n
 unfolding newest
@@ -26,18 +22,6 @@ pub newest-length : (l : List ℕ) (n : ℕ) → length (newest l n) ≡ n
 unfolding newest
 newest-length l zero = refl
 newest-length l (suc n) = ap suc (newest-length l n)
-
-pub state-is : (regionKeys yardKeys firsts : List ℕ) (gone : List Bool) (held : Held) (measured : List ℕ) (count : ℕ)
-    → stateOf regionKeys yardKeys firsts gone held measured count ≡ record {
-      regionKeys = regionKeys;
-      yardKeys = yardKeys;
-      firsts = firsts;
-      gone = gone;
-      held = heldOf held;
-      measured = newest measured count;
-    }
-unfolding stateOf
-state-is regionKeys yardKeys firsts gone held measured count = refl
 
 pub newest-none : (l : List ℕ) → newest l 0 ≡ []
 unfolding newest

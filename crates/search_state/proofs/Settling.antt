@@ -1,43 +1,37 @@
--- When a search is settled, by its arrays. Assumes nothing.
+-- When a search is settled, by its least key. Assumes nothing.
 use mathlib.Core.Path.{_≡_, refl, sym, ap, _∙_}
 use mathlib.Core.Bool.{Bool, true, false, not, _&&_, _||_}
 use mathlib.Core.List.{List}
-use Prim.Native.Nat.{ℕ, _≤_, _<_, min}
+use Prim.Native.Nat.{ℕ, _≤_, _<_}
 use native.Mathlib.Omega.{arith}
 use borrow.Author.Tests.{eq-eqb, ne-eqb}
 use lib.ListN.{length}
 use lib.Dec.{T, ltb, eqb}
-use Rattle.search_rules.specs.Instance.{Instance, size}
-use Rattle.search_rules.specs.Queue.{unqueued, queued, wordAt, pick}
+use Rattle.search_rules.specs.Instance.{Instance}
+use Rattle.search_rules.specs.Queue.{unqueued, queued}
 use Rattle.search_rules.specs.Held.{greatestHeld}
-use Rattle.search_rules.specs.Step.{State, nextRegion, nextYard, leastKey, settled}
-use Rattle.search_rules.proofs.Stepping.{Sizes}
-use Rattle.search_rules.proofs.Steps.{queued-yes, queued-no, next-region-is, next-yard-is, least-key-is, settled-is}
+use Rattle.search_rules.specs.Step.{State, leastKey, settled}
+use Rattle.search_rules.proofs.Steps.{queued-yes, queued-no, settled-is}
 use Rattle.search_held.specs.declared.Held.{Held}
 use Rattle.search_held.specs.Pairs.{heldOf}
 use Rattle.search_held.proofs.Pairing.{held-length}
-use Rattle.search_state.specs.State.{leastBy, settledBy, stateOf}
+use Rattle.search_state.specs.State.{settledBy, stateOf}
 
 -- ---- the code's tests
 
-pub least-by : (rs ys : List ℕ) (a b c : ℕ) → a ≡ wordAt rs (pick rs (length rs)) → b ≡ wordAt ys (pick ys (length ys)) → c ≡ min a b
-    → c ≡ leastBy rs ys
-unfolding leastBy
-least-by rs ys a b c p q r = rw (← p, ← q) r
-
-module _ (wanted : ℕ) (rs ys : List ℕ) (held : Held) (a : ℕ) (e : a ≡ leastBy rs ys) where
-  pub settled-empty : a ≡ unqueued → true ≡ settledBy wanted rs ys held
+module _ (k least : ℕ) (held : Held) where
+  pub settled-empty : least ≡ unqueued → true ≡ settledBy k least held
   unfolding settledBy
-  settled-empty q = rw (← e, q, queued-no) refl
+  settled-empty q = rw (q, queued-no) refl
 
-  module _ (small : a < unqueued) where
-    pub settled-few : (held .count ≡ wanted → ⊥) → false ≡ settledBy wanted rs ys held
+  module _ (small : least < unqueued) where
+    pub settled-few : (held .count ≡ k → ⊥) → false ≡ settledBy k least held
     unfolding settledBy
-    settled-few n = rw (← e, queued-yes a small, ne-eqb (held .count) wanted n) refl
+    settled-few n = rw (queued-yes least small, ne-eqb (held .count) k n) refl
 
-    pub settled-full : (g : ℕ) → held .count ≡ wanted → g ≡ greatestHeld (heldOf held) → ltb g a ≡ settledBy wanted rs ys held
+    pub settled-full : (g : ℕ) → held .count ≡ k → g ≡ greatestHeld (heldOf held) → ltb g least ≡ settledBy k least held
     unfolding settledBy
-    settled-full g q p = rw (← e, queued-yes a small, eq-eqb (held .count) wanted q, ← p) refl
+    settled-full g q p = rw (queued-yes least small, eq-eqb (held .count) k q, ← p) refl
 
 -- a word of 64 bits that isn't the greatest is less
 pub small-key : (a : ℕ) → (a ≡ unqueued → ⊥) → a ≤ unqueued → a < unqueued
@@ -45,15 +39,10 @@ small-key a n h = omega (arith, n)
 
 -- ---- the definition's
 
-module _ (i : Instance) (rs ys fs : List ℕ) (gone : List Bool) (held : Held) (measured : List ℕ) (count : ℕ) (sr : length rs ≡ size i)
-    (sy : length ys ≡ i .tree .junctions) where
-  abbrev st : State
-  st = stateOf rs ys fs gone held measured count
-
-  pub least-of : leastBy rs ys ≡ leastKey i st
-  unfolding leastBy stateOf
-  least-of = rw (least-key-is, next-region-is, next-yard-is, ← sr, ← sy) refl
-
-  pub settled-of : settledBy (i .wanted) rs ys held ≡ settled i st
-  unfolding settledBy stateOf
-  settled-of = rw (settled-is, ← least-of, held-length) refl
+pub settled-of : (i : Instance) (r n : ℕ) (ws : List ℕ) (held : Held) (measured : List ℕ) (count : ℕ)
+    → settledBy (i .wanted) (leastKey i (stateOf r n ws held measured count)) held ≡ settled i (stateOf r n ws held measured count)
+unfolding settledBy stateOf
+settled-of i r n ws held measured count = by (leastKey i (stateOf r n ws held measured count)) refl
+  where
+    by : (least : ℕ) → least ≡ leastKey i (stateOf r n ws held measured count) → settledBy (i .wanted) least held ≡ settled i (stateOf r n ws held measured count)
+    by least e = rw (settled-is, ← e, held-length) refl

@@ -1,157 +1,199 @@
 -- A step of a search that is ready: which yard or region is taken, and the state that it leads to. Assumes nothing.
 use mathlib.Core.Path.{_≡_, refl, sym, ap, _∙_}
-use mathlib.Core.Bool.{Bool}
 use mathlib.Core.List.{List, _∷_}
-use Prim.Native.Nat.{ℕ, _+_, _≤_, _<_, min}
+use Prim.Native.Nat.{ℕ, _+_, _-_, _*_, _≤_, _<_}
 use native.Mathlib.Omega.{arith}
 use lib.ListN.{length, getD, set}
 use Rattle.road_layout.specs.Road.{junctions}
 use Rattle.tree_layout.specs.Values.{Element}
+use Rattle.tree_layout.specs.Decode.{junctionCount}
 use Rattle.tree_layout.specs.Reading.{element}
 use Rattle.tree.specs.Yards.{treeYards}
+use Rattle.tree.proofs.Fielding.{laid-few}
 use Rattle.search_rules.specs.Instance.{Instance, size}
 use Rattle.search_rules.specs.Books.{searchOf}
-use Rattle.search_rules.specs.Queue.{unqueued, wordAt, pick}
+use Rattle.search_rules.specs.Queue.{unqueued, wordAt}
 use Rattle.search_rules.specs.Held.{hold, entry}
 use Rattle.search_rules.specs.Step.{State, nextRegion, nextYard, leastKey, takeRegion, takeYard, step}
 use Rattle.search_rules.specs.Facts.{WellFormed}
-use Rattle.search_rules.proofs.Stepping.{Sizes}
 use Rattle.search_rules.proofs.Books.{accepted-of}
 use Rattle.search_rules.proofs.Equations.{search-of}
-use Rattle.search_rules.proofs.Queue.{pick-range}
-use Rattle.search_rules.proofs.Steps.{next-region-is, next-yard-is, least-key-is, step-yard, step-region, take-yard-is, entry-is}
-use Rattle.search_rules.proofs.Taking.{unsettled-key, run-sizes, leaf-waits, measured-room}
+use Rattle.search_rules.proofs.Steps.{least-key-is, step-yard, step-region, take-yard-is, entry-is}
+use Rattle.search_rules.proofs.Taking.{unsettled-key, leaf-waits, measured-room}
 use Rattle.search_rules.proofs.Trees.{Accepted, tree-yards}
-use Rattle.search_rules.proofs.Turns.{word-at}
 use Rattle.search_held.specs.declared.Held.{Held}
 use Rattle.search_held.specs.Pairs.{heldOf}
-use Rattle.search_state.specs.State.{newest, stateOf, Unsettled}
-use Rattle.search_state.proofs.Newest.{state-is, newest-length}
-use Rattle.search_yards.specs.Measures.{totalOf}
+use Rattle.search_state.specs.State.{wordCount, regionKeysIn, yardKeysIn, firstsIn, picksIn, fsIn, boundsIn, goneIn, newest, stateOf, Unsettled}
+use Rattle.search_state.proofs.Cells.{Parts, parts-of, store-yard, state-by}
+use Rattle.search_state.proofs.Choosing.{picked-inside, picked-word, picked-region, picked-most, picked-yard, picked-less, region-low}
+use Rattle.search_state.proofs.Newest.{newest-length}
+use Rattle.search_yards.specs.Measures.{IsDriven, totalOf}
 use Rattle.search_yards.proofs.Searching.{total-of}
-use Rattle.search_leaf.specs.Ready.{Ready}
-use Rattle.search_leaf.proofs.Landmarks.{well, junctions-of, size-of}
-use Rattle.search_take.specs.Regions.{Queued}
+use Rattle.search_leaf.specs.Ready.{Ready, Readied, Cached}
+use Rattle.search_leaf.proofs.Landmarks.{well, driven-of, junctions-of}
+use Rattle.search_step.specs.Regions.{Queued, Going, Least}
+use Rattle.search_step.proofs.Opening.{cached-by, regions-of, junctions-are}
 
-module _ {road tree : List ℕ} {code wanted : ℕ} {crews drives places sheet : List ℕ} {rows : ℕ}
-    (ready : Ready road tree code wanted crews drives places sheet rows)
-    (keys yards firsts : List ℕ) (gone : List Bool) (held : Held) (measured : List ℕ) (count : ℕ)
-    (u : Unsettled (searchOf road tree code wanted crews) (stateOf keys yards firsts gone held measured count)) where
+-- what is held after one more yard, by its distance
+pub held-by : (k d t y : ℕ) (l r : List Element) → d ≡ t → r ≡ hold k (element d y) l → r ≡ hold k (element t y) l
+held-by k d t y l r e h = rw (← e) h
+
+-- ---- the numbers
+
+module _ {road tree : List ℕ} {code wanted : ℕ} {crews drives places sheet : List ℕ} (ready : Ready road tree code wanted crews drives places sheet) where
+  pub some-region : 0 < length places
+  some-region = omega (arith, ready .laid .layout .regions .0, ready .laid .count)
+
+  pub some-junction : 0 < junctionCount tree
+  some-junction = ready .laid .layout .junctions .0
+
+  same-junctions : junctionCount tree ≡ junctions road
+  same-junctions = sym (junctions-are ready) ∙ junctions-of road tree code wanted crews drives places sheet ready
+
+  -- a yard that is picked is a junction of the road book
+  pub near : (p : ℕ) → p < length places + junctionCount tree → length places ≤ p → p - length places < junctions road
+  near p k h = omega (arith, same-junctions)
+
+-- the number that is picked, in the array and as a number of 16 bits
+pub record Picked (tree places words : List ℕ) (p : ℕ) : Type 0 where
+  pub inside : p < length words
+  pub below : p < length places + junctionCount tree
+  pub small : p < 1535
+
+module _ {tree : List ℕ} {code wanted : ℕ} {crews drives places sheet : List ℕ} (readied : Readied tree code wanted crews drives places sheet) where
+  abbrev rd : Ready (readied .road) tree code wanted crews drives places sheet
+  rd = readied .ready
+
+  pub picked : {words : List ℕ} {p : ℕ} → length words ≡ wordCount (length places) (junctionCount tree) → Least (length places) (junctionCount tree) words p
+      → Picked tree places words p
+  picked {words} {p} s e = record {
+    inside = omega (arith, below);
+    below = below;
+    small = omega (arith, below, laid-few tree places (rd .laid), rd .laid .layout .junctions .1);
+  }
+    where
+      below : p < length places + junctionCount tree
+      below = picked-inside (length places) (junctionCount tree) words s (some-region rd) (some-junction rd) p e
+
+  -- each crew has its row of distances beside some road book, and yard y is one of its junctions
+  pub yard-driven : (y : ℕ) → y < junctionCount tree → IsDriven crews drives y
+  yard-driven y h = record {
+    road = readied .road;
+    driven = driven-of (readied .road) tree code wanted crews drives places sheet rd;
+    junction = omega (arith, same-junctions rd);
+  }
+
+-- ---- what the step does
+
+module _ {road tree : List ℕ} {code wanted : ℕ} {crews drives places sheet : List ℕ} (ready : Ready road tree code wanted crews drives places sheet)
+    (words : List ℕ) (held : Held) (measured : List ℕ) (count : ℕ) where
   abbrev i : Instance
   i = searchOf road tree code wanted crews
 
+  abbrev r : ℕ
+  r = length places
+
+  abbrev n : ℕ
+  n = junctionCount tree
+
   abbrev st : State
-  st = stateOf keys yards firsts gone held measured count
+  st = stateOf r n words held measured count
 
-  formed : WellFormed i
-  formed = well road tree code wanted crews drives places sheet rows ready
+  module _ (s : length words ≡ wordCount r n) (g : Going i r n words st) (p : ℕ) (e : Least r n words p) where
+    abbrev u : Unsettled i st
+    u = g .unsettled
 
-  sizes : Sizes i st
-  sizes = run-sizes i formed st (u .steps) (u .is)
+    formed : WellFormed i
+    formed = well road tree code wanted crews drives places sheet ready
 
-  keys-of : st .regionKeys ≡ keys
-  keys-of = ap (λ (s : State). s .regionKeys) (state-is keys yards firsts gone held measured count)
+    word : getD words p 0 ≡ leastKey i st
+    word = picked-word r n words s (some-region ready) (some-junction ready) i (regions-of ready) (junctions-are ready) held measured count p e
 
-  yards-of : st .yardKeys ≡ yards
-  yards-of = ap (λ (s : State). s .yardKeys) (state-is keys yards firsts gone held measured count)
+    -- ---- a region
 
-  keys-count : length keys ≡ size i
-  keys-count = ap length (sym keys-of) ∙ sizes .regions
+    module _ (h : p < r) where
+      next-region : p ≡ nextRegion i st
+      next-region = picked-region r n words s (some-region ready) (some-junction ready) i (regions-of ready) (junctions-are ready) held measured count p e h
 
-  yards-count : length yards ≡ i .tree .junctions
-  yards-count = ap length (sym yards-of) ∙ sizes .yards
+      most : wordAt (st .regionKeys) (nextRegion i st) ≤ wordAt (st .yardKeys) (nextYard i st)
+      most = picked-most r n words s (some-region ready) (some-junction ready) i (regions-of ready) (junctions-are ready) held measured count p e h
 
-  some-junction : 0 < i .tree .junctions
-  some-junction = omega (arith, junctions-of road tree code wanted crews drives places sheet rows ready, ready .passed .roads .layout .some-junction)
+      key : getD words p 0 ≡ wordAt (st .regionKeys) p
+      key = word ∙ (least-key-is i st ∙ (omega (arith, most) ∙ ap (wordAt (st .regionKeys)) (sym next-region)))
 
-  -- the region and the yard of least key
-  module _ (r y a b : ℕ) (er : r ≡ pick keys (length keys)) (ey : y ≡ pick yards (length yards)) where
-    pub region-inside : r < length keys
-    region-inside = rw er (pick-range keys (length keys) (omega (arith, keys-count, formed .shape .root)))
+      low : getD words p 0 < unqueued
+      low = omega (arith, unsettled-key i st (u .unsettled), word)
 
-    pub yard-inside : y < length yards
-    yard-inside = rw ey (pick-range yards (length yards) (omega (arith, yards-count, some-junction)))
+      pub region-queued : Queued i r n words p
+      region-queued = record {
+        count = s;
+        cached = g .cached;
+        inside = omega (arith, regions-of ready);
+        waits = λ t. rw (ap (λ (x : State). x .gone) (state-by (parts-of r n words) held measured count)) at (leaf-waits i formed st
+            (u .steps) (u .is) p t (omega (arith, regions-of ready)) (omega (arith, key, low)));
+      }
 
-    pub yard-small : y < junctions road
-    yard-small = omega (arith, yard-inside, yards-count, junctions-of road tree code wanted crews drives places sheet rows ready)
+      pub region-is-taken : (words′ : List ℕ)
+          → ((x : Held) (m : List ℕ) (c : ℕ) → stateOf r n words′ x m c ≡ takeRegion i (stateOf r n words x m c) p (getD words p 0))
+          → stateOf r n words′ held measured count ≡ step i st
+      region-is-taken words′ t = t held measured count ∙ sym (step-region i st p (nextYard i st) (getD words p 0) (wordAt (st .yardKeys) (nextYard i st))
+          next-region refl key refl (omega (arith, most, key, ap (wordAt (st .regionKeys)) next-region)) low)
 
-    pub region-small : r < 511
-    region-small = omega (arith, region-inside, keys-count, size-of road tree code wanted crews drives places sheet rows ready, ready .laid .layout .regions .1)
+    -- ---- a yard
 
-    next-region : r ≡ nextRegion i st
-    next-region = er ∙ (ap (pick keys) keys-count ∙ (ap (λ (ws : List ℕ). pick ws (size i)) (sym keys-of) ∙ sym (next-region-is i st)))
+    module _ (h : r ≤ p) (top : (j : ℕ) → getD words j 0 ≤ unqueued) where
+      y : ℕ
+      y = p - r
 
-    next-yard : y ≡ nextYard i st
-    next-yard = ey ∙ (ap (pick yards) yards-count ∙ (ap (λ (ws : List ℕ). pick ws (i .tree .junctions)) (sym yards-of) ∙ sym (next-yard-is i st)))
+      next-yard : y ≡ nextYard i st
+      unfolding y
+      next-yard = picked-yard r n words s (some-region ready) (some-junction ready) i (regions-of ready) (junctions-are ready) held measured count p e h
 
-    module _ (ea : a ≡ getD keys r 0) (eb : b ≡ getD yards y 0) where
-      region-word : a ≡ wordAt (st .regionKeys) r
-      region-word = ea ∙ (sym (word-at keys r 0 region-inside) ∙ ap (λ (ws : List ℕ). wordAt ws r) (sym keys-of))
+      yard-step : step i st ≡ takeYard i st y
+      yard-step = step-yard i st (nextRegion i st) y (wordAt (st .regionKeys) (nextRegion i st)) (wordAt (st .yardKeys) y) refl next-yard refl refl
+          (omega (arith, less, ap (wordAt (st .yardKeys)) next-yard))
+          (region-low r n words s (some-region ready) (some-junction ready) i (regions-of ready) (junctions-are ready) held measured count top)
+        where
+          less : wordAt (st .yardKeys) (nextYard i st) < wordAt (st .regionKeys) (nextRegion i st)
+          less = picked-less r n words s (some-region ready) (some-junction ready) i (regions-of ready) (junctions-are ready) held measured count p e h
 
-      yard-word : b ≡ wordAt (st .yardKeys) y
-      yard-word = eb ∙ (sym (word-at yards y 0 yard-inside) ∙ ap (λ (ws : List ℕ). wordAt ws y) (sym yards-of))
+      -- there is room for one more measured yard
+      pub yard-room : count < 256
+      yard-room =
+          let m : length (st .measured) ≡ count = ap (λ (x : State). length (x .measured))
+          (state-by (parts-of r n words) held measured count) ∙ newest-length measured count in
+          omega (
+            arith,
+            measured-room i formed st (u .steps) (u .is) (u .unsettled) y yard-step (treeYards (i .tree))
+                (tree-yards i accepted),
+            accepted .whole .yard-count,
+            accepted .few-yards,
+          )
+        where
+          accepted : Accepted (i .tree)
+          accepted = accepted-of road tree code wanted crews (ready .passed)
 
-      least : min a b ≡ leastKey i st
-      least =
-          ap (λ (w : ℕ). min w b) (region-word ∙ ap (wordAt (st .regionKeys)) next-region)
-          ∙ (ap (min (wordAt (st .regionKeys) (nextRegion i st))) (yard-word ∙ ap (wordAt (st .yardKeys)) next-yard) ∙ sym (least-key-is i st))
+      yard-parts : Parts r n (set words p unqueued) (regionKeysIn r n words) (set (yardKeysIn r n words) y unqueued)
+          (firstsIn r n words) (picksIn r n words) (fsIn r n words) (boundsIn r n words) (goneIn r n words)
+      unfolding y
+      yard-parts = store-yard (parts-of r n words) p unqueued (p - r) (omega arith)
+          (omega (arith, picked-inside r n words s (some-region ready) (some-junction ready) p e))
 
-      -- ---- a yard
+      pub yard-cached : Cached i (picksIn r n (set words p unqueued)) (fsIn r n (set words p unqueued)) (boundsIn r n (set words p unqueued))
+      yard-cached = cached-by yard-parts (g .cached)
 
-      module _ (less : b < a) (top : a ≤ unqueued) where
-        yard-step : step i st ≡ takeYard i st y
-        yard-step = step-yard i st r y a b next-region next-yard region-word yard-word less top
-
-        -- there is room for one more measured yard
-        pub yard-room : count < 256
-        yard-room =
-            let m : length (st .measured) ≡ count = ap (λ (s : State). length (s .measured))
-            (state-is keys yards firsts gone held measured count) ∙ newest-length measured count in
-            omega (
-              arith,
-              measured-room i formed st (u .steps) (u .is) (u .unsettled) y yard-step (treeYards (i .tree))
-                  (tree-yards i accepted),
-              accepted .whole .yard-count,
-              accepted .few-yards,
-            )
-          where
-            accepted : Accepted (i .tree)
-            accepted = accepted-of road tree code wanted crews (ready .passed)
-
-        pub yard-is-taken : (yards′ measured′ : List ℕ) (held′ : Held) → yards′ ≡ set yards y unqueued
-            → newest measured′ (count + 1) ≡ y ∷ newest measured count
-            → heldOf held′ ≡ hold wanted (element (totalOf road code crews y) y) (heldOf held)
-            → stateOf keys yards′ firsts gone held′ measured′ (count + 1) ≡ step i st
-        yard-is-taken yards′ measured′ held′ p q h =
-            state-is keys yards′ firsts gone held′ measured′ (count + 1)
-            ∙ (rw (p, q, holds) refl
-            ∙ sym (yard-step ∙ (ap (λ (s : State). takeYard i s y) (state-is keys yards firsts gone held measured count) ∙ take-yard-is i _ y)))
-          where
-            holds : heldOf held′ ≡ hold (i .wanted) (entry i y) (heldOf held)
-            holds =
-                h ∙ (ap (λ (d : ℕ). hold wanted (element d y) (heldOf held)) (total-of road tree code wanted crews y)
-                ∙ (ap (λ (e : Element). hold wanted e (heldOf held)) (sym (entry-is i y))
-                ∙ ap (λ (k : ℕ). hold k (entry i y) (heldOf held)) (sym (ap (λ (z : Instance). z .wanted) (search-of road tree code wanted crews)))))
-
-      -- ---- a region
-
-      module _ (most : a ≤ b) where
-        low : a < unqueued
-        low = omega (arith, unsettled-key i st (u .unsettled), least)
-
-        pub region-queued : Queued i keys yards firsts gone r
-        region-queued = record {
-          inside = omega (arith, region-inside, keys-count);
-          keys-count = keys-count;
-          firsts-count = ap (λ (s : State). length (s .firsts)) (sym (state-is keys yards firsts gone held measured count)) ∙ sizes .firsts;
-          yards-count = yards-count;
-          gone-count = ap (λ (s : State). length (s .gone)) (sym (state-is keys yards firsts gone held measured count)) ∙ sizes .gone;
-          waits = λ t. rw (ap (λ (s : State). s .gone) (state-is keys yards firsts gone held measured count)) at (leaf-waits i formed st
-              (u .steps) (u .is) r t (omega (arith, region-inside, keys-count)) (omega (arith, region-word, low)));
-        }
-
-        pub region-is-taken : (keys′ yards′ firsts′ : List ℕ) (gone′ : List Bool)
-            → ((h : Held) (m : List ℕ) (n : ℕ) → stateOf keys′ yards′ firsts′ gone′ h m n ≡ takeRegion i (stateOf keys yards firsts gone h m n) r a)
-            → stateOf keys′ yards′ firsts′ gone′ held measured count ≡ step i st
-        region-is-taken keys′ yards′ firsts′ gone′ e =
-            e held measured count ∙ sym (step-region i st r y a b next-region next-yard region-word yard-word most low)
+      pub yard-is-taken : (measured′ : List ℕ) (held′ : Held) (count′ : ℕ) → count′ ≡ count + 1
+          → newest measured′ (count + 1) ≡ (p - r) ∷ newest measured count
+          → heldOf held′ ≡ hold wanted (element (totalOf road code crews (p - r)) (p - r)) (heldOf held)
+          → stateOf r n (set words p unqueued) held′ measured′ count′ ≡ step i st
+      unfolding y
+      yard-is-taken measured′ held′ count′ c q t =
+          state-by yard-parts held′ measured′ count′
+          ∙ (rw (c, q, holds) refl
+          ∙ sym (yard-step ∙ (ap (λ (x : State). takeYard i x y) (state-by (parts-of r n words) held measured count) ∙ take-yard-is i _ y)))
+        where
+          holds : heldOf held′ ≡ hold (i .wanted) (entry i y) (heldOf held)
+          holds =
+              t ∙ (ap (λ (d : ℕ). hold wanted (element d y) (heldOf held)) (total-of road tree code wanted crews y)
+              ∙ (ap (λ (x : Element). hold wanted x (heldOf held)) (sym (entry-is i y))
+              ∙ ap (λ (k : ℕ). hold k (entry i y) (heldOf held)) (sym (ap (λ (z : Instance). z .wanted) (search-of road tree code wanted crews)))))

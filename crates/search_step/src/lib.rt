@@ -1,107 +1,79 @@
 // One step of a search.
+mod measuring; // measuring.rt: a yard is taken
+mod regions; // regions.rt: a region is taken
+
 use book::Junction;
+use query::Query;
 use search_held::Held;
-use search_take::measuring;
-use search_take::regions;
 use tree_layout::Region;
 ghost use mathlib.Core.Path.{_≡_};
+ghost use mathlib.Core.List.{List};
 ghost use Prim.Native.Nat.{ℕ, _≤_};
 ghost use lib.ListN.{length};
+ghost use Rattle.tree_layout.specs.Decode.{junctionCount};
 ghost use Rattle.search_rules.specs.Books.{searchOf};
 ghost use Rattle.search_rules.specs.Step.{step};
-ghost use Rattle.search_state.specs.State.{stateOf, Unsettled};
+ghost use Rattle.search_state.specs.State.{wordCount, picksIn, fsIn, boundsIn, stateOf};
 ghost use Rattle.search_inner.specs.Children.{Ended};
-ghost use Rattle.search_leaf.specs.Ready.{Ready, Cached};
+ghost use Rattle.search_leaf.specs.Ready.{Ready, Readied, Cached};
+ghost use Rattle.search_step.specs.Regions.{Going, Least};
 
-// What a step gives beside its arrays: the held yards, and the number of the measured ones.
+// What a search has come to beside its words: the held yards, and the number of the measured ones.
 pub struct Progress {
     pub held: Held,
     pub measured: usize,
 }
 
-// "One step takes the least key; at equal keys a region precedes a yard, then lower number first."
+// "One step takes the least key; at equal keys a region precedes a yard, then lower number first.": number p has it.
 pub fn step(
-    road: &[u8],
-    drives: &[u32],
-    crews: &[u16],
-    code: u8,
-    wanted: usize,
-    sheet: &[u32],
-    rows: usize,
     tree: &[u8],
     places: &[usize],
     ends: &[usize],
-    picked: &mut [u8],
-    fs: &mut [u64],
-    bounds: &mut [u64],
-    keys: &mut [u64],
-    yards: &mut [u64],
-    firsts: &mut [u64],
-    gone: &mut [bool],
-    held: Held,
+    sheet: &[u32],
+    drives: &[u32],
+    crews: &[u16],
+    asked: Query,
+    words: &mut [u64],
     measured: &mut [u16],
-    count: usize,
+    progress: Progress,
+    p: usize,
 ) -> Progress
-    requires { ⌜ Ready (now road) (now tree) code wanted (now crews) (now drives) (now places) (now sheet) rows
+    requires { ⌜ Readied (now tree) (asked .aggregate) (asked .wanted) (now crews) (now drives) (now places) (now sheet)
         × Ended (now tree) (now ends)
-        × Cached (searchOf (now road) (now tree) code wanted (now crews)) (now picked) (now fs) (now bounds)
-        × Unsettled (searchOf (now road) (now tree) code wanted (now crews))
-        (stateOf (now keys) (now yards) (now firsts) (now gone) held (now measured) count)
-        × (256 ≤ length (now measured)) × (held .count ≤ wanted) × (wanted ≤ 64) ⌝ }
-    ensures cached { λ _. ⌜ Cached (searchOf (now (road .entry)) (now (tree .entry)) code wanted (now (crews .entry)))
-        (now (picked .exit)) (now (fs .exit)) (now (bounds .exit)) ⌝ }
-    ensures state { λ p. ⌜ stateOf (now (keys .exit)) (now (yards .exit)) (now (firsts .exit)) (now (gone .exit)) (p .held) (now (measured .exit)) (p .measured)
-        ≡ step (searchOf (now (road .entry)) (now (tree .entry)) code wanted (now (crews .entry)))
-        (stateOf (now (keys .entry)) (now (yards .entry)) (now (firsts .entry)) (now (gone .entry)) held (now (measured .entry)) count) ⌝ }
-    ensures room { λ p. ⌜ p .held .count ≤ wanted ⌝ }
+        × ((road : List ℕ) → Ready road (now tree) (asked .aggregate) (asked .wanted) (now crews) (now drives) (now places) (now sheet)
+        → Going (searchOf road (now tree) (asked .aggregate) (asked .wanted) (now crews)) (length (now places)) (junctionCount (now tree)) (now words)
+        (stateOf (length (now places)) (junctionCount (now tree)) (now words) (progress .held) (now measured) (progress .measured)))
+        × (length (now words) ≡ wordCount (length (now places)) (junctionCount (now tree)))
+        × Least (length (now places)) (junctionCount (now tree)) (now words) p
+        × (256 ≤ length (now measured)) × (progress .measured ≤ 256) × (progress .held .count ≤ asked .wanted) × (asked .wanted ≤ 64) ⌝ }
+    ensures cached { λ _. ⌜ ((road : List ℕ)
+        → Ready road (now (tree .entry)) (asked .aggregate) (asked .wanted)
+        (now (crews .entry)) (now (drives .entry)) (now (places .entry)) (now (sheet .entry))
+        → Cached (searchOf road (now (tree .entry)) (asked .aggregate) (asked .wanted) (now (crews .entry)))
+        (picksIn (length (now (places .entry))) (junctionCount (now (tree .entry))) (now (words .exit)))
+        (fsIn (length (now (places .entry))) (junctionCount (now (tree .entry))) (now (words .exit)))
+        (boundsIn (length (now (places .entry))) (junctionCount (now (tree .entry))) (now (words .exit)))) ⌝ }
+    ensures state { λ o. ⌜ ((road : List ℕ)
+        → Ready road (now (tree .entry)) (asked .aggregate) (asked .wanted)
+        (now (crews .entry)) (now (drives .entry)) (now (places .entry)) (now (sheet .entry))
+        → stateOf (length (now (places .entry))) (junctionCount (now (tree .entry))) (now (words .exit)) (o .held) (now (measured .exit)) (o .measured)
+        ≡ step (searchOf road (now (tree .entry)) (asked .aggregate) (asked .wanted) (now (crews .entry)))
+        (stateOf (length (now (places .entry))) (junctionCount (now (tree .entry))) (now (words .entry))
+        (progress .held) (now (measured .entry)) (progress .measured))) ⌝ }
+    ensures room { λ o. ⌜ (o .held .count ≤ asked .wanted) × (o .measured ≤ 256) ⌝ }
 {
-    let r = search_queue::pick(keys);
-    let y = search_queue::pick(yards);
-    let a = keys[r];
-    let b = yards[y];
-    if b < a {
-        let yard = Junction { number: y as u16 };
-        let h = measuring::take(
-            road,
-            drives,
-            crews,
-            code,
-            wanted,
-            yards,
-            held,
-            measured,
-            count,
-            yard,
+    let r = places.len();
+    if p < r {
+        let region = Region { number: p as u16 };
+        let a = words[p];
+        regions::take(
+            tree, places, ends, sheet, drives, crews, asked, words, region, a,
         );
-        return Progress {
-            held: h,
-            measured: count + 1,
-        };
+        return progress;
     }
-    let region = Region { number: r as u16 };
-    regions::take(
-        road,
-        drives,
-        crews,
-        code,
-        wanted,
-        sheet,
-        rows,
-        tree,
-        places,
-        ends,
-        picked,
-        fs,
-        bounds,
-        keys,
-        yards,
-        firsts,
-        gone,
-        region,
-        a,
-    );
-    Progress {
-        held,
-        measured: count,
-    }
+    words[p] = search_queue::UNQUEUED;
+    let yard = Junction {
+        number: (p - r) as u16,
+    };
+    measuring::take(drives, crews, asked, measured, progress, yard)
 }

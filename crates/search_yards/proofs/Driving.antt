@@ -8,8 +8,8 @@ use Rattle.book.proofs.Lists.{getD-mem}
 use Rattle.road_layout.specs.Road.{junctions}
 use Rattle.road.specs.Dijkstra.{dist}
 use Rattle.road.proofs.Theorems.{metric, symmetric}
-use Rattle.road_rows.specs.Rows.{cell}
-use Rattle.road_rows.proofs.Filling.{row-inside}
+use Rattle.road.specs.Rows.{cell}
+use Rattle.road.proofs.Filling.{row-inside}
 use Rattle.search_rules.specs.Bounds.{aggregate}
 use Rattle.search_rules.proofs.Limits.{aggregate-most}
 use Rattle.search_yards.specs.Measures.{Driven, totalOf}

@@ -4,7 +4,7 @@ use mathlib.Core.List.{List, [], _∷_}
 use Prim.Native.Nat.{ℕ}
 use Rattle.book.specs.Choose.{choose}
 use Rattle.search_rules.specs.Bounds.{apart, combine, aggregate}
-use Rattle.road_rows.specs.Rows.{cell}
+use Rattle.road.specs.Rows.{cell}
 use Rattle.search_bounds.specs.Rows.{rowsLower}
 use Rattle.search_yards.specs.Measures.{fBy, crewApart, yardBoundBy}
 

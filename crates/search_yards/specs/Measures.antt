@@ -5,7 +5,7 @@ use lib.ListN.{length, getD}
 use Rattle.road_layout.specs.Road.{junctions}
 use Rattle.road.specs.Dijkstra.{dist}
 use Rattle.road.specs.Facts.{Passing}
-use Rattle.road_rows.specs.Rows.{Rowed}
+use Rattle.road.specs.Rows.{Rowed}
 use Rattle.search_rules.specs.Bounds.{apart, combine, aggregate}
 use Rattle.search_bounds.specs.Rows.{rowsLower}
 
@@ -15,6 +15,12 @@ pub record Driven (road crews drives : List ℕ) : Type 0 where
   pub few : length crews ≤ 16
   pub there : (q : ℕ) → Mem q crews → q < junctions road
   pub rows : Rowed road crews drives
+
+-- beside some road book, which has junction v
+pub record IsDriven (crews drives : List ℕ) (v : ℕ) : Type 0 where
+  pub road : List ℕ
+  pub driven : Driven road crews drives
+  pub junction : v < junctions road
 
 -- d(l, q) for each crew q
 unfoldable pub toCrews : List ℕ → ℕ → List ℕ → List ℕ

@@ -4,12 +4,13 @@ use search_bounds::numbers;
 use search_bounds::numbers::wide;
 use search_bounds::rows;
 ghost use mathlib.Core.Path.{_≡_};
-ghost use Prim.Native.Nat.{_≤_, _<_};
+ghost use mathlib.Core.List.{List};
+ghost use Prim.Native.Nat.{ℕ, _≤_, _<_};
 ghost use lib.ListN.{length};
 ghost use Rattle.road_layout.specs.Road.{junctions};
 ghost use Rattle.search_bounds.specs.Rows.{Rows};
 ghost use Rattle.search_bounds.specs.Bounds.{Crews};
-ghost use Rattle.search_yards.specs.Measures.{Driven, toCrews, totalOf, fBy, crewApart, yardBoundBy};
+ghost use Rattle.search_yards.specs.Measures.{Driven, IsDriven, toCrews, totalOf, fBy, crewApart, yardBoundBy};
 
 // "f, the aggregate of |d(l, q) − d(l, p)|": of landmark l's distances to the crews and of an element's distance.
 pub fn f_of(out: &[u32], code: u8, distance: u32) -> u64
@@ -26,27 +27,31 @@ pub fn f_of(out: &[u32], code: u8, distance: u32) -> u64
 }
 
 // A yard's aggregate by true distances, from the crews' rows.
-pub fn measure(road: &[u8], drives: &[u32], crews: &[u16], code: u8, yard: Junction) -> u32
-    requires { ⌜ Driven (now road) (now crews) (now drives) × (yard .number < junctions (now road)) ⌝ }
-    ensures { λ r. ⌜ r ≡ totalOf (now (road .entry)) code (now (crews .entry)) (yard .number) ⌝ }
+pub fn measure(drives: &[u32], crews: &[u16], code: u8, yard: Junction) -> u32
+    requires { ⌜ IsDriven (now crews) (now drives) (yard .number) ⌝ }
+    ensures { λ r. ⌜ ((road : List ℕ) → Driven road (now (crews .entry)) (now (drives .entry))
+        → yard .number < junctions road
+        → r ≡ totalOf road code (now (crews .entry)) (yard .number)) ⌝ }
 {
     let mut total: u64 = 0;
     let mut j: usize = 0;
     while j < crews.len() {
-        total = numbers::combine(code, total, wide(road_rows::cell(drives, j, yard.number)));
+        total = numbers::combine(code, total, wide(road::rows::cell(drives, j, yard.number)));
         j += 1;
     }
     total as u32
 }
 
 // Landmark l's distances to the crews, from the crews' rows: "A road runs both ways".
-pub fn to_crews(road: &[u8], drives: &[u32], crews: &[u16], l: Junction, out: &mut [u32])
-    requires { ⌜ Driven (now road) (now crews) (now drives) × (l .number < junctions (now road)) × (length (now out) ≡ length (now crews)) ⌝ }
-    ensures { λ _. ⌜ now (out .exit) ≡ toCrews (now (road .entry)) (l .number) (now (crews .entry)) ⌝ }
+pub fn to_crews(drives: &[u32], crews: &[u16], l: Junction, out: &mut [u32])
+    requires { ⌜ IsDriven (now crews) (now drives) (l .number) × (length (now out) ≡ length (now crews)) ⌝ }
+    ensures { λ _. ⌜ ((road : List ℕ) → Driven road (now (crews .entry)) (now (drives .entry))
+        → l .number < junctions road
+        → now (out .exit) ≡ toCrews road (l .number) (now (crews .entry))) ⌝ }
 {
     let mut j: usize = 0;
     while j < crews.len() {
-        out[j] = road_rows::cell(drives, j, l.number);
+        out[j] = road::rows::cell(drives, j, l.number);
         j += 1;
     }
 }
@@ -61,7 +66,8 @@ fn crew_apart(
     distance: u32,
     j: usize,
 ) -> u32
-    requires { ⌜ Rows (now sheet) rows × Crews (now crews) × (length (now out) ≡ length (now crews)) × (yard < 1024) × (j < length (now crews)) ⌝ }
+    requires { ⌜ Rows (now sheet) rows × Crews (now crews) × (length (now out) ≡ length (now crews)) × (yard < 1024)
+        × (j < length (now crews)) ⌝ }
     ensures { λ r. ⌜ r ≡ crewApart (now (sheet .entry)) rows (now (crews .entry)) (now (out .entry)) yard distance j ⌝ }
 {
     let lb = rows::lower(sheet, rows, yard, crews[j]);
@@ -79,7 +85,8 @@ pub fn yard_bound(
     distance: u32,
 ) -> u64
     requires { ⌜ Rows (now sheet) rows × Crews (now crews) × (length (now out) ≡ length (now crews)) × (yard < 1024) ⌝ }
-    ensures { λ r. ⌜ r ≡ yardBoundBy code (now (sheet .entry)) rows (now (crews .entry)) (now (out .entry)) yard distance (length (now (crews .entry))) ⌝ }
+    ensures { λ r. ⌜ r ≡ yardBoundBy code (now (sheet .entry)) rows (now (crews .entry)) (now (out .entry)) yard distance
+        (length (now (crews .entry))) ⌝ }
 {
     let mut total: u64 = 0;
     let mut j: usize = 0;

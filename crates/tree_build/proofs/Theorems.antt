@@ -25,8 +25,8 @@ use Rattle.tree_truth.specs.Truth.{trueTree}
 use Rattle.tree_truth.specs.Facts.{Same}
 use Rattle.tree_encode.specs.Encode.{encode}
 use Rattle.cut_tree.proofs.Theorems.{building-rule}
-use Rattle.tree_records.specs.Given.{given}
-use Rattle.tree_records.proofs.Fields.{given-d, given-limit}
+use Rattle.build_records.specs.Given.{given}
+use Rattle.build_records.proofs.Fields.{given-d, given-limit}
 use Rattle.tree_check.specs.Check.{checkAnswer}
 use Rattle.tree_check.proofs.Theorems.{true-passes}
 use Rattle.tree_build.specs.Build.{rangeRefusal, roomRefusal, buildAnswer, builtTree, builtLength, treeAfter}

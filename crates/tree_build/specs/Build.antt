@@ -1,10 +1,10 @@
 -- A build's answer, the tree that it writes, and the tree area after it. Assumes nothing: these are definitions.
-use mathlib.Core.List.{List, [], _∷_, _++_}
+use mathlib.Core.List.{List}
 use Prim.Native.Nat.{ℕ}
 use lib.ListN.{length}
 use lib.Dec.{leb, eqb}
 use Rattle.book.specs.Choose.{choose, refuse, firstOf}
-use Rattle.book.specs.Writing.{u16Bytes, u32Bytes, write}
+use Rattle.book.specs.Writing.{write}
 use Rattle.work_area.specs.Work.{workRefusal}
 use Rattle.road_layout.specs.Road.{junctions}
 use Rattle.road.specs.Refusal.{roadRefusal}
@@ -12,7 +12,7 @@ use Rattle.yard.specs.Yards.{yardsOf, yardRefusalIn}
 use Rattle.tree_layout.specs.Values.{Tree}
 use Rattle.tree_encode.specs.Encode.{encode}
 use Rattle.cut_tree.specs.Cut.{cutTree}
-use Rattle.tree_records.specs.Given.{given}
+use Rattle.build_records.specs.Given.{given}
 
 -- the bytes of the longest built tree
 abbrev pub treeBytes : ℕ
@@ -52,7 +52,3 @@ builtLength road yard m limit words room = choose (eqb (buildAnswer road yard m 
 unfoldable pub treeAfter : (road yard : List ℕ) (m limit words : ℕ) (tree : List ℕ) → List ℕ
 treeAfter road yard m limit words tree =
     choose (eqb (buildAnswer road yard m limit words (length tree)) 0) (write tree 0 (encode (builtTree road yard m limit))) tree
-
--- a tree book's header: "a 4-byte count of the bytes after it, a version byte (1)", "junctions u16 .., regions u16 .., yards u16 .., landmarks per region m u8"
-unfoldable pub treeHeader : (count junctions regions yards m : ℕ) → List ℕ
-treeHeader count junctions regions yards m = u32Bytes count ++ (1 ∷ (u16Bytes junctions ++ (u16Bytes regions ++ (u16Bytes yards ++ (m ∷ [])))))

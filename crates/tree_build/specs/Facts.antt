@@ -7,6 +7,7 @@ use lib.ListN.{length, take, drop}
 use Rattle.book.specs.Bytes.{Bytes}
 use Rattle.work_area.specs.Work.{workWords, zeroed, workAfter}
 use Rattle.road_layout.specs.Road.{junctions}
+use Rattle.adjacency.specs.Adjacency.{Adjacency}
 use Rattle.road.specs.Refusal.{roadRefusal}
 use Rattle.yard.specs.Yards.{yardRefusalIn}
 use Rattle.tree_layout.specs.Values.{Region}
@@ -14,7 +15,7 @@ use Rattle.tree_layout.specs.Decode.{decode}
 use Rattle.tree.specs.Facts.{Preorder}
 use Rattle.tree_encode.specs.Encode.{encode}
 use Rattle.cut_tree.specs.Facts.{Rule}
-use Rattle.tree_records.specs.Given.{given}
+use Rattle.build_records.specs.Given.{given}
 use Rattle.tree_check.specs.Check.{checkAnswer}
 use Rattle.tree_build.specs.Build.{treeBytes, buildAnswer, builtTree, builtLength, treeAfter}
 
@@ -34,6 +35,12 @@ pub record Accepted (road yard : List ℕ) (m limit words room : ℕ) : Type 0 w
   pub yards : yardRefusalIn yard (junctions road) ≡ 0
   pub range : InRange m limit
   pub areas : Areas words room
+
+-- a call that is accepted with some road book, which adj is the adjacency of
+pub record AcceptedBy (adj yard : List ℕ) (m limit words room : ℕ) : Type 0 where
+  pub book : List ℕ
+  pub adjacent : Adjacency book adj
+  pub accepted : Accepted book yard m limit words room
 
 -- which call each number turns back
 pub record Refusals (road yard : List ℕ) (m limit words room : ℕ) : Type 0 where

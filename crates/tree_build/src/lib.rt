@@ -1,17 +1,34 @@
 // Build: the tree that is cut from a road book and a yard book, written into a lent area.
+use build_cuts::Plan;
 use road_layout::RoadBook;
+use tree_layout::Header;
+use tree_layout::records::FIRST_RECORD;
 use yard::YardBook;
 ghost use mathlib.Core.Path.{_≡_};
-ghost use Prim.Native.Nat.{ℕ, _+_, _≤_, _<_};
+ghost use mathlib.Core.List.{List};
+ghost use Prim.Native.Nat.{ℕ};
 ghost use lib.ListN.{length};
 ghost use Rattle.book.specs.Writing.{write};
-ghost use Rattle.work_area.specs.Work.{workAfter};
-ghost use Rattle.road_layout.specs.Road.{junctions};
+ghost use Rattle.work_area.specs.Work.{workWords, workAfter};
+ghost use Rattle.adjacency.specs.Adjacency.{adjacencyWords, Adjacency};
 ghost use Rattle.road.specs.Refusal.{roadRefusal};
-ghost use Rattle.yard.specs.Yards.{yardRefusalIn};
 ghost use Rattle.tree_encode.specs.Encode.{encode};
-ghost use Rattle.tree_build.specs.Build.{rangeRefusal, buildAnswer, builtTree, builtLength, treeAfter, treeHeader};
-ghost use Rattle.tree_build.specs.Facts.{Accepted};
+ghost use Rattle.tree_build.specs.Build.{rangeRefusal, buildAnswer, builtTree, builtLength, treeAfter};
+ghost use Rattle.tree_build.specs.Facts.{AcceptedBy};
+
+// The bytes of the longest built tree.
+pub const TREE_BYTES: usize = 21981;
+
+// The most landmarks that a region has, and the most yards that a leaf may be limited to.
+const MOST_LANDMARKS: u32 = 4;
+
+const MOST_YARDS: u32 = 256;
+
+// Five cuts bring 1,024 junctions to one.
+const CUTS: usize = 5;
+
+// The bytes of a book's count of the bytes after it.
+const COUNT_SIZE: usize = 4;
 
 // What a build returns: the number of the test that turns it back, or 0 and the tree's length.
 #[repr(C)]
@@ -27,28 +44,35 @@ fn range_refusal(m: u32, limit: u32) -> u8
     if m < 1 {
         return 11;
     }
-    if 4 < m {
+    if MOST_LANDMARKS < m {
         return 11;
     }
     if limit < 1 {
         return 11;
     }
-    if 256 < limit {
+    if MOST_YARDS < limit {
         return 11;
     }
     0
 }
 
-// The number of the first test that turns a build back, with so many work words and so much room for the tree, or 0.
-fn refusal(road: &[u8], yard: &[u8], m: u32, limit: u32, words: usize, room: usize) -> u8
-    ensures { λ r. ⌜ r ≡ buildAnswer (now (road .entry)) (now (yard .entry)) m limit words room ⌝ }
+// The number of the first test that turns a build back, with so many work words and so much room for the tree, or 0. Keeps the adjacency of the road book.
+fn refusal(
+    road: &[u8],
+    yard: &[u8],
+    m: u32,
+    limit: u32,
+    words: usize,
+    room: usize,
+    adj: &mut [u16],
+) -> u8
+    requires { ⌜ length (now adj) ≡ adjacencyWords ⌝ }
+    ensures answer { λ r. ⌜ r ≡ buildAnswer (now (road .entry)) (now (yard .entry)) m limit words room ⌝ }
+    ensures adjacency { λ _. ⌜ (roadRefusal (now (road .entry)) ≡ 0 → Adjacency (now (road .entry)) (now (adj .exit))) ⌝ }
 {
-    let r = road::read(road);
+    let r = road::read(road, adj);
     let RoadBook::Sound { junctions, roads } = r else {
-        let RoadBook::Refused(why) = r else {
-            return 0;
-        };
-        return why;
+        return road_layout::number(r);
     };
     let y = yard::read_in(yard, junctions);
     let YardBook::Yards(count) = y else {
@@ -58,74 +82,34 @@ fn refusal(road: &[u8], yard: &[u8], m: u32, limit: u32, words: usize, room: usi
     if why != 0 {
         return why;
     }
-    if words < 16384 {
+    if words < work_area::WORDS {
         return 12;
     }
-    if room < 21981 {
+    if room < TREE_BYTES {
         return 12;
     }
     0
 }
 
-// Writes a tree book's header: the count of the bytes after it, the version, and the counts of junctions, regions, yards and landmarks.
-fn put_header(tree: &mut [u8], count: u32, junctions: u16, regions: u16, yards: u16, m: u8)
-    requires { ⌜ 12 ≤ length (now tree) ⌝ }
-    ensures { λ _. ⌜ now (tree .exit) ≡ write (now (tree .entry)) 0 (treeHeader count junctions regions yards m) ⌝ }
-{
-    book::put_u32(tree, 0, count);
-    tree[4] = 1;
-    book::put_u16(tree, 5, junctions);
-    book::put_u16(tree, 7, regions);
-    book::put_u16(tree, 9, yards);
-    tree[11] = m;
-}
-
 // Writes the tree of an accepted call, the regions first and then the header, and returns its length.
-fn put_tree(road: &[u8], yard: &[u8], m: u32, limit: u32, tree: &mut [u8]) -> usize
-    requires { ⌜ Accepted (now road) (now yard) m limit 16384 (length (now tree)) ⌝ }
-    ensures answer { λ r. ⌜ r ≡ length (encode (builtTree (now (road .entry)) (now (yard .entry)) m limit)) ⌝ }
-    ensures tree { λ _. ⌜ now (tree .exit) ≡ write (now (tree .entry)) 0 (encode (builtTree (now (road .entry)) (now (yard .entry)) m limit)) ⌝ }
+fn put_tree(adj: &[u16], yard: &[u8], plan: Plan, tree: &mut [u8]) -> usize
+    requires { ⌜ AcceptedBy (now adj) (now yard) (plan .landmarks) (plan .limit) workWords (length (now tree)) ⌝ }
+    ensures answer { λ r. ⌜ ((road : List ℕ) → Adjacency road (now (adj .entry))
+        → r ≡ length (encode (builtTree road (now (yard .entry)) (plan .landmarks) (plan .limit)))) ⌝ }
+    ensures tree { λ _. ⌜ ((road : List ℕ) → Adjacency road (now (adj .entry)) → now (tree .exit) ≡ write (now (tree .entry)) 0
+        (encode (builtTree road (now (yard .entry)) (plan .landmarks) (plan .limit)))) ⌝ }
 {
-    let mut head = [0u16; 1024];
-    let mut next = [0u16; 8193];
-    let mut to = [0u16; 8193];
-    let mut cost = [0u16; 8193];
-    adjacency::fill(road, &mut head, &mut next, &mut to, &mut cost);
-    let mut ds = [0u32; 1024];
-    let mut done = [false; 1024];
-    let mut queue = [0u64; 2048];
-    let mut keys = [0u64; 256];
-    let mut list = [0u16; 1024];
-    let n = book::u16_at(road, 5);
-    let put = tree_cutting::cut(
-        5,
-        0,
-        n as usize,
-        limit as usize,
-        m as usize,
-        road,
-        &head,
-        &next,
-        &to,
-        &cost,
-        &mut ds,
-        &mut done,
-        &mut queue,
-        &mut keys,
-        &mut list,
-        yard,
-        tree,
-        12,
-    );
+    let n = adjacency::junctions(adj);
+    let all = build_cuts::ranges::range(yard, 0, n as usize);
+    let put = build_cuts::cut(CUTS, all, plan, adj, yard, tree, FIRST_RECORD);
     let end = put.at;
-    put_header(
-        tree,
-        (end - 4) as u32,
-        n,
-        put.regions as u16,
-        book::u16_at(yard, 5),
-        m as u8,
-    );
+    let header = Header {
+        junctions: n,
+        regions: put.regions as u16,
+        yards: yard::count(yard),
+        landmarks: plan.landmarks as u8,
+    };
+    tree_encode::put_book_header(tree, (end - COUNT_SIZE) as u32, header);
     end
 }
 
@@ -147,14 +131,27 @@ pub fn build(
     ensures tree { λ _. ⌜ now (tree .exit) ≡ treeAfter (now (road .entry)) (now (yard .entry)) m limit
         (length (now (work .entry))) (now (tree .entry)) ⌝ }
 {
-    let why = refusal(road, yard, m, limit, work.len(), tree.len());
+    let mut adj = [0u16; adjacency::WORDS];
+    let why = refusal(
+        road,
+        yard,
+        m,
+        limit,
+        work.len(),
+        tree.len(),
+        &mut adj,
+    );
     if why != 0 {
         return Built {
             refusal: why as u32,
             length: 0,
         };
     }
-    let end = put_tree(road, yard, m, limit, tree);
+    let plan = Plan {
+        landmarks: m as usize,
+        limit: limit as usize,
+    };
+    let end = put_tree(&adj, yard, plan, tree);
     work_area::zero_words(work);
     Built {
         refusal: 0,

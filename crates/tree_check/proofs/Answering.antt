@@ -12,14 +12,13 @@ use Rattle.book.proofs.Choosing.{passes-if, fails-if, first-earlier, first-late
 use Rattle.work_area.specs.Work.{workWords, workRefusal, zeroed, workAfter}
 use Rattle.work_area.proofs.Zeroing.{work-short, work-enough, enough-work, accepted-zeroed, refused-kept}
 use Rattle.road_layout.specs.Road.{junctions, roadCount}
-use Rattle.road_layout.specs.Layout.{told}
+use Rattle.road_layout.specs.Layout.{told, numberOf as road-number}
 use Rattle.road_layout.specs.declared.RoadBook.{RoadBook}
 use Rattle.road_layout.specs.declared.RoadBook.the-variants.{Sound, Refused}
-use Rattle.road_layout.proofs.Reading.{told-why, told-sound}
-use Rattle.road_layout.proofs.Layouts.{layout-passes}
+use Rattle.road_layout.proofs.Reading.{told-why, told-sound, told-number}
+use Rattle.adjacency.specs.Adjacency.{countIn, Adjacency, IsAdjacency}
 use Rattle.road.specs.Dijkstra.{dist}
 use Rattle.road.specs.Refusal.{roadRefusal}
-use Rattle.road.proofs.Theorems.{passing, metric}
 use Rattle.yard.specs.Yards.{yardsOf, yardCount, yardRefusal, yardRefusalIn, yardBook, numberOf}
 use Rattle.yard.specs.declared.YardBook.{YardBook}
 use Rattle.yard.specs.declared.YardBook.the-variants.{Yards, Refused as yard-refused}
@@ -39,9 +38,10 @@ use Rattle.tree.specs.declared.Tree.{Tree}
 use Rattle.tree.specs.declared.Tree.the-variants.{Shaped, Refused as tree-refused}
 use Rattle.tree.proofs.Theorems.{tree-facts}
 use Rattle.tree.proofs.Answering.{shaped-answer, shaped-found, number-is as tree-number-is}
-use Rattle.tree_truth.specs.Truth.{trueTree}
-use Rattle.tree_distances.specs.Found.{foundTree, Beside}
-use Rattle.tree_distances.proofs.Finding.{found-true}
+use Rattle.tree_truth.specs.Truth.{trueTree, trueBeside}
+use Rattle.tree_truth.specs.Facts.{Same}
+use Rattle.check_distances.specs.Beside.{Beside}
+use Rattle.check_distances.proofs.Truth.{ranges-held, beside-true}
 use Rattle.tree_check.specs.Check.{sameSet, treeRefusalBeside, checkAnswer}
 use Rattle.tree_check.specs.Known.{knownTree}
 use Rattle.tree_check.proofs.Sets.{set-same}
@@ -72,12 +72,14 @@ module _ (road yard tree : List ℕ) where
     module _ (counts : junctionCount tree ≡ junctions road) where
       pub yards-differ : sameSet (treeYards (decode tree)) (yardsOf yard) ≡ false → 8 ≡ treeRefusalBeside road yard tree
       unfolding treeRefusalBeside
-      yards-differ s = sym (first-later _ _ ok ∙ passes-if (eqb (junctionCount tree) (junctions road)) 8 _ (eq-eqb _ _ counts) ∙ fails-if (sameSet (treeYards (decode tree)) (yardsOf yard)) 8 _ s)
+      yards-differ s = sym (first-later _ _ ok ∙ passes-if (eqb (junctionCount tree) (junctions road)) 8 _ (eq-eqb _ _ counts)
+          ∙ fails-if (sameSet (treeYards (decode tree)) (yardsOf yard)) 8 _ s)
 
       module _ (s : sameSet (treeYards (decode tree)) (yardsOf yard) ≡ true) where
         last : treeRefusalBeside road yard tree ≡ refuse (trueTree (dist road) (decode tree)) 9 0
         unfolding treeRefusalBeside
-        last = first-later _ _ ok ∙ passes-if (eqb (junctionCount tree) (junctions road)) 8 _ (eq-eqb _ _ counts) ∙ passes-if (sameSet (treeYards (decode tree)) (yardsOf yard)) 8 _ s
+        last = first-later _ _ ok ∙ passes-if (eqb (junctionCount tree) (junctions road)) 8 _ (eq-eqb _ _ counts)
+            ∙ passes-if (sameSet (treeYards (decode tree)) (yardsOf yard)) 8 _ s
 
         pub untrue : trueTree (dist road) (decode tree) ≡ false → 9 ≡ treeRefusalBeside road yard tree
         untrue f = sym (last ∙ fails-if (trueTree (dist road) (decode tree)) 9 0 f)
@@ -87,8 +89,8 @@ module _ (road yard tree : List ℕ) where
 
 -- ---- the steps of the tree book's tests, from what the reader found
 
-module _ (road yard tree : List ℕ) (n count : ℕ) (rok : roadRefusal road ≡ 0) (en : n ≡ junctions road) (yok : yardRefusalIn yard (junctions road) ≡ 0) (ec : count ≡ yardCount yard)
-    (o : Tree) (h : Header) (e : o ≡ treeOf tree) (f : o ≡ Shaped h) where
+module _ (adj yard tree : List ℕ) (roads : IsAdjacency adj) (alone : yardRefusal yard ≡ 0) (o : Tree) (h : Header) (e : o ≡ treeOf tree)
+    (f : o ≡ Shaped h) where
   ok : treeRefusal tree ≡ 0
   ok = shaped-found tree o h e f .0
 
@@ -98,88 +100,116 @@ module _ (road yard tree : List ℕ) (n count : ℕ) (rok : roadRefusal road ≡
   yards-are : h .yards ≡ Book.yardCount tree
   yards-are = ap (λ (x : Header). x .yards) (sym (shaped-found tree o h e f .1)) ∙ header-yards tree
 
-  alone : yardRefusal yard ≡ 0
-  alone = passes-alone yard (junctions road) yok
-
-  pub step-junctions : (h .junctions ≡ n → ⊥) → 8 ≡ treeRefusalBeside road yard tree
-  step-junctions d = junctions-differ road yard tree ok (λ q. d (omega (arith, junctions-are)))
-
   -- the yards are looked up in a yard book and a tree book of sound layout
   pub step-needs : (yardRefusal yard ≡ 0) × (layoutRefusal tree ≡ 0)
   step-needs = (alone, facts-layout tree (tree-facts tree ok .layout))
 
-  module _ (j : h .junctions ≡ n) where
-    counts : junctionCount tree ≡ junctions road
-    counts = omega (arith, junctions-are)
+  module _ (n : ℕ) (en : n ≡ countIn adj) where
+    pub step-junctions : (h .junctions ≡ n → ⊥) → (road : List ℕ) → Adjacency road adj → 8 ≡ treeRefusalBeside road yard tree
+    step-junctions d road a = junctions-differ road yard tree ok (λ q. d (omega (arith, junctions-are, q, en, a .count)))
 
-    pub step-counts : (h .yards ≡ count → ⊥) → 8 ≡ treeRefusalBeside road yard tree
-    step-counts d = yards-differ road yard tree ok counts (counts-differ yard tree alone ok (λ q. d (omega (arith, yards-are))))
+    module _ (j : h .junctions ≡ n) (count : ℕ) (ec : count ≡ yardCount yard) where
+      counts : junctionCount tree ≡ countIn adj
+      counts = omega (arith, junctions-are)
 
-    module _ (y : h .yards ≡ count) (r : Bool) (k : r ≡ knownTree (yardsOf yard) (decode tree)) where
-      same : knownTree (yardsOf yard) (decode tree) ≡ sameSet (treeYards (decode tree)) (yardsOf yard)
-      same = counted-same yard tree alone ok (omega (arith, yards-are))
+      beside : (road : List ℕ) → Adjacency road adj → junctionCount tree ≡ junctions road
+      beside road a = counts ∙ a .count
 
-      pub step-yards : r ≡ false → 8 ≡ treeRefusalBeside road yard tree
-      step-yards z = yards-differ road yard tree ok counts (sym same ∙ sym k ∙ z)
+      pub step-counts : (h .yards ≡ count → ⊥) → (road : List ℕ) → Adjacency road adj → 8 ≡ treeRefusalBeside road yard tree
+      step-counts d road a = yards-differ road yard tree ok (beside road a) (counts-differ yard tree alone ok (λ q. d (omega (arith, yards-are))))
 
-      module _ (z : r ≡ true) where
-        pub step-beside : Beside road yard tree
-        step-beside = record { roads = layout-passes road (passing road rok .layout); yards = alone; regions = step-needs .1; counts = counts }
+      module _ (y : h .yards ≡ count) (r : Bool) (k : r ≡ knownTree (yardsOf yard) (decode tree)) where
+        same : knownTree (yardsOf yard) (decode tree) ≡ sameSet (treeYards (decode tree)) (yardsOf yard)
+        same = counted-same yard tree alone ok (omega (arith, yards-are))
 
-        found : foundTree road (yardsOf yard) (decode tree) ≡ trueTree (dist road) (decode tree)
-        found = found-true road tree (yardsOf yard) (metric road (passing road rok)) ok counts (set-same (treeYards (decode tree)) (yardsOf yard) (true-T (sym same ∙ sym k ∙ z)))
+        pub step-yards : r ≡ false → (road : List ℕ) → Adjacency road adj → 8 ≡ treeRefusalBeside road yard tree
+        step-yards z road a = yards-differ road yard tree ok (beside road a) (sym same ∙ sym k ∙ z)
 
-        pub step-untrue : (w : Bool) → w ≡ foundTree road (yardsOf yard) (decode tree) → w ≡ false → 9 ≡ treeRefusalBeside road yard tree
-        step-untrue w a b = untrue road yard tree ok counts (sym same ∙ sym k ∙ z) (sym found ∙ sym a ∙ b)
+        module _ (z : r ≡ true) where
+          set : Same (treeYards (decode tree)) (yardsOf yard)
+          set = set-same (treeYards (decode tree)) (yardsOf yard) (true-T (sym same ∙ sym k ∙ z))
 
-        pub step-true : (w : Bool) → w ≡ foundTree road (yardsOf yard) (decode tree) → w ≡ true → 0 ≡ treeRefusalBeside road yard tree
-        step-true w a b = all-true road yard tree ok counts (sym same ∙ sym k ∙ z) (sym found ∙ sym a ∙ b)
+          pub step-beside : Beside adj yard tree
+          step-beside = record { roads = roads; yards = alone; regions = step-needs .1; counts = counts; held = ranges-held tree (yardsOf yard) ok set }
 
--- ---- the whole answer
+          module _ (w : Bool) (road : List ℕ) (a : Adjacency road adj) (found : w ≡ trueBeside (dist road) (yardsOf yard) (decode tree)) where
+            truth : trueTree (dist road) (decode tree) ≡ w
+            truth = sym (found ∙ beside-true tree (yardsOf yard) ok set (dist road))
 
-module _ (road yard tree : List ℕ) (words : ℕ) (o : RoadBook) (e : o ≡ told (roadRefusal road) (junctions road) (roadCount road)) where
-  pub check-road : (why : ℕ) → o ≡ Refused why → why ≡ checkAnswer road yard tree words
-  unfolding checkAnswer
-  check-road why f =
+            pub step-untrue : w ≡ false → 9 ≡ treeRefusalBeside road yard tree
+            step-untrue b = untrue road yard tree ok (beside road a) (sym same ∙ sym k ∙ z) (truth ∙ b)
+
+            pub step-true : w ≡ true → 0 ≡ treeRefusalBeside road yard tree
+            step-true b = all-true road yard tree ok (beside road a) (sym same ∙ sym k ∙ z) (truth ∙ b)
+
+-- ---- what the readers of the road book and the yard book found
+
+module _ (road : List ℕ) (o : RoadBook) (e : o ≡ told (roadRefusal road) (junctions road) (roadCount road)) where
+  road-refused : (why r : ℕ) → o ≡ Refused why → r ≡ road-number o → (r ≡ roadRefusal road) × (1 ≤ roadRefusal road)
+  road-refused why r f g =
       let q = told-why (roadRefusal road) (junctions road) (roadCount road) why (sym e ∙ f) in
-      sym (q .0) ∙ sym (first-earlier (roadRefusal road) _ (omega (arith, q .0, q .1)))
+      (g ∙ ap road-number e ∙ told-number (roadRefusal road) (junctions road) (roadCount road), omega (arith, q .0, q .1))
 
   module _ (n m : ℕ) (f : o ≡ Sound n m) where
-    pub road-sound : (roadRefusal road ≡ 0) × (n ≡ junctions road)
+    road-sound : (roadRefusal road ≡ 0) × (n ≡ junctions road)
     road-sound =
         let q = told-sound (roadRefusal road) (junctions road) (roadCount road) n m (sym e ∙ f) in
         (q .0, q .1)
 
-    module _ (y : YardBook) (g : y ≡ yardBook (yardRefusalIn yard n) (yardCount yard)) where
+    -- the adjacency that the reader keeps
+    module _ (adj : List ℕ) (k : roadRefusal road ≡ 0 → Adjacency road adj) where
+      pub road-kept : Adjacency road adj
+      road-kept = k (road-sound .0)
+
+      pub road-adjacent : IsAdjacency adj
+      road-adjacent = record { book = road; adjacent = road-kept }
+
+    module _ (yard : List ℕ) (y : YardBook) (g : y ≡ yardBook (yardRefusalIn yard n) (yardCount yard)) where
       on : y ≡ yardBook (yardRefusalIn yard (junctions road)) (yardCount yard)
       on = rw (← road-sound .1) g
 
-      pub check-yard : (why r : ℕ) → y ≡ yard-refused why → r ≡ numberOf y → r ≡ checkAnswer road yard tree words
-      unfolding checkAnswer
-      check-yard why r p q =
+      yard-refuses : (why r : ℕ) → y ≡ yard-refused why → r ≡ numberOf y → (r ≡ yardRefusalIn yard (junctions road)) × (1 ≤ yardRefusalIn yard (junctions road))
+      yard-refuses why r p q =
           let x = refused-number (yardRefusalIn yard (junctions road)) (yardCount yard) why (sym on ∙ p) in
-          let z : r ≡ yardRefusalIn yard (junctions road) = q ∙ ap numberOf on ∙ number-is (yardRefusalIn yard (junctions road)) (yardCount yard) in
-          z ∙ sym (first-later _ _ (road-sound .0) ∙ first-earlier (yardRefusalIn yard (junctions road)) _ (omega (arith, x .0, x .1)))
+          (q ∙ ap numberOf on ∙ number-is (yardRefusalIn yard (junctions road)) (yardCount yard), omega (arith, x .0, x .1))
 
       module _ (count : ℕ) (p : y ≡ Yards count) where
-        pub yard-sound : (yardRefusalIn yard (junctions road) ≡ 0) × (count ≡ yardCount yard)
-        yard-sound =
-            let x = yards-number (yardRefusalIn yard (junctions road)) (yardCount yard) count (sym on ∙ p) in
-            (x .0, sym (x .1))
+        yard-in : yardRefusalIn yard (junctions road) ≡ 0
+        yard-in = yards-number (yardRefusalIn yard (junctions road)) (yardCount yard) count (sym on ∙ p) .0
 
-        rest : checkAnswer road yard tree words ≡ firstOf (treeRefusalBeside road yard tree) (workRefusal words)
-        unfolding checkAnswer
-        rest = first-later _ _ (road-sound .0) ∙ first-later _ _ (yard-sound .0)
+        pub yard-sound : yardRefusal yard ≡ 0
+        yard-sound = passes-alone yard (junctions road) yard-in
 
-        module _ (r : ℕ) (q : r ≡ treeRefusalBeside road yard tree) where
-          pub check-tree : (r ≡ 0 → ⊥) → r ≡ checkAnswer road yard tree words
-          check-tree z = q ∙ sym (rest ∙ first-earlier (treeRefusalBeside road yard tree) _ (omega (arith, q)))
+-- ---- the whole answer
 
-          pub check-short : r ≡ 0 → words < workWords → 12 ≡ checkAnswer road yard tree words
-          check-short z h = sym (rest ∙ first-later _ _ (sym q ∙ z) ∙ work-short words h)
+module _ (road yard tree : List ℕ) (words : ℕ) (o : RoadBook) (e : o ≡ told (roadRefusal road) (junctions road) (roadCount road)) where
+  pub check-road : (why r : ℕ) → o ≡ Refused why → r ≡ road-number o → r ≡ checkAnswer road yard tree words
+  unfolding checkAnswer
+  check-road why r f g =
+      let q = road-refused road o e why r f g in
+      q .0 ∙ sym (first-earlier (roadRefusal road) _ (q .1))
 
-          pub check-passes : r ≡ 0 → workWords ≤ words → 0 ≡ checkAnswer road yard tree words
-          check-passes z h = sym (rest ∙ first-later _ _ (sym q ∙ z) ∙ work-enough words h)
+  module _ (n m : ℕ) (f : o ≡ Sound n m) (y : YardBook) (g : y ≡ yardBook (yardRefusalIn yard n) (yardCount yard)) where
+    pub check-yard : (why r : ℕ) → y ≡ yard-refused why → r ≡ numberOf y → r ≡ checkAnswer road yard tree words
+    unfolding checkAnswer
+    check-yard why r p q =
+        let x = yard-refuses road o e n m f yard y g why r p q in
+        x .0 ∙ sym (first-later _ _ (road-sound road o e n m f .0) ∙ first-earlier (yardRefusalIn yard (junctions road)) _ (x .1))
+
+    module _ (count : ℕ) (p : y ≡ Yards count) where
+      rest : checkAnswer road yard tree words ≡ firstOf (treeRefusalBeside road yard tree) (workRefusal words)
+      unfolding checkAnswer
+      rest = first-later _ _ (road-sound road o e n m f .0) ∙ first-later _ _ (yard-in road o e n m f yard y g count p)
+
+      module _ (r : ℕ) (q : r ≡ treeRefusalBeside road yard tree) where
+        pub check-tree : (r ≡ 0 → ⊥) → r ≡ checkAnswer road yard tree words
+        check-tree z = q ∙ sym (rest ∙ first-earlier (treeRefusalBeside road yard tree) _ (omega (arith, q)))
+
+        pub check-short : r ≡ 0 → words < workWords → 12 ≡ checkAnswer road yard tree words
+        check-short z h = sym (rest ∙ first-later _ _ (sym q ∙ z) ∙ work-short words h)
+
+        pub check-passes : r ≡ 0 → workWords ≤ words → 0 ≡ checkAnswer road yard tree words
+        check-passes z h = sym (rest ∙ first-later _ _ (sym q ∙ z) ∙ work-enough words h)
 
 -- ---- the work area
 

@@ -1,13 +1,13 @@
 -- Lists as sets: membership by a test, and lists of distinct members that are as long. Assumes nothing.
 use mathlib.Core.Path.{_≡_, refl, sym, ap, _∙_}
 use mathlib.Core.Logic.{_⊎_, inl, inr}
-use mathlib.Core.Bool.{Bool, true, false, not, _&&_, _||_}
-use mathlib.Core.List.{List, [], _∷_, List·Memᴰ as Mem, List·Memᴰ·head as head, List·Memᴰ·tail as tail, List·Memᴰ·not-nil as not-nil, List·Memᴰ·cases-cons as cases-cons}
-use Prim.Native.Nat.{ℕ, zero, suc, _+_, _≤_, _<_}
-use native.Mathlib.Decide.{ℕ-discrete}
+use mathlib.Core.Bool.{not, _||_}
+use mathlib.Core.List.{List, [], _∷_, List·Memᴰ as Mem, List·Memᴰ·head as head, List·Memᴰ·tail as tail, List·Memᴰ·not-nil as not-nil}
+use mathlib.Core.List.{List·Memᴰ·cases-cons as cases-cons}
+use Prim.Native.Nat.{ℕ, suc, _≤_}
 use native.Mathlib.Omega.{arith}
 use lib.ListN.{length}
-use lib.Dec.{T, eqb, eqb→eq, T-not, not-T}
+use lib.Dec.{T, eqb, eqb→eq, T-not}
 use Rattle.book.specs.Lists.{Distinct}
 use Rattle.book.proofs.Choosing.{and-left, and-right, and-both, T-split}
 use Rattle.book.proofs.Lists.{or-left, or-right, or-cases, eq→eqb}
@@ -47,7 +47,8 @@ set-same ys zs t = record {
 
 pub same-set : (ys zs : List ℕ) → Same ys zs → T (sameSet ys zs)
 unfolding sameSet
-same-set ys zs s = and-both (all (has zs) ys) _ (all-intro (has zs) ys (λ y k. mem-has zs y (s .to y k))) (all-intro (has ys) zs (λ y k. mem-has ys y (s .from y k)))
+same-set ys zs s = and-both (all (has zs) ys) _ (all-intro (has zs) ys (λ y k. mem-has zs y (s .to y k)))
+    (all-intro (has ys) zs (λ y k. mem-has ys y (s .from y k)))
 
 -- ---- how many members
 

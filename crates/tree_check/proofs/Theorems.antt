@@ -55,7 +55,9 @@ module _ (road yard tree : List ℕ) (words : ℕ) (laid : Laid road yard tree w
   -- what each list of a leaf names is what is below it
   holds-below : (j y : ℕ) → LeafHolds rs j y → Mem y (yardsBelow rs j)
   holds-below j y l =
-      let (m, q, e) = first-mark (regionAt rs j .marks) (omega (arith, decode-formed tree (regionAt rs j) (at-mem rs j (l .number)) .count, decode-landmarks tree, tree-facts tree (laid .shape) .layout .landmarks .0)) in
+      let few = tree-facts tree (laid .shape) .layout .landmarks .0 in
+      let (m, q, e) = first-mark (regionAt rs j .marks)
+      (omega (arith, decode-formed tree (regionAt rs j) (at-mem rs j (l .number)) .count, decode-landmarks tree, few)) in
       whole .holdings .listed j (l .number) (l .leaf) m q y .1 (l .named m q)
 
   below-holds : (j y : ℕ) → LeafOf rs y j → LeafHolds rs j y
@@ -65,7 +67,8 @@ module _ (road yard tree : List ℕ) (words : ℕ) (laid : Laid road yard tree w
   same-holds s = record {
     each = λ y k. let x = whole .leaf-of y (s .from y k) in (x .0, below-holds (x .0) y (x .1));
     one-leaf = λ y j k i a b.
-        whole .one-leaf y j k (record { number = a .number; leaf = a .leaf; holds = holds-below j y a }) (record { number = b .number; leaf = b .leaf; holds = holds-below k y b });
+        whole .one-leaf y j k (record { number = a .number; leaf = a .leaf; holds = holds-below j y a })
+        (record { number = b .number; leaf = b .leaf; holds = holds-below k y b });
     once = whole .holdings .listed-once;
     no-other = λ j h c m q y n. s .to y (below-tree tree (laid .shape) j y h (whole .holdings .listed j h c m q y .1 n));
   }
@@ -78,7 +81,9 @@ module _ (road yard tree : List ℕ) (words : ℕ) (laid : Laid road yard tree w
     where
       in-leaf : (j y : ℕ) → LeafHolds rs j y → Mem y ys
       in-leaf j y l =
-          let (m, q, f) = first-mark (regionAt rs j .marks) (omega (arith, decode-formed tree (regionAt rs j) (at-mem rs j (l .number)) .count, decode-landmarks tree, tree-facts tree (laid .shape) .layout .landmarks .0)) in
+          let few = tree-facts tree (laid .shape) .layout .landmarks .0 in
+          let (m, q, f) = first-mark (regionAt rs j .marks)
+          (omega (arith, decode-formed tree (regionAt rs j) (at-mem rs j (l .number)) .count, decode-landmarks tree, few)) in
           e .no-other j (l .number) (l .leaf) m q y (l .named m q)
 
   -- ---- the numbers
@@ -93,10 +98,12 @@ module _ (road yard tree : List ℕ) (words : ℕ) (laid : Laid road yard tree w
   yard-in r y h k = omega (arith, whole .yard-below y (below-tree tree (laid .shape) r y h k), decode-junctions tree, laid .counts)
 
   -- the distance from a landmark to a yard below its region
-  total : (r : ℕ) → r < length rs → (m : Mark) → Mem m (regionAt rs r .marks) → (y : ℕ) → Mem y (yardsBelow rs r) → Least (net road) (m .place) y (dist road (m .place) y)
+  total : (r : ℕ) → r < length rs → (m : Mark) → Mem m (regionAt rs r .marks) → (y : ℕ) → Mem y (yardsBelow rs r)
+      → Least (net road) (m .place) y (dist road (m .place) y)
   total r h m k y i = distances .least (m .place) y (place-in r h m k) (yard-in r y h i)
 
-  listed-below : (r : ℕ) → r < length rs → regionAt rs r .children ≡ 0 → (m : Mark) → Mem m (regionAt rs r .marks) → (e : Element) → Mem e (m .list) → Mem (e .yard) (yardsBelow rs r)
+  listed-below : (r : ℕ) → r < length rs → regionAt rs r .children ≡ 0 → (m : Mark) → Mem m (regionAt rs r .marks) → (e : Element) → Mem e (m .list)
+      → Mem (e .yard) (yardsBelow rs r)
   listed-below r h c m k e i = whole .holdings .listed r h c m k (e .yard) .1 (yards-of (m .list) e i)
 
   numbers-totals : TrueNumbers (dist road) t → TrueTotals (net road) rs
@@ -106,13 +113,15 @@ module _ (road yard tree : List ℕ) (words : ℕ) (laid : Laid road yard tree w
     greatests = λ r h c m k. high r h m k (n .greatests r h c m k);
   }
     where
-      low : (r : ℕ) → r < length rs → (m : Mark) → Mem m (regionAt rs r .marks) → IsLeast (dist road (m .place)) (yardsBelow rs r) (m .least) → LeastTotal (net road) (m .place) (yardsBelow rs r) (m .least)
+      low : (r : ℕ) → r < length rs → (m : Mark) → Mem m (regionAt rs r .marks) → IsLeast (dist road (m .place)) (yardsBelow rs r) (m .least)
+          → LeastTotal (net road) (m .place) (yardsBelow rs r) (m .least)
       low r h m k l = record {
         reached = (l .reached .0, l .reached .1, rw (← l .reached .2) (total r h m k (l .reached .0) (l .reached .1)));
         low = λ y s i p. omega (arith, l .low y i, least-unique p (total r h m k y i));
       }
 
-      high : (r : ℕ) → r < length rs → (m : Mark) → Mem m (regionAt rs r .marks) → IsGreatest (dist road (m .place)) (yardsBelow rs r) (m .greatest) → GreatestTotal (net road) (m .place) (yardsBelow rs r) (m .greatest)
+      high : (r : ℕ) → r < length rs → (m : Mark) → Mem m (regionAt rs r .marks) → IsGreatest (dist road (m .place)) (yardsBelow rs r) (m .greatest)
+          → GreatestTotal (net road) (m .place) (yardsBelow rs r) (m .greatest)
       high r h m k l = record {
         reached = (l .reached .0, l .reached .1, rw (← l .reached .2) (total r h m k (l .reached .0) (l .reached .1)));
         high = λ y s i p. omega (arith, l .high y i, least-unique p (total r h m k y i));
@@ -125,13 +134,15 @@ module _ (road yard tree : List ℕ) (words : ℕ) (laid : Laid road yard tree w
     greatests = λ r h c m k. high r h m k (n .greatests r h c m k);
   }
     where
-      low : (r : ℕ) → r < length rs → (m : Mark) → Mem m (regionAt rs r .marks) → LeastTotal (net road) (m .place) (yardsBelow rs r) (m .least) → IsLeast (dist road (m .place)) (yardsBelow rs r) (m .least)
+      low : (r : ℕ) → r < length rs → (m : Mark) → Mem m (regionAt rs r .marks) → LeastTotal (net road) (m .place) (yardsBelow rs r) (m .least)
+          → IsLeast (dist road (m .place)) (yardsBelow rs r) (m .least)
       low r h m k l = record {
         reached = (l .reached .0, l .reached .1, least-unique (total r h m k (l .reached .0) (l .reached .1)) (l .reached .2));
         low = λ y i. l .low y (dist road (m .place) y) i (total r h m k y i);
       }
 
-      high : (r : ℕ) → r < length rs → (m : Mark) → Mem m (regionAt rs r .marks) → GreatestTotal (net road) (m .place) (yardsBelow rs r) (m .greatest) → IsGreatest (dist road (m .place)) (yardsBelow rs r) (m .greatest)
+      high : (r : ℕ) → r < length rs → (m : Mark) → Mem m (regionAt rs r .marks) → GreatestTotal (net road) (m .place) (yardsBelow rs r) (m .greatest)
+          → IsGreatest (dist road (m .place)) (yardsBelow rs r) (m .greatest)
       high r h m k l = record {
         reached = (l .reached .0, l .reached .1, least-unique (total r h m k (l .reached .0) (l .reached .1)) (l .reached .2));
         high = λ y i. l .high y (dist road (m .place) y) i (total r h m k y i);
@@ -166,7 +177,10 @@ module _ (road yard tree : List ℕ) (words : ℕ) (laid : Laid road yard tree w
   yards-exact = ((λ s. same-holds (set-same (treeYards t) ys s)), (λ h. same-set (treeYards t) ys (holds-same h)))
 
   pub totals-exact : (trueTree (dist road) (decode tree) ≡ true) ↔ TrueTotals (net road) (decode tree .regions)
-  totals-exact = ((λ e. numbers-totals (tested tree (laid .shape) .exact (dist road) .0 e)), (λ n. tested tree (laid .shape) .exact (dist road) .1 (totals-numbers n)))
+  totals-exact = (
+    (λ e. numbers-totals (tested tree (laid .shape) .exact (dist road) .0 e)),
+    (λ n. tested tree (laid .shape) .exact (dist road) .1 (totals-numbers n)),
+  )
 
   exact : (checkAnswer road yard tree words ≡ 0) ↔ (HoldsEach rs ys × TrueTotals (net road) rs)
   exact = (
@@ -179,6 +193,7 @@ pub check-exact : CheckExact
 check-exact = exact
 
 -- a tree with the book's yards and true numbers passes
-pub true-passes : (road yard tree : List ℕ) (words : ℕ) → Laid road yard tree words → Same (treeYards (decode tree)) (yardsOf yard) → trueTree (dist road) (decode tree) ≡ true
+pub true-passes : (road yard tree : List ℕ) (words : ℕ) → Laid road yard tree words → Same (treeYards (decode tree)) (yardsOf yard)
+    → trueTree (dist road) (decode tree) ≡ true
     → checkAnswer road yard tree words ≡ 0
 true-passes road yard tree words laid s e = there-passes road yard tree words laid s e

@@ -67,14 +67,17 @@ module _ (road yard tree : List ℕ) (words : ℕ) where
           laid : Laid road yard tree workWords
           laid = record { roads = r; yards = y; shape = s; counts = c; full = omega arith }
 
-          yards-there : treeRefusalBeside road yard tree ≡ refuse (sameSet (treeYards (decode tree)) (yardsOf yard)) 8 (refuse (trueTree (dist road) (decode tree)) 9 0)
+          yards-there : treeRefusalBeside road yard tree
+              ≡ refuse (sameSet (treeYards (decode tree)) (yardsOf yard)) 8 (refuse (trueTree (dist road) (decode tree)) 9 0)
           unfolding treeRefusalBeside
           yards-there = first-later _ _ s ∙ passes-if (eqb (junctionCount tree) (junctions road)) 8 _ (eq-eqb _ _ c)
 
           -- 8
           pub yards-next : (HoldsEach (decode tree .regions) (yardsOf yard) → ⊥) → checkAnswer road yard tree words ≡ 8
           yards-next h =
-              by-tree 8 (yards-there ∙ fails _ 8 _ (refuted (sameSet (treeYards (decode tree)) (yardsOf yard)) (λ t. h (yards-exact road yard tree workWords laid .0 t)))) (omega arith)
+              by-tree 8 (yards-there
+              ∙ fails _ 8 _ (refuted (sameSet (treeYards (decode tree)) (yardsOf yard)) (λ t. h (yards-exact road yard tree workWords laid .0 t))))
+              (omega arith)
 
           module _ (h : HoldsEach (decode tree .regions) (yardsOf yard)) where
             numbers-there : treeRefusalBeside road yard tree ≡ refuse (trueTree (dist road) (decode tree)) 9 0
@@ -83,7 +86,9 @@ module _ (road yard tree : List ℕ) (words : ℕ) where
             -- 9
             pub numbers-next : (TrueTotals (net road) (decode tree .regions) → ⊥) → checkAnswer road yard tree words ≡ 9
             numbers-next f =
-                by-tree 9 (numbers-there ∙ fails _ 9 0 (refuted (trueTree (dist road) (decode tree)) (λ t. f (totals-exact road yard tree workWords laid .0 (T-true _ t))))) (omega arith)
+                by-tree 9 (numbers-there
+                ∙ fails _ 9 0 (refuted (trueTree (dist road) (decode tree)) (λ t. f (totals-exact road yard tree workWords laid .0 (T-true _ t)))))
+                (omega arith)
 
             -- 12
             pub work-next : TrueTotals (net road) (decode tree .regions) → words < workWords → checkAnswer road yard tree words ≡ 12

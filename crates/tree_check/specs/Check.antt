@@ -1,5 +1,5 @@
 -- A check's answer: the first test that fails, "Turned back, in this order". Assumes nothing: these are definitions.
-use mathlib.Core.Bool.{Bool, true, false, _&&_, _||_}
+use mathlib.Core.Bool.{Bool, false, _&&_, _||_}
 use mathlib.Core.List.{List, [], _∷_}
 use Prim.Native.Nat.{ℕ}
 use lib.Dec.{eqb}
@@ -35,7 +35,8 @@ treeRefusalBeside road yard tree =
     -- 9: "In a check only: a stored distance, least or greatest isn't the true one."
     (refuse (trueTree (dist road) (decode tree)) 9 0)))
 
--- "Books are tested in the order road, yard, tree, query, each through its own tests, a test between books going with the later one; then the call's .. areas."
+-- "Books are tested in the order road, yard, tree, query, each through its own tests, a test between books going with
+-- the later one; then the call's .. areas."
 unfoldable pub checkAnswer : (road yard tree : List ℕ) → (words : ℕ) → ℕ
 checkAnswer road yard tree words =
     -- 1 to 6

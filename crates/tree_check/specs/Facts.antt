@@ -1,4 +1,5 @@
--- What a check promises, to be held against the paper: truth is the least total of any walk. Assumes nothing: these are statements.
+-- What a check promises, to be held against the paper: truth is the least total of any walk.
+-- Assumes nothing: these are statements.
 use mathlib.Core.Path.{_≡_}
 use mathlib.Core.Logic.{_↔_}
 use mathlib.Core.List.{List, List·Memᴰ as Mem}
@@ -30,9 +31,11 @@ pub record HoldsEach (rs : List Region) (ys : List ℕ) : Type 0 where
   pub each : (y : ℕ) → Mem y ys → (j : ℕ) × LeafHolds rs j y
   -- in one leaf only, and once in each of its lists
   pub one-leaf : (y j k : ℕ) → Mem y ys → LeafHolds rs j y → LeafHolds rs k y → j ≡ k
-  pub once : (j : ℕ) → j < length rs → regionAt rs j .children ≡ 0 → (m : Mark) → Mem m (regionAt rs j .marks) → Distinct (yardsIn (m .list))
+  pub once : (j : ℕ) → j < length rs → regionAt rs j .children ≡ 0 → (m : Mark) → Mem m (regionAt rs j .marks)
+      → Distinct (yardsIn (m .list))
   -- no other stands in a leaf's list
-  pub no-other : (j : ℕ) → j < length rs → regionAt rs j .children ≡ 0 → (m : Mark) → Mem m (regionAt rs j .marks) → (y : ℕ) → Mem y (yardsIn (m .list)) → Mem y ys
+  pub no-other : (j : ℕ) → j < length rs → regionAt rs j .children ≡ 0 → (m : Mark) → Mem m (regionAt rs j .marks)
+      → (y : ℕ) → Mem y (yardsIn (m .list)) → Mem y ys
 
 -- x is the least of the distances from l to some yards: it is one of them, and none is below it
 pub record LeastTotal (arcs : List Arc) (l : ℕ) (ys : List ℕ) (x : ℕ) : Type 0 where
@@ -44,13 +47,18 @@ pub record GreatestTotal (arcs : List Arc) (l : ℕ) (ys : List ℕ) (x : ℕ) :
   pub reached : (y : ℕ) × Mem y ys × Least arcs l y x
   pub high : (y t : ℕ) → Mem y ys → Least arcs l y t → t ≤ x
 
--- "each stored distance is the least total of any walk through the roads .., with each least and greatest true of its region's yards"
+-- "each stored distance is the least total of any walk through the roads .., with each least and greatest true of its
+-- region's yards"
 pub record TrueTotals (arcs : List Arc) (rs : List Region) : Type 0 where
-  pub lists : (r : ℕ) → r < length rs → regionAt rs r .children ≡ 0 → (m : Mark) → Mem m (regionAt rs r .marks) → (e : Element) → Mem e (m .list) → Least arcs (m .place) (e .yard) (e .distance)
-  pub leasts : (r : ℕ) → r < length rs → 0 < regionAt rs r .children → (m : Mark) → Mem m (regionAt rs r .marks) → LeastTotal arcs (m .place) (yardsBelow rs r) (m .least)
-  pub greatests : (r : ℕ) → r < length rs → 0 < regionAt rs r .children → (m : Mark) → Mem m (regionAt rs r .marks) → GreatestTotal arcs (m .place) (yardsBelow rs r) (m .greatest)
+  pub lists : (r : ℕ) → r < length rs → regionAt rs r .children ≡ 0 → (m : Mark) → Mem m (regionAt rs r .marks)
+      → (e : Element) → Mem e (m .list) → Least arcs (m .place) (e .yard) (e .distance)
+  pub leasts : (r : ℕ) → r < length rs → 0 < regionAt rs r .children → (m : Mark) → Mem m (regionAt rs r .marks)
+      → LeastTotal arcs (m .place) (yardsBelow rs r) (m .least)
+  pub greatests : (r : ℕ) → r < length rs → 0 < regionAt rs r .children → (m : Mark) → Mem m (regionAt rs r .marks)
+      → GreatestTotal arcs (m .place) (yardsBelow rs r) (m .greatest)
 
--- "Beside a sound road book and yard book, with full areas, a tree of sound layout and shape and of the road book's junction count"
+-- "Beside a sound road book and yard book, with full areas, a tree of sound layout and shape and of the road book's
+-- junction count"
 pub record Laid (road yard tree : List ℕ) (words : ℕ) : Type 0 where
   pub roads : roadRefusal road ≡ 0
   pub yards : yardRefusalIn yard (junctions road) ≡ 0
@@ -58,8 +66,10 @@ pub record Laid (road yard tree : List ℕ) (words : ℕ) : Type 0 where
   pub counts : junctionCount tree ≡ junctions road
   pub full : workWords ≤ words
 
--- Demand 2, of check: such a tree "passes the check if and only if its leaves hold each yard of the yard book once and no other, and each stored distance is the
--- least total of any walk .., with each least and greatest true of its region's yards"
+-- Demand 2, of check: such a tree "passes the check if and only if its leaves hold each yard of the yard book once and
+-- no other, and each stored distance is the least total of any walk .., with each least and greatest true of its
+-- region's yards"
 abbrev pub CheckExact : Type 0
 CheckExact = (road yard tree : List ℕ) (words : ℕ) → Laid road yard tree words
-    → (checkAnswer road yard tree words ≡ 0) ↔ (HoldsEach (decode tree .regions) (yardsOf yard) × TrueTotals (net road) (decode tree .regions))
+    → (checkAnswer road yard tree words ≡ 0)
+    ↔ (HoldsEach (decode tree .regions) (yardsOf yard) × TrueTotals (net road) (decode tree .regions))

@@ -1,10 +1,11 @@
 -- The work area's test, and the area after a call. Assumes nothing.
 use mathlib.Core.Path.{_≡_, refl, sym, ap, _∙_}
 use mathlib.Core.Bool.{Bool}
-use mathlib.Core.List.{List}
+use mathlib.Core.List.{List, _++_}
 use Prim.Native.Nat.{ℕ, _≤_, _<_}
 use native.Mathlib.Omega.{arith}
 use lib.ListN.{length, replicate, drop, length-append, length-drop}
+use lib.Seq.{drop-at}
 use lib.Dec.{T, leb, eqb, leb→le, le→leb, not-T}
 use Rattle.book.specs.Choose.{choose}
 use Rattle.book.proofs.Choosing.{passes, fails, passed, choose-yes, choose-no, choose-map}
@@ -16,6 +17,11 @@ use Rattle.work_area.specs.Work.{workWords, workRefusal, zeroed, workAft
 pub filled-zeroed : (n i : ℕ) (work after : List ℕ) → after ≡ filled i 0 work → i ≡ n → after ≡ zeroed n work
 unfolding zeroed
 filled-zeroed n i work after e h = rw (← h) (e ∙ filled-parts i 0 work)
+
+-- what was in the words that are zeroed does not matter
+pub zeroed-over : (n : ℕ) (part work : List ℕ) → length part ≡ n → zeroed n (part ++ drop n work) ≡ zeroed n work
+unfolding zeroed
+zeroed-over n part work e = ap (λ (l : List ℕ). replicate n 0 ++ l) (drop-at part (drop n work) n e)
 
 module _ (words : ℕ) where
   pub work-short : words < workWords → workRefusal words ≡ 12

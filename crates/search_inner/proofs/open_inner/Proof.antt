@@ -1,69 +1,83 @@
-use Rattle.tree.proofs.Recursing.{children-is}
 use borrow.Author.Needs.{needs}
-use mathlib.Core.Path.{_≡_, refl, sym, ap, _∙_}
-use Prim.Native.Nat.{ℕ, _+_, _*_, _-_, _≤_, _<_}
+use mathlib.Core.Path.{refl, sym, _∙_}
+use Prim.Native.Nat.{_+_, _-_}
 use native.Mathlib.Omega.{arith}
-use lib.ListN.{length, getD, set, length-set}
-use Rattle.tree.specs.Arrays.{Laid}
-use Rattle.search_bounds.specs.Rows.{Rows}
-use Rattle.search_bounds.specs.Bounds.{Crews}
-use Rattle.search_inner.specs.Children.{keyOf, Ended}
-use Rattle.search_inner.proofs.Queueing.{Queueing, queueing-none, queueing-on, queueing-all, Next, next-slot}
+use lib.ListN.{length, length-set}
+use Rattle.tree_layout.specs.Decode.{junctionCount, landmarkCount}
+use Rattle.tree.proofs.Fielding.{laid-header, laid-few}
+use Rattle.tree.proofs.Recursing.{children-is}
+use Rattle.search_inner.specs.Children.{keyOf}
+use Rattle.search_inner.proofs.Queueing.{Counted, counted, Queueing, queueing-none, queueing-on, queueing-all, Next, next-slot, key-rows}
 use Rattle.search_inner.proofs.open_inner.Statement.{statement}
 use Rattle.search_inner.proofs.open_inner.Tie as tie
 
 abbrev Inv-loop : tie.InvT-loop
-Inv-loop tree places ends sheet rows code crews keys₀ firsts₀ a i n c₀ k₀ keys firsts c k = Laid tree places × Ended tree ends × Rows sheet rows × Crews crews × Queueing (keyOf tree sheet rows code crews a) tree i n k c keys₀ firsts₀ keys firsts
+Inv-loop tree places ends sheet crews code words₀ a rows firsts i n c₀ k₀ words c k = Counted tree places rows firsts × Queueing (keyOf tree sheet (landmarkCount tree) code crews a) tree (length places) (junctionCount tree) i n k c words₀ words
 
 abbrev μ-loop : tie.MeasureT-loop
-μ-loop tree places ends sheet rows code crews keys₀ firsts₀ a i n c₀ k₀ keys firsts c k = n - k
+μ-loop tree places ends sheet crews code words₀ a rows firsts i n c₀ k₀ words c k = n - k
 
--- the next child has a place in each array
-next : (c : tie.In-loop Inv-loop μ-loop) → Next (c .before .loop .c) (c .before .before .before .before .before .before .before .before .before .before .before .args .places .now) (c .before .before .before .before .before .before .before .before .before .before .before .args .ends .now) (c .before .loop .keys) (c .before .loop .firsts)
-next c = let l = c .before .loop in
-    next-slot _ _ _ _ _ _ _ _ _ _ (l .inv .4) (c .loop-test .taken) _ _ (l .inv .0) (l .inv .1)
+header-requires : tie.Need-header-requires Inv-loop μ-loop
+header-requires c κs = laid-header _ _ (c .before .before .before .before .before .before .pre .0)
+
+cast-rows : tie.Need-cast-rows Inv-loop μ-loop
+cast-rows c = search needs
+
+cast-firsts : tie.Need-cast-firsts Inv-loop μ-loop
+cast-firsts c = search needs
+
+add-firsts : tie.Need-add-firsts Inv-loop μ-loop
+add-firsts c = record { fits = omega (arith, laid-few _ _ (c .before .before .before .before .before .before .before .before .before .pre .0), c .struct-known2) }
 
 cast-i : tie.Need-cast-i Inv-loop μ-loop
 cast-i c = search needs
 
-mul-keys : tie.Need-mul-keys Inv-loop μ-loop
-mul-keys c = search needs
+mul-words : tie.Need-mul-words Inv-loop μ-loop
+mul-words c = search needs
 
-slice-write-keys : tie.Need-slice-write-keys Inv-loop μ-loop
-slice-write-keys c = search needs
+slice-write-words : tie.Need-slice-write-words Inv-loop μ-loop
+slice-write-words c = let s = c .before .before .before .before .before .before .before .before .before .before .pre .4 in omega (arith, s .self, s .count)
 
 fields-requires : tie.Need-fields-requires Inv-loop μ-loop
-fields-requires c κs = search needs
+fields-requires c κs = (c .before .before .before .before .before .before .before .before .before .before .pre .0, c .before .before .before .before .before .before .before .before .before .before .pre .4 .self)
 
 add-c : tie.Need-add-c Inv-loop μ-loop
 add-c c = search needs
 
 loop-holds : tie.Need-loop-holds Inv-loop μ-loop
-loop-holds c = let s = c .before .before .before .before .before .before .before .before .before .pre in (s .0, s .1, s .2, s .3, queueing-none _ _ _ _ _ _ _ (sym (children-is _ _ _ (c .fields .ensures))) (s .4))
+loop-holds c = (counted _ _ _ _ _ (c .before .before .before .before .header .ensures) refl refl, queueing-none _ _ _ _ _ _ _ _ (sym (children-is _ _ _ (c .fields .ensures))) (c .before .before .before .before .before .before .before .before .before .before .before .pre .4))
 
-cast-t22 : tie.Need-cast-t22 Inv-loop μ-loop
-cast-t22 c = record { fits = omega (arith, next c) }
+-- the next child has a place in each array
+next : (c : tie.In-loop Inv-loop μ-loop) → Next (c .before .loop .c) (length (c .before .before .before .before .before .before .before .before .before .before .before .before .before .args .places .now) + c .before .before .before .before .before .before .header .result .junctions) (c .before .before .before .before .before .before .before .before .before .before .before .before .before .args .places .now) (c .before .before .before .before .before .before .before .before .before .before .before .before .before .args .ends .now) (c .before .loop .words)
+next c = let l = c .before .loop in
+    next-slot _ _ _ _ _ _ _ _ _ _ (l .inv .1) (c .loop-test .taken) _ _ _ _ refl refl (c .before .before .before .before .before .before .before .before .before .before .before .before .before .pre .0) (c .before .before .before .before .before .before .before .before .before .before .before .before .before .pre .1) (l .inv .0)
+
+cast-t24 : tie.Need-cast-t24 Inv-loop μ-loop
+cast-t24 c = record { fits = omega (arith, next c) }
 
 key-requires : tie.Need-key-requires Inv-loop μ-loop
-key-requires c κs = let l = c .before .loop in (l .inv .0, omega (arith, next c), l .inv .2, l .inv .3)
+key-requires c κs = let s = c .before .before .before .before .before .before .before .before .before .before .before .before .before .pre in (s .0, next c .places, rw (c .before .loop .inv .0 .rows-are) (s .2), s .3)
 
-mul-keys-2 : tie.Need-mul-keys-2 Inv-loop μ-loop
-mul-keys-2 c = record { fits = omega (arith, next (c .before)) }
+mul-words-2 : tie.Need-mul-words-2 Inv-loop μ-loop
+mul-words-2 c = record { fits = omega (arith, next (c .before)) }
 
-slice-write-keys-2 : tie.Need-slice-write-keys-2 Inv-loop μ-loop
-slice-write-keys-2 c = omega (arith, next (c .before))
+slice-write-words-2 : tie.Need-slice-write-words-2 Inv-loop μ-loop
+slice-write-words-2 c = next (c .before) .word
 
-mul-firsts : tie.Need-mul-firsts Inv-loop μ-loop
-mul-firsts c = record { fits = omega (arith, next (c .before)) }
+add-words : tie.Need-add-words Inv-loop μ-loop
+add-words c = record { fits = omega (arith, next (c .before)) }
 
-slice-write-firsts : tie.Need-slice-write-firsts Inv-loop μ-loop
-slice-write-firsts c = omega (arith, next (c .before))
+mul-words-3 : tie.Need-mul-words-3 Inv-loop μ-loop
+mul-words-3 c = record { fits = omega (arith, next (c .before)) }
+
+slice-write-words-3 : tie.Need-slice-write-words-3 Inv-loop μ-loop
+slice-write-words-3 c = simp length-set (next (c .before) .first)
 
 mul-c : tie.Need-mul-c Inv-loop μ-loop
 mul-c c = record { fits = omega (arith, next (c .before)) }
 
 shared-slice-read-c : tie.Need-shared-slice-read-c Inv-loop μ-loop
-shared-slice-read-c c = omega (arith, next (c .before .before))
+shared-slice-read-c c = next (c .before .before) .ends
 
 add-k : tie.Need-add-k Inv-loop μ-loop
 add-k c = search needs
@@ -74,22 +88,13 @@ loop-less c = search needs
 loop-again : tie.Need-loop-again Inv-loop μ-loop
 loop-again c =
     let l = c .before .before .before .loop in
-    let n = next (c .before .before) in (
-      l .inv .0,
-      l .inv .1,
-      l .inv .2,
-      l .inv .3,
-      queueing-on _ _ _ _ _ _ _ _ _ _ (l .inv .4) (c .before .before .loop-test .taken) _ _ (c .before .key .ensures) (l .inv .1 .held (l .c) (omega arith)),
-    )
+    (l .inv .0, queueing-on _ _ _ _ _ _ _ _ _ _ (l .inv .1) (c .before .before .loop-test .taken) _ _ _ (key-rows _ _ _ _ _ _ _ _ _ (c .before .key .ensures) (l .inv .0 .rows-are)) (c .before .before .before .before .before .before .before .before .before .before .before .before .before .before .before .pre .1 .held (l .c) (next (c .before .before) .ends)) (l .inv .0 .firsts-are))
 
 same-length : tie.Need-same-length Inv-loop μ-loop
-same-length c = search needs
-
-same-length-2 : tie.Need-same-length-2 Inv-loop μ-loop
-same-length-2 c = search needs
+same-length c = c .before .loop .inv .1 .count ∙ sym (c .before .before .before .before .before .before .before .before .before .before .before .before .before .pre .4 .count)
 
 returns : tie.Need-returns Inv-loop μ-loop
-returns c = queueing-all _ _ _ _ _ _ _ _ _ _ (c .before .loop .inv .4) (c .loop-test .left)
+returns c = queueing-all _ _ _ _ _ _ _ _ _ _ (c .before .loop .inv .1) (c .loop-test .left)
 
 pub open-inner-spec : {M : Type 1} → statement M
 open-inner-spec =
@@ -97,23 +102,27 @@ open-inner-spec =
     (tie.spec
     Inv-loop
     μ-loop
+    header-requires
+    cast-rows
+    cast-firsts
+    add-firsts
     cast-i
-    mul-keys
-    slice-write-keys
+    mul-words
+    slice-write-words
     fields-requires
     add-c
     loop-holds
-    cast-t22
+    cast-t24
     key-requires
-    mul-keys-2
-    slice-write-keys-2
-    mul-firsts
-    slice-write-firsts
+    mul-words-2
+    slice-write-words-2
+    add-words
+    mul-words-3
+    slice-write-words-3
     mul-c
     shared-slice-read-c
     add-k
     loop-less
     loop-again
     same-length
-    same-length-2
     returns)

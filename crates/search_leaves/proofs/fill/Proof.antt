@@ -1,63 +1,78 @@
 use Prim.Native.Nat.{_-_}
 use native.Mathlib.Omega.{arith}
+use lib.ListN.{length-set}
 use Rattle.search_leaves.specs.Leaves.{fIn, boundIn}
-use Rattle.search_leaves.proofs.Filling.{Rest, rest-all, rest-next, rest-near, Filled, filled-none, filled-more, filled-all}
+use Rattle.search_leaves.proofs.Filling.{yard-near, Filled, filled-none, filled-more, filled-all}
 use borrow.Author.Needs.{needs}
 use Rattle.search_leaves.proofs.fill.Statement.{statement}
 use Rattle.search_leaves.proofs.fill.Tie as tie
 
 abbrev Inv-loop : tie.InvT-loop
-Inv-loop list yards sheet rows crews out code fs₀ bounds₀ at₀ k₀ fs bounds at k = Rest list yards k at × Filled (fIn code out) list yards k at fs₀ fs
-    × Filled (boundIn code sheet rows crews out) list yards k at bounds₀ bounds
+Inv-loop list yards sheet crews out code h words₀ rows k₀ words k =
+    Filled (h .regions) (h .junctions) (fIn code out) (boundIn code sheet (h .landmarks) crews out) list yards k words₀ words
 
 abbrev μ-loop : tie.MeasureT-loop
-μ-loop list yards sheet rows crews out code fs₀ bounds₀ at₀ k₀ fs bounds at k = yards - k
+μ-loop list yards sheet crews out code h words₀ rows k₀ words k = yards - k
+
+cast-rows : tie.Need-cast-rows Inv-loop μ-loop
+cast-rows c = search needs
 
 loop-holds : tie.Need-loop-holds Inv-loop μ-loop
-loop-holds c = (rest-all _ _ (c .before .before .before .before .before .before .pre .0), filled-none _ _ _ _, filled-none _ _ _ _)
+loop-holds c = filled-none _ _ _ _ _ _ _
 
-u32-at-requires : tie.Need-u32-at-requires Inv-loop μ-loop
-u32-at-requires c κs = omega (arith, c .before .loop .inv .0 .room)
-
-add-u16-at : tie.Need-add-u16-at Inv-loop μ-loop
-add-u16-at c = omega (arith, c .before .before .loop .inv .0 .room, c .before .loop-test .taken, c .before .before .before .before .before .before .before .before .before .good .0)
-
-u16-at-requires : tie.Need-u16-at-requires Inv-loop μ-loop
-u16-at-requires c κs = omega (arith, c .before .before .loop .inv .0 .room, c .before .loop-test .taken)
-
-cast-i : tie.Need-cast-i Inv-loop μ-loop
-cast-i c = search needs
+element-requires : tie.Need-element-requires Inv-loop μ-loop
+element-requires c κs = omega (arith, c .loop-test .taken, c .before .before .before .before .before .before .before .before .pre .0)
 
 f-of-requires : tie.Need-f-of-requires Inv-loop μ-loop
-f-of-requires c κs = let s = c .before .before .before .before .before .before .before .before .before .before in omega (arith, s .pre .2 .few, s .pre .3)
-
-mul-fs : tie.Need-mul-fs Inv-loop μ-loop
-mul-fs c =
-    let s = c .before .before .before .before .before .before .before .before .before .before .before in
-    omega (arith, rest-near (c .before .before .before .before .loop .inv .0) (c .before .before .before .loop-test .taken) _ _ (c .before .u16-at .ensures) (s .pre .4))
-
-slice-write-fs : tie.Need-slice-write-fs Inv-loop μ-loop
-slice-write-fs c =
-    let s = c .before .before .before .before .before .before .before .before .before .before .before in
-    omega (arith, c .before .before .before .before .loop .inv .1 .same, rest-near (c .before .before .before .before .loop .inv .0) (c .before .before .before .loop-test .taken) _ _ (c .before .u16-at .ensures) (s .pre .5))
+f-of-requires c κs = let s = c .before .before .before .before .before .before .before .before .before in omega (arith, s .pre .2 .few, s .pre .3)
 
 yard-bound-requires : tie.Need-yard-bound-requires Inv-loop μ-loop
 yard-bound-requires c κs =
-    let s = c .before .before .before .before .before .before .before .before .before .before .before in
-    (s .pre .1, s .pre .2, s .pre .3, rest-near (c .before .before .before .before .loop .inv .0) (c .before .before .before .loop-test .taken) _ _ (c .before .u16-at .ensures) (s .pre .4))
+    let start = c .before .before .before .before .before .before .before .before .before .before in (
+      start .pre .1,
+      start .pre .2,
+      start .pre .3,
+      omega
+          (arith, start .pre .5, yard-near _ _ _ _ _ (c .before .before .loop-test .taken) (c .before .element .ensures) (start .pre .4)),
+    )
 
-mul-bounds : tie.Need-mul-bounds Inv-loop μ-loop
-mul-bounds c =
-    let s = c .before .before .before .before .before .before .before .before .before .before .before .before in
-    omega (arith, rest-near (c .before .before .before .before .before .loop .inv .0) (c .before .before .before .before .loop-test .taken) _ _ (c .before .before .u16-at .ensures) (s .pre .4))
+f-at-requires : tie.Need-f-at-requires Inv-loop μ-loop
+f-at-requires c κs = search needs
 
-slice-write-bounds : tie.Need-slice-write-bounds Inv-loop μ-loop
-slice-write-bounds c =
-    let s = c .before .before .before .before .before .before .before .before .before .before .before .before in
-    omega (arith, c .before .before .before .before .before .loop .inv .2 .same, rest-near (c .before .before .before .before .before .loop .inv .0) (c .before .before .before .before .loop-test .taken) _ _ (c .before .before .u16-at .ensures) (s .pre .6))
+bound-at-requires : tie.Need-bound-at-requires Inv-loop μ-loop
+bound-at-requires c κs = search needs
 
-add-at : tie.Need-add-at Inv-loop μ-loop
-add-at c = omega (arith, c .before .before .before .before .before .loop .inv .0 .room, c .before .before .before .before .loop-test .taken, c .before .before .before .before .before .before .before .before .before .before .before .before .good .0)
+mul-words : tie.Need-mul-words Inv-loop μ-loop
+mul-words c = search needs
+
+slice-write-words : tie.Need-slice-write-words Inv-loop μ-loop
+slice-write-words c =
+    let at-element = c .before .before .before .before in
+    let start = at-element .before .before .before .before .before .before .before .before .before in
+    omega (
+      arith,
+      start .pre .6,
+      at-element .before .before .loop .inv .same,
+      c .before .f-at .ensures,
+      yard-near _ _ _ _ _
+          (at-element .before .loop-test .taken) (at-element .element .ensures) (start .pre .4),
+    )
+
+mul-words-2 : tie.Need-mul-words-2 Inv-loop μ-loop
+mul-words-2 c = search needs
+
+slice-write-words-2 : tie.Need-slice-write-words-2 Inv-loop μ-loop
+slice-write-words-2 c =
+    let at-element = c .before .before .before .before in
+    let start = at-element .before .before .before .before .before .before .before .before .before in
+    simp length-set (omega (
+      arith,
+      start .pre .6,
+      at-element .before .before .loop .inv .same,
+      c .bound-at .ensures,
+      yard-near _ _ _ _ _
+          (at-element .before .loop-test .taken) (at-element .element .ensures) (start .pre .4),
+    ))
 
 add-k : tie.Need-add-k Inv-loop μ-loop
 add-k c = search needs
@@ -67,23 +82,16 @@ loop-less c = search needs
 
 loop-again : tie.Need-loop-again Inv-loop μ-loop
 loop-again c =
-    let l = c .before .before .before .before .before .loop in
-    let h = c .before .before .before .before .loop-test .taken in (
-      rest-next (l .inv .0) h,
-      filled-more _ _ _ _ _ _ _ (l .inv .1) h _ _ _ (c .before .before .before .u32-at .ensures) (c .before .before .u16-at .ensures) (c .before .f-of .ensures),
-      filled-more _ _ _ _ _ _ _ (l .inv .2) h _ _ _ (c .before .before .before .u32-at .ensures) (c .before .before .u16-at .ensures) (c .yard-bound .ensures),
-    )
+    let at-f-of = c .before .before .before in
+    let at-loop = at-f-of .before .before .before in
+    filled-more _ _ _ _ _ _ _ _ _ (at-loop .loop .inv) (at-f-of .before .before .loop-test .taken) _ (at-f-of .before .element .ensures) _ _ _ _
+    (at-f-of .f-of .ensures) (c .before .before .yard-bound .ensures) (c .before .f-at .ensures) (c .bound-at .ensures)
 
 same-length : tie.Need-same-length Inv-loop μ-loop
-same-length c = c .before .loop .inv .1 .same
-
-same-length-2 : tie.Need-same-length-2 Inv-loop μ-loop
-same-length-2 c = c .before .loop .inv .2 .same
+same-length c = c .before .loop .inv .same
 
 returns : tie.Need-returns Inv-loop μ-loop
-returns c =
-    let l = c .before .loop in
-    (filled-all _ _ _ _ _ _ _ (l .inv .1) (c .loop-test .left), filled-all _ _ _ _ _ _ _ (l .inv .2) (c .loop-test .left))
+returns c = filled-all _ _ _ _ _ _ _ _ _ (c .before .loop .inv) (c .loop-test .left)
 
 pub fill-spec : {M : Type 1} → statement M
 fill-spec =
@@ -91,21 +99,19 @@ fill-spec =
     (tie.spec
     Inv-loop
     μ-loop
+    cast-rows
     loop-holds
-    u32-at-requires
-    add-u16-at
-    u16-at-requires
-    cast-i
+    element-requires
     f-of-requires
-    mul-fs
-    slice-write-fs
     yard-bound-requires
-    mul-bounds
-    slice-write-bounds
-    add-at
+    f-at-requires
+    bound-at-requires
+    mul-words
+    slice-write-words
+    mul-words-2
+    slice-write-words-2
     add-k
     loop-less
     loop-again
     same-length
-    same-length-2
     returns)

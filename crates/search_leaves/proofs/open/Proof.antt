@@ -1,96 +1,90 @@
-use mathlib.Core.Path.{refl, sym}
+use mathlib.Core.Path.{sym, _∙_}
 use native.Mathlib.Omega.{arith}
 use lib.Seq.{length-take-le}
-use Rattle.search_leaves.specs.Leaves.{fIn, boundIn}
-use Rattle.search_leaves.proofs.Opening.{part-room, part-near, part-filled, crews-wide, front-room, front, front-length}
+use Rattle.search_leaves.proofs.Opening.{driven-at, list-near, list-whole, header-junctions-are, header-words, header-rows, crews-wide}
+use Rattle.search_leaves.proofs.Opening.{front-room, front-length, opened-words}
 use borrow.Author.Needs.{needs}
 use Rattle.search_leaves.proofs.open.Statement.{statement}
 use Rattle.search_leaves.proofs.open.Tie as tie
 
-u16-at-requires : tie.Need-u16-at-requires
-u16-at-requires c κs = search needs
+junction-requires : tie.Need-junction-requires
+junction-requires c κs = search needs
 
 array-borrow-prefix-out : tie.Need-array-borrow-prefix-out
-array-borrow-prefix-out c = c .before .before .before .before .before .before .before .before .pre .0 .few
+array-borrow-prefix-out c = c .before .before .before .before .before .before .pre .0 .driven .few
 
 slice-aggregate-to-crews : tie.Need-slice-aggregate-to-crews
-slice-aggregate-to-crews c = sym (length-take-le _ _ (c .before .before .before .before .before .before .before .before .before .pre .0 .few))
+slice-aggregate-to-crews c = sym (length-take-le _ _ (c .before .before .before .before .before .before .before .pre .0 .driven .few))
 
 to-crews-requires : tie.Need-to-crews-requires
 to-crews-requires c κs =
-    let s = c .before .before .before .before .before .before .before .before .before .pre in
-    (s .0, omega (arith, s .3, c .before .u16-at .ensures), length-take-le _ _ (s .0 .few))
+    let s = c .before .before .before .before .before .before .before in
+    (driven-at _ _ _ _ (c .before .junction .ensures) (s .pre .0), length-take-le _ _ (s .pre .0 .driven .few))
 
-add-a : tie.Need-add-a
-add-a c = let s = c .before .before .before .before .before .before .before .before .before .before .before in omega (arith, s .pre .2)
+list-requires : tie.Need-list-requires
+list-requires c κs = search needs
 
-mul-e : tie.Need-mul-e
-mul-e c = let s = c .before .before .before .before .before .before .before .before .before .before .before in omega (arith, s .pre .2)
-
-add-e : tie.Need-add-e
-add-e c = let s = c .before .before .before .before .before .before .before .before .before .before .before in omega (arith, s .pre .2)
-
-sub-fill : tie.Need-sub-fill
-sub-fill c = search needs
-
-part-fill-start : tie.Need-part-fill-start
-part-fill-start c = search needs
-
-part-fill-end : tie.Need-part-fill-end
-part-fill-end c = search needs
+header-requires : tie.Need-header-requires
+header-requires c κs = search needs
 
 array-share-prefix-out : tie.Need-array-share-prefix-out
-array-share-prefix-out c = front-room _ _ _ _ _ (c .before .before .to-crews .ensures)
+array-share-prefix-out c =
+    let at-to-crews = c .before .before .before in
+    let start = at-to-crews .before .before .before .before .before .before .before .before in
+    front-room (start .args .crews .now) (at-to-crews .to-crews .last .1 .1 .1 .0) _
+    (at-to-crews .to-crews .kept .1 .1 .1 .0 ∙ length-take-le _ _ (start .pre .0 .driven .few))
 
 slice-aggregate-fill : tie.Need-slice-aggregate-fill
-slice-aggregate-fill c = sym (front-length _ _ _ _ _ (c .before .before .before .to-crews .ensures))
+slice-aggregate-fill c =
+    let at-to-crews = c .before .before .before .before in
+    let start = at-to-crews .before .before .before .before .before .before .before .before in
+    sym (front-length (start .args .crews .now) (at-to-crews .to-crews .last .1 .1 .1 .0) _
+    (at-to-crews .to-crews .kept .1 .1 .1 .0 ∙ length-take-le _ _ (start .pre .0 .driven .few)))
 
 fill-requires : tie.Need-fill-requires
 fill-requires c κs =
-    let s = c .before .before .before .before .before .before .before .before .before .before .before .before .before .before .before in
-    let l = s .pre .0 .roads .layout in (
-      part-room _ _ (s .args .at) _ _ _ l refl refl (s .pre .2),
-      s .pre .1,
-      crews-wide _ _ _ (s .pre .0),
-      front-length _ _ _ _ _ (c .before .before .before .before .before .to-crews .ensures),
-      part-near _ _ (s .args .at) _ _ _ l refl refl (s .pre .2) _ (l .few-junctions) (s .pre .4),
-      part-near _ _ (s .args .at) _ _ _ l refl refl (s .pre .2) _ (s .pre .5) (s .pre .4),
-      part-near _ _ (s .args .at) _ _ _ l refl refl (s .pre .2) _ (s .pre .6) (s .pre .4),
+    let at-list = c .before .before .before in
+    let at-to-crews = at-list .before .before in
+    let start = at-to-crews .before .before .before .before .before .before .before .before in
+    let h = c .before .before .header .ensures in
+    let l = at-list .list .ensures in (
+      list-whole _ (start .args .at) _ _ l (start .pre .3),
+      header-rows _ _ h _ (start .pre .1),
+      crews-wide _ _ _ (start .pre .0 .driven),
+      front-length (start .args .crews .now) (at-to-crews .to-crews .last .1 .1 .1 .0) _
+          (at-to-crews .to-crews .kept .1 .1 .1 .0 ∙ length-take-le _ _ (start .pre .0 .driven .few)),
+      list-near _ (start .args .at) _ _ l _ _ (header-junctions-are _ _ h) (start .pre .5),
+      omega (arith, header-junctions-are _ _ h, start .pre .4),
+      header-words _ _ h (start .args .words .now) (start .pre .6),
     )
 
 same-length : tie.Need-same-length
 same-length c = search needs
 
-same-length-2 : tie.Need-same-length-2
-same-length-2 c = search needs
-
 returns : tie.Need-returns
 returns c =
-    let s = c .before .before .before .before .before .before .before .before .before .before .before .before .before .before .before .before .before .before .before .before in
-    let l = s .pre .0 .roads .layout in
-    let r = c .before .before .before .before .fill .ensures in
-    let w = front _ _ _ _ _ (c .before .before .before .before .before .before .before .before .before .before .to-crews .ensures) in (
-      part-filled _ _ (s .args .at) _ _ _ l refl refl (s .pre .2) (λ o. fIn (s .args .code) o) _ _ _ _ _ (c .before .before .before .before .before .before .before .before .before .before .before .before .u16-at .ensures) w (r .0),
-      part-filled _ _ (s .args .at) _ _ _ l refl refl (s .pre .2) (λ o. boundIn (s .args .code) (s .args .sheet .now) (s .args .rows) (s .args .crews .now) o) _ _ _ _ _ (c .before .before .before .before .before .before .before .before .before .before .before .before .u16-at .ensures) w (r .1),
-    )
+    let at-header = c .before .before .before .before .before in
+    let at-to-crews = at-header .before .before .before in
+    let at-junction = at-to-crews .before .before in
+    let start = at-junction .before .before .before .before .before .before in
+    λ road d n. opened-words _ (start .args .at) _ _ (at-header .before .list .ensures) _ (at-header .header .ensures) (start .args .code)
+    (start .args .sheet .now) (start .args .crews .now) (at-to-crews .to-crews .last .1 .1 .1 .0) _
+    (at-to-crews .to-crews .kept .1 .1 .1 .0 ∙ length-take-le _ _ (start .pre .0 .driven .few)) _ _
+    (c .before .before .fill .ensures) road _ (at-junction .junction .ensures)
+    (at-to-crews .to-crews .ensures road d (omega (arith, at-junction .junction .ensures)))
 
 pub open-spec : {M : Type 1} → statement M
 open-spec =
     tie.close
     (tie.spec
-    u16-at-requires
+    junction-requires
     array-borrow-prefix-out
     slice-aggregate-to-crews
     to-crews-requires
-    add-a
-    mul-e
-    add-e
-    sub-fill
-    part-fill-start
-    part-fill-end
+    list-requires
+    header-requires
     array-share-prefix-out
     slice-aggregate-fill
     fill-requires
     same-length
-    same-length-2
     returns)

@@ -1,41 +1,84 @@
 use native.Mathlib.Omega.{arith}
-use Rattle.search_next.proofs.Nexts.{next-inside, next-near, next-yard, next-word, gone-at, yards-at, keys-at}
+use lib.ListN.{length-set}
+use Rattle.search_leaves.proofs.Filling.{yard-near}
+use Rattle.search_next.proofs.Nexts.{next-inside, leaving-is, queued-is}
 use borrow.Author.Needs.{needs}
 use Rattle.search_next.proofs.queue_next.Statement.{statement}
 use Rattle.search_next.proofs.queue_next.Tie as tie
 
+first-at-requires : tie.Need-first-at-requires
+first-at-requires c κs = search needs
+
+mul-first : tie.Need-mul-first
+mul-first c = search needs
+
+slice-read-first : tie.Need-slice-read-first
+slice-read-first c = search needs
+
 next-element-requires : tie.Need-next-element-requires
 next-element-requires c κs = search needs
 
-mul-u16-at : tie.Need-mul-u16-at
-mul-u16-at c = record { fits = omega (arith, next-inside _ _ _ _ _ 0 (c .before .before .before .before .before .before .before .before .pre .0) (c .next-element .ensures .0), c .before .before .before .before .before .before .before .before .pre .1, c .before .before .before .before .before .before .before .before .good .0 .0) }
+element-requires : tie.Need-element-requires
+element-requires c κs =
+    let start = c .before .before .before .before .before .before in
+    omega (arith, start .pre .1, next-inside _ _ _ _ _ (start .pre .0) (c .next-element .ensures .0))
 
-add-u16-at : tie.Need-add-u16-at
-add-u16-at c = record { fits = omega (arith, next-inside _ _ _ _ _ 0 (c .before .before .before .before .before .before .before .before .pre .0) (c .next-element .ensures .0), c .before .before .before .before .before .before .before .before .pre .1, c .before .before .before .before .before .before .before .before .good .0 .0) }
+bound-at-requires : tie.Need-bound-at-requires
+bound-at-requires c κs = search needs
 
-u16-at-requires : tie.Need-u16-at-requires
-u16-at-requires c κs = omega (arith, next-inside _ _ _ _ _ 0 (c .before .before .before .before .before .before .before .before .pre .0) (c .next-element .ensures .0), c .before .before .before .before .before .before .before .before .pre .1)
+mul-bound : tie.Need-mul-bound
+mul-bound c = search needs
 
-cast-y : tie.Need-cast-y
-cast-y c = search needs
+slice-read-bound : tie.Need-slice-read-bound
+slice-read-bound c =
+    let at-next-element = c .before .before .before in
+    let start = at-next-element .before .before .before .before .before .before in
+    omega (
+      arith,
+      start .pre .3,
+      c .before .bound-at .ensures,
+      yard-near _ _ _ _ _
+          (next-inside _ _ _ _ _ (start .pre .0) (at-next-element .next-element .ensures .0)) (c .before .before .element .ensures) (start .pre .2),
+    )
 
-slice-write-gone : tie.Need-slice-write-gone
-slice-write-gone c = next-near _ _ _ _ _ _ (c .before .before .before .before .before .before .before .before .before .pre .0) (c .before .next-element .ensures .0) _ (c .u16-at .ensures) (c .before .before .before .before .before .before .before .before .before .pre .6)
+gone-at-requires : tie.Need-gone-at-requires
+gone-at-requires c κs = search needs
 
-mul-greater64 : tie.Need-mul-greater64
-mul-greater64 c = search needs
+mul-words : tie.Need-mul-words
+mul-words c = search needs
 
-shared-slice-read-greater64 : tie.Need-shared-slice-read-greater64
-shared-slice-read-greater64 c = next-near _ _ _ _ _ _ (c .before .before .before .before .before .before .before .before .before .before .pre .0) (c .before .before .next-element .ensures .0) _ (c .before .u16-at .ensures) (c .before .before .before .before .before .before .before .before .before .before .pre .4)
+slice-write-words : tie.Need-slice-write-words
+slice-write-words c =
+    let at-element = c .before .before .before in
+    let start = at-element .before .before .before .before .before .before .before in
+    omega (
+      arith,
+      start .pre .3,
+      c .gone-at .ensures,
+      yard-near _ _ _ _ _
+          (next-inside _ _ _ _ _ (start .pre .0) (at-element .before .next-element .ensures .0)) (at-element .element .ensures) (start .pre .2),
+    )
+
+key-at-requires : tie.Need-key-at-requires
+key-at-requires c κs = search needs
 
 greater64-requires : tie.Need-greater64-requires
 greater64-requires c κs = search needs
 
-mul-yards : tie.Need-mul-yards
-mul-yards c = search needs
+mul-words-2 : tie.Need-mul-words-2
+mul-words-2 c = search needs
 
-slice-write-yards : tie.Need-slice-write-yards
-slice-write-yards c = next-near _ _ _ _ _ _ (c .before .before .before .before .before .before .before .before .before .before .before .pre .0) (c .before .before .before .next-element .ensures .0) _ (c .before .before .u16-at .ensures) (c .before .before .before .before .before .before .before .before .before .before .before .pre .5)
+slice-write-words-2 : tie.Need-slice-write-words-2
+slice-write-words-2 c =
+    let at-element = c .before .before .before .before .before in
+    let start = at-element .before .before .before .before .before .before .before in
+    simp length-set (omega (
+      arith,
+      start .pre .3,
+      c .before .key-at .ensures,
+      yard-near _ _ _ _ _
+          (next-inside _ _ _ _ _ (start .pre .0) (at-element .before .next-element .ensures .0)) (at-element .element .ensures) (start .pre .2),
+    ))
 
 next-element-requires-2 : tie.Need-next-element-requires-2
 next-element-requires-2 c κs = search needs
@@ -43,47 +86,57 @@ next-element-requires-2 c κs = search needs
 again-key-requires : tie.Need-again-key-requires
 again-key-requires c κs = search needs
 
-mul-keys : tie.Need-mul-keys
-mul-keys c = search needs
+cast-words : tie.Need-cast-words
+cast-words c = search needs
 
-slice-write-keys : tie.Need-slice-write-keys
-slice-write-keys c = search needs
+mul-words-3 : tie.Need-mul-words-3
+mul-words-3 c = search needs
+
+slice-write-words-3 : tie.Need-slice-write-words-3
+slice-write-words-3 c =
+    let start = c .before .before .before .before .before .before .before .before .before .before .before .before .before .before .before .before in
+    simp length-set (omega (arith, start .pre .3, start .pre .4))
 
 same-length : tie.Need-same-length
 same-length c = search needs
 
-same-length-2 : tie.Need-same-length-2
-same-length-2 c = search needs
-
-same-length-3 : tie.Need-same-length-3
-same-length-3 c = search needs
-
 returns : tie.Need-returns
 returns c =
-    let s = c .before .before .before .before .before .before .before .before .before .before .before .before .before .before in
-    let y = next-yard _ _ _ _ _ _ (s .pre .0) (c .before .before .before .before .before .before .next-element .ensures .0) (c .before .before .before .before .before .u16-at .ensures) in
-    (gone-at (s .args .gone .now) _ _ y, (yards-at (s .args .yards .now) (s .args .bounds .now) _ _ (s .args .first) _ y (c .before .before .before .greater64 .ensures), keys-at (s .args .keys .now) (s .args .r) (s .args .first) _ _ _ (next-word _ _ _ _ _ _ (c .before .next-element2 .ensures .0) (c .before .next-element2 .ensures .1)) (c .again-key .ensures)))
+    let at-next-element2 = c .before .before in
+    let at-key-at = at-next-element2 .before .before .before in
+    let at-bound-at = at-key-at .before .before .before in
+    let at-first-at = at-bound-at .before .before .before .before .before in
+    let start = at-first-at .before .before .before in
+    queued-is (start .args .h .regions) (start .args .h .junctions) _ _ (start .args .words .now) (start .args .r .number) _
+    (leaving-is _ _ _ _ (start .args .words .now) (start .pre .0) _ (at-bound-at .before .before .next-element .ensures .0) _
+    (at-bound-at .before .element .ensures))
+    _ _ _ _ (at-first-at .first-at .ensures) (at-bound-at .bound-at .ensures) (at-key-at .before .gone-at .ensures) (at-key-at .key-at .ensures) _
+    (at-next-element2 .before .before .greater64 .ensures)
+    _ _ _ (at-next-element2 .next-element2 .ensures .0) (at-next-element2 .next-element2 .ensures .1) (c .before .again-key .ensures)
 
 pub queue-next-spec : {M : Type 1} → statement M
 queue-next-spec =
     tie.close
     (tie.spec
+    first-at-requires
+    mul-first
+    slice-read-first
     next-element-requires
-    mul-u16-at
-    add-u16-at
-    u16-at-requires
-    cast-y
-    slice-write-gone
-    mul-greater64
-    shared-slice-read-greater64
+    element-requires
+    bound-at-requires
+    mul-bound
+    slice-read-bound
+    gone-at-requires
+    mul-words
+    slice-write-words
+    key-at-requires
     greater64-requires
-    mul-yards
-    slice-write-yards
+    mul-words-2
+    slice-write-words-2
     next-element-requires-2
     again-key-requires
-    mul-keys
-    slice-write-keys
+    cast-words
+    mul-words-3
+    slice-write-words-3
     same-length
-    same-length-2
-    same-length-3
     returns)

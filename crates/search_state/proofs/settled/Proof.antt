@@ -4,14 +4,11 @@ use borrow.Author.Needs.{needs}
 use Rattle.search_state.proofs.settled.Statement.{statement}
 use Rattle.search_state.proofs.settled.Tie as tie
 
-least-key-requires : tie.Need-least-key-requires
-least-key-requires c κs = search needs
-
 returns : tie.Need-returns
-returns c = settled-empty _ _ _ _ _ (c .before .least-key .ensures) (c .if1 .taken)
+returns c = settled-empty _ _ _ (c .if1 .taken)
 
 returns-2 : tie.Need-returns-2
-returns-2 c = settled-few _ _ _ _ _ (c .before .before .before .least-key .ensures) (small-key _ (c .before .before .if1 .left) (omega (arith, c .before .before .before .least-key .ok))) (c .if2 .taken)
+returns-2 c = settled-few _ _ _ (small-key _ (c .before .before .if1 .left) (omega arith)) (c .if2 .taken)
 
 greatest-requires : tie.Need-greatest-requires
 greatest-requires c κs = search needs
@@ -20,9 +17,9 @@ cast-result : tie.Need-cast-result
 cast-result c = search needs
 
 returns-3 : tie.Need-returns-3
-returns-3 c = settled-full _ _ _ _ _ (c .before .before .before .before .least-key .ensures) (small-key _ (c .before .before .before .if1 .left) (omega (arith, c .before .before .before .before .least-key .ok))) _ (c .before .if2 .left) (c .greatest .ensures)
+returns-3 c = settled-full _ _ _ (small-key _ (c .before .before .before .if1 .left) (omega arith)) _ (c .before .if2 .left) (c .greatest .ensures)
 
 pub settled-spec : {M : Type 1} → statement M
 settled-spec =
     tie.close
-    (tie.spec least-key-requires returns returns-2 greatest-requires cast-result returns-3)
+    (tie.spec returns returns-2 greatest-requires cast-result returns-3)

@@ -1,111 +1,88 @@
-use mathlib.Core.Path.{refl}
+use borrow.Author.Needs.{needs}
 use native.Mathlib.Omega.{arith}
 use Rattle.search_leaf.proofs.Landmarks.{driven-of}
-use Rattle.search_step.proofs.Taking.{region-inside, region-small, yard-inside, yard-small, yard-room, yard-is-taken, region-queued, region-is-taken}
+use Rattle.search_step.proofs.Taking.{picked, yard-driven, near, region-queued, region-is-taken, yard-room, yard-cached, yard-is-taken}
 use Rattle.search_step.proofs.step.Statement.{statement}
 use Rattle.search_step.proofs.step.Tie as tie
 
-pick-requires : tie.Need-pick-requires
-pick-requires c κs = tt
-
-pick-requires-2 : tie.Need-pick-requires-2
-pick-requires-2 c κs = tt
+cast-t17 : tie.Need-cast-t17
+cast-t17 c = record { fits = omega (arith, picked (c .before .before .before .before .before .before .before .before .before .pre .0) (c .before .before .before .before .before .before .before .before .before .pre .3) (c .before .before .before .before .before .before .before .before .before .pre .4) .small) }
 
 mul-a : tie.Need-mul-a
-mul-a c = let s = c .before .before .before .before .before .before .before .before .before .before .before .before .before .before .before .before .before .before .before in record { fits = omega (arith, region-small (s .pre .0) _ _ _ _ _ _ _ (s .pre .3) _ _ 0 0 (c .before .before .pick .ensures) (c .pick2 .ensures)) }
+mul-a c = record { fits = omega (arith, picked (c .before .before .before .before .before .before .before .before .before .pre .0) (c .before .before .before .before .before .before .before .before .before .pre .3) (c .before .before .before .before .before .before .before .before .before .pre .4) .small) }
 
 slice-read-a : tie.Need-slice-read-a
-slice-read-a c = let s = c .before .before .before .before .before .before .before .before .before .before .before .before .before .before .before .before .before .before .before .before in region-inside (s .pre .0) _ _ _ _ _ _ _ (s .pre .3) _ _ 0 0 (c .before .before .before .pick .ensures) (c .before .pick2 .ensures)
-
-mul-b : tie.Need-mul-b
-mul-b c = let s = c .before .before .before .before .before .before .before .before .before .before .before .before .before .before .before .before .before .before .before .before in record { fits = omega (arith, yard-small (s .pre .0) _ _ _ _ _ _ _ (s .pre .3) _ _ 0 0 (c .before .before .before .pick .ensures) (c .before .pick2 .ensures), s .pre .0 .passed .roads .layout .few-junctions) }
-
-slice-read-b : tie.Need-slice-read-b
-slice-read-b c = let s = c .before .before .before .before .before .before .before .before .before .before .before .before .before .before .before .before .before .before .before .before .before in yard-inside (s .pre .0) _ _ _ _ _ _ _ (s .pre .3) _ _ 0 0 (c .before .before .before .before .pick .ensures) (c .before .before .pick2 .ensures)
-
-cast-t37 : tie.Need-cast-t37
-cast-t37 c = let s = c .before .before .before .before .before .before .before .before .before .before .before .before .before .before .before .before .before .before .before .before .before .before in record { fits = omega (arith, yard-small (s .pre .0) _ _ _ _ _ _ _ (s .pre .3) _ _ 0 0 (c .before .before .before .before .before .pick .ensures) (c .before .before .before .pick2 .ensures), s .pre .0 .passed .roads .layout .few-junctions) }
+slice-read-a c = picked (c .before .before .before .before .before .before .before .before .before .before .pre .0) (c .before .before .before .before .before .before .before .before .before .before .pre .3) (c .before .before .before .before .before .before .before .before .before .before .pre .4) .inside
 
 take-requires : tie.Need-take-requires
-take-requires c κs = let s = c .before .before .before .before .before .before .before .before .before .before .before .before .before .before .before .before .before .before .before .before .before .before .before .before in
-    let m = yard-room (s .pre .0) _ _ _ _ _ _ _ (s .pre .3) _ _ _ _ (c .before .before .before .before .before .before .before .pick .ensures) (c .before .before .before .before .before .pick2 .ensures) refl refl (c .before .before .if1 .taken) (omega (arith, c .before .before .before .before .slice-known9 .given (c .before .before .before .before .before .before .before .pick .result))) in
-    (driven-of _ _ _ _ _ _ _ _ _ (s .pre .0), yard-small (s .pre .0) _ _ _ _ _ _ _ (s .pre .3) _ _ 0 0 (c .before .before .before .before .before .before .before .pick .ensures) (c .before .before .before .before .before .pick2 .ensures), yard-inside (s .pre .0) _ _ _ _ _ _ _ (s .pre .3) _ _ 0 0 (c .before .before .before .before .before .before .before .pick .ensures) (c .before .before .before .before .before .pick2 .ensures), omega arith, s .pre .5, s .pre .6)
-
-add-t42 : tie.Need-add-t42
-add-t42 c = let s = c .before .before .before .before .before .before .before .before .before .before .before .before .before .before .before .before .before .before .before .before .before .before .before .before .before .before .before .before .before in
-    let m = yard-room (s .pre .0) _ _ _ _ _ _ _ (s .pre .3) _ _ _ _ (c .before .before .before .before .before .before .before .before .before .before .before .before .pick .ensures) (c .before .before .before .before .before .before .before .before .before .before .pick2 .ensures) refl refl (c .before .before .before .before .before .before .before .if1 .taken) (omega (arith, c .before .before .before .before .before .before .before .before .before .slice-known9 .given (c .before .before .before .before .before .before .before .before .before .before .before .before .pick .result))) in
-    record { fits = omega arith }
+take-requires c κs =
+    let s = c .before .before .before .before .before .before .before .before .before .before .before .pre in
+    (s .0, s .1, λ road ready. region-queued ready _ _ _ _ (s .3) (s .2 road ready) _ (s .4) (c .before .before .if1 .taken))
 
 same-length : tie.Need-same-length
-same-length c = refl
-
-same-length-2 : tie.Need-same-length-2
-same-length-2 c = c .before .before .before .before .take .kept .1 .1 .1 .1 .1 .0
-
-same-length-3 : tie.Need-same-length-3
-same-length-3 c = c .before .before .before .before .take .kept .1 .1 .1 .1 .1 .1 .1 .0
+same-length c = search needs
 
 returns : tie.Need-returns
-returns c = let s = c .before .before .before .before .before .before .before .before .before .before .before .before .before .before .before .before .before .before .before .before .before .before .before .before .before .before .before .before .before in
-    let o = c .before .before .before .before .take .ensures in
-    (s .pre .2, (yard-is-taken (s .pre .0) _ _ _ _ _ _ _ (s .pre .3) _ _ _ _ (c .before .before .before .before .before .before .before .before .before .before .before .before .pick .ensures) (c .before .before .before .before .before .before .before .before .before .before .pick2 .ensures) refl refl (c .before .before .before .before .before .before .before .if1 .taken) (omega (arith, c .before .before .before .before .before .before .before .before .before .slice-known9 .given (c .before .before .before .before .before .before .before .before .before .before .before .before .pick .result))) _ _ _ (o .0) (o .1 .0) (o .1 .1 .0), o .1 .1 .1))
+returns c =
+    let s = c .before .before .before .before .before .before .before .before .before .before .before .before .before .before .pre in
+    let o = c .before .before .take .ensures in
+    (o .0, ((λ road ready. region-is-taken ready _ _ _ _ (s .3) (s .2 road ready) _ (s .4) (c .before .before .before .before .before .if1 .taken) _ (o .1 road ready)), (s .7, s .6)))
 
-cast-t43 : tie.Need-cast-t43
-cast-t43 c = let s = c .before .before .before .before .before .before .before .before .before .before .before .before .before .before .before .before .before .before .before .before .before .before in record { fits = omega (arith, region-small (s .pre .0) _ _ _ _ _ _ _ (s .pre .3) _ _ 0 0 (c .before .before .before .before .before .pick .ensures) (c .before .before .before .pick2 .ensures)) }
+mul-words : tie.Need-mul-words
+mul-words c = record { fits = omega (arith, picked (c .before .before .before .before .before .before .before .before .before .pre .0) (c .before .before .before .before .before .before .before .before .before .pre .3) (c .before .before .before .before .before .before .before .before .before .pre .4) .small) }
+
+slice-write-words : tie.Need-slice-write-words
+slice-write-words c = picked (c .before .before .before .before .before .before .before .before .before .pre .0) (c .before .before .before .before .before .before .before .before .before .pre .3) (c .before .before .before .before .before .before .before .before .before .pre .4) .inside
+
+cast-t26 : tie.Need-cast-t26
+cast-t26 c = record { fits = omega (arith, picked (c .before .before .before .before .before .before .before .before .before .pre .0) (c .before .before .before .before .before .before .before .before .before .pre .3) (c .before .before .before .before .before .before .before .before .before .pre .4) .small) }
 
 take-requires-2 : tie.Need-take-requires-2
-take-requires-2 c κs = let s = c .before .before .before .before .before .before .before .before .before .before .before .before .before .before .before .before .before .before .before .before .before .before .before .before .before .before .before .before .before in (s .pre .0, s .pre .1, s .pre .2, region-queued (s .pre .0) _ _ _ _ _ _ _ (s .pre .3) _ _ _ _ (c .before .before .before .before .before .before .before .before .before .before .before .before .pick .ensures) (c .before .before .before .before .before .before .before .before .before .before .pick2 .ensures) refl refl (c .before .before .before .before .before .before .before .if1 .left))
+take-requires-2 c κs =
+    let s = c .before .before .before .before .before .before .before .before .before .before .pre in (
+      yard-driven (s .0) _ (omega (arith, picked (s .0) (s .3) (s .4) .below, c .before .if1 .left)),
+      yard-room (s .0 .ready) _ _ _ _ (s .3) (s .2 (s .0 .road) (s .0 .ready)) _ (s .4) (c .before .if1 .left) (λ j. omega (arith, c .before .before .before .slice-known .given j)),
+      s .5,
+      s .7,
+      s .8,
+    )
 
-same-length-4 : tie.Need-same-length-4
-same-length-4 c = c .before .before .before .before .before .before .before .before .before .before .before .before .before .before .take2 .kept .1 .1 .1 .1 .1 .1 .1 .1 .1 .1 .0
+same-length-2 : tie.Need-same-length-2
+same-length-2 c = search needs
 
-same-length-5 : tie.Need-same-length-5
-same-length-5 c = c .before .before .before .before .before .before .before .before .before .before .before .before .before .before .take2 .kept .1 .1 .1 .1 .1 .1 .1 .1 .1 .1 .1 .0
-
-same-length-6 : tie.Need-same-length-6
-same-length-6 c = c .before .before .before .before .before .before .before .before .before .before .before .before .before .before .take2 .kept .1 .1 .1 .1 .1 .1 .1 .1 .1 .1 .1 .1 .0
-
-same-length-7 : tie.Need-same-length-7
-same-length-7 c = c .before .before .before .before .before .before .before .before .before .before .before .before .before .before .take2 .kept .1 .1 .1 .1 .1 .1 .1 .1 .1 .1 .1 .1 .1 .0
-
-same-length-8 : tie.Need-same-length-8
-same-length-8 c = c .before .before .before .before .before .before .before .before .before .before .before .before .before .before .take2 .kept .1 .1 .1 .1 .1 .1 .1 .1 .1 .1 .1 .1 .1 .1 .0
-
-same-length-9 : tie.Need-same-length-9
-same-length-9 c = c .before .before .before .before .before .before .before .before .before .before .before .before .before .before .take2 .kept .1 .1 .1 .1 .1 .1 .1 .1 .1 .1 .1 .1 .1 .1 .1 .0
-
-same-length-10 : tie.Need-same-length-10
-same-length-10 c = c .before .before .before .before .before .before .before .before .before .before .before .before .before .before .take2 .kept .1 .1 .1 .1 .1 .1 .1 .1 .1 .1 .1 .1 .1 .1 .1 .1 .0
+same-length-3 : tie.Need-same-length-3
+same-length-3 c = search needs
 
 returns-2 : tie.Need-returns-2
-returns-2 c = let s = c .before .before .before .before .before .before .before .before .before .before .before .before .before .before .before .before .before .before .before .before .before .before .before .before .before .before .before .before .before .before .before .before .before .before .before .before .before .before .before .before .before .before .before .before in
-    let t = c .before .before .before .before .before .before .before .before .before .before .before .before .before .before .take2 in
-    (t .ensures .0, (region-is-taken (s .pre .0) _ _ _ _ _ _ _ (s .pre .3) _ _ _ _ (c .before .before .before .before .before .before .before .before .before .before .before .before .before .before .before .before .before .before .before .before .before .before .before .before .before .before .before .pick .ensures) (c .before .before .before .before .before .before .before .before .before .before .before .before .before .before .before .before .before .before .before .before .before .before .before .before .before .pick2 .ensures) refl refl (c .before .before .before .before .before .before .before .before .before .before .before .before .before .before .before .before .before .before .before .before .before .before .if1 .left) (t .last .1 .1 .1 .1 .1 .1 .1 .1 .1 .1 .1 .1 .1 .0) (t .last .1 .1 .1 .1 .1 .1 .1 .1 .1 .1 .1 .1 .1 .1 .0) (t .last .1 .1 .1 .1 .1 .1 .1 .1 .1 .1 .1 .1 .1 .1 .1 .0) (t .last .1 .1 .1 .1 .1 .1 .1 .1 .1 .1 .1 .1 .1 .1 .1 .1 .0) (t .ensures .1), s .pre .5))
+returns-2 c =
+    let s = c .before .before .before .before .before .before .before .before .before .before .before .before .before .pre in
+    let h = c .before .before .before .before .if1 .left in
+    let o = c .before .before .take2 .ensures in (
+      λ road ready. yard-cached ready _ _ _ _ (s .3) (s .2 road ready) _ (s .4) h (λ j. omega (arith, c .before .before .before .before .before .before .slice-known .given j)),
+      (
+        λ road ready. yard-is-taken ready _ _ _ _ (s .3) (s .2 road ready) _ (s .4) h (λ j. omega (arith, c .before .before .before .before .before .before .slice-known .given j)) _ _ _ (o .0) (o .1 .0)
+            (o .1 .1 .0 road (driven-of _ _ _ _ _ _ _ _ ready) (near ready _ (picked (s .0) (s .3) (s .4) .below) h)),
+        (
+          o .1 .1 .1,
+          omega (arith, o .0, yard-room (s .0 .ready) _ _ _ _ (s .3) (s .2 (s .0 .road) (s .0 .ready)) _ (s .4) h (λ j. omega (arith, c .before .before .before .before .before .before .slice-known .given j))),
+        ),
+      ),
+    )
 
 pub step-spec : {M : Type 1} → statement M
 step-spec =
     tie.close
     (tie.spec
-    pick-requires
-    pick-requires-2
+    cast-t17
     mul-a
     slice-read-a
-    mul-b
-    slice-read-b
-    cast-t37
     take-requires
-    add-t42
     same-length
+    returns
+    mul-words
+    slice-write-words
+    cast-t26
+    take-requires-2
     same-length-2
     same-length-3
-    returns
-    cast-t43
-    take-requires-2
-    same-length-4
-    same-length-5
-    same-length-6
-    same-length-7
-    same-length-8
-    same-length-9
-    same-length-10
     returns-2)

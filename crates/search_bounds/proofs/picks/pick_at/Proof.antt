@@ -15,26 +15,26 @@ Inv-loop tree at sheet rows crews m best₀ p₀ j₀ best p j =
 abbrev μ-loop : tie.MeasureT-loop
 μ-loop tree at sheet rows crews m best₀ p₀ j₀ best p j = m - j
 
-u8-at-requires : tie.Need-u8-at-requires Inv-loop μ-loop
-u8-at-requires c κs = omega (arith, c .before .before .before .pre .0 .header)
+header-requires : tie.Need-header-requires Inv-loop μ-loop
+header-requires c κs = omega (arith, c .before .before .before .pre .0 .header)
 
 cast-m : tie.Need-cast-m Inv-loop μ-loop
 cast-m c = search needs
 
 mark-weight-requires : tie.Need-mark-weight-requires Inv-loop μ-loop
 mark-weight-requires c κs =
-    let s = c .before .before .before .before in
+    let s = c .before .before .before .before .before in
     (s .pre .0, omega (arith, s .pre .0 .landmarks .0), s .pre .1, s .pre .2)
 
 loop-holds : tie.Need-loop-holds Inv-loop μ-loop
 loop-holds c =
-    let s = c .before .before .before .before .before in
-    picked-first _ _ (omega (arith, count-read _ _ (s .pre .0) _ (c .before .u8-at .ensures), s .pre .0 .landmarks .0)) _ (c .mark-weight .ensures)
+    let s = c .before .before .before .before .before .before in
+    picked-first _ _ (omega (arith, count-read _ _ (c .before .before .header .ensures), s .pre .0 .landmarks .0)) _ (c .mark-weight .ensures)
 
 mark-weight-requires-2 : tie.Need-mark-weight-requires-2 Inv-loop μ-loop
 mark-weight-requires-2 c κs =
-    let s = c .before .before .before .before .before .before .before in
-    (s .pre .0, omega (arith, count-read _ _ (s .pre .0) _ (c .before .before .before .u8-at .ensures)), s .pre .1, s .pre .2)
+    let s = c .before .before .before .before .before .before .before .before in
+    (s .pre .0, omega (arith, count-read _ _ (c .before .before .before .before .header .ensures)), s .pre .1, s .pre .2)
 
 first-greater-requires : tie.Need-first-greater-requires Inv-loop μ-loop
 first-greater-requires c κs = search needs
@@ -55,8 +55,7 @@ loop-again c =
 
 returns : tie.Need-returns Inv-loop μ-loop
 returns c =
-    let s = c .before .before .before .before .before .before .before in
-    chosen-made _ _ _ _ _ _ (count-marks _ _ (s .pre .0) _ (c .before .before .before .u8-at .ensures))
+    chosen-made _ _ _ _ _ _ (count-marks _ _ (c .before .before .before .before .header .ensures) _)
     (picked-all _ _ _ _ _ (c .before .loop .inv) (c .loop-test .left))
 
 pub pick-at-spec : {M : Type 1} → statement M
@@ -65,7 +64,7 @@ pick-at-spec =
     (tie.spec
     Inv-loop
     μ-loop
-    u8-at-requires
+    header-requires
     cast-m
     mark-weight-requires
     loop-holds

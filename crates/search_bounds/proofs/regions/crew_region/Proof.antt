@@ -15,8 +15,8 @@ Inv-loop tree at sheet rows q m x₀ j₀ x j =
 abbrev μ-loop : tie.MeasureT-loop
 μ-loop tree at sheet rows q m x₀ j₀ x j = m - j
 
-u8-at-requires : tie.Need-u8-at-requires Inv-loop μ-loop
-u8-at-requires c κs = omega (arith, c .before .before .pre .0 .header)
+header-requires : tie.Need-header-requires Inv-loop μ-loop
+header-requires c κs = omega (arith, c .before .before .pre .0 .header)
 
 cast-m : tie.Need-cast-m Inv-loop μ-loop
 cast-m c = search needs
@@ -26,14 +26,14 @@ loop-holds c = greatest-start _ _
 
 landmark-requires : tie.Need-landmark-requires Inv-loop μ-loop
 landmark-requires c κs =
-    let s = c .before .before .before .before .before in
-    (s .pre .0, omega (arith, count-read _ _ (s .pre .0) _ (c .before .before .u8-at .ensures)))
+    let s = c .before .before .before .before .before .before in
+    (s .pre .0, omega (arith, count-read _ _ (c .before .before .before .header .ensures)))
 
 mark-bound-requires : tie.Need-mark-bound-requires Inv-loop μ-loop
 mark-bound-requires c κs =
     let w = c .before .before .before in
-    let s = w .before .before .before in
-    (s .pre .1, place-there _ _ (s .pre .0) _ (omega (arith, count-read _ _ (s .pre .0) _ (w .u8-at .ensures))) _ (c .landmark .ensures), s .pre .2)
+    let s = w .before .before .before .before in
+    (s .pre .1, place-there _ _ (s .pre .0) _ (omega (arith, count-read _ _ (w .before .header .ensures))) _ (c .landmark .ensures), s .pre .2)
 
 greater-requires : tie.Need-greater-requires Inv-loop μ-loop
 greater-requires c κs = search needs
@@ -46,16 +46,14 @@ loop-less c = search needs
 
 loop-again : tie.Need-loop-again Inv-loop μ-loop
 loop-again c =
-    let s = c .before .before .before .before .before .before .before .before in
     greatest-turn _ _ _ _ (c .before .before .before .before .loop .inv)
-    (omega (arith, count-marks _ _ (s .pre .0) _ (c .before .before .before .before .before .u8-at .ensures))) _ _
+    (omega (arith, count-marks _ _ (c .before .before .before .before .before .before .header .ensures) _)) _ _
     (mark-read _ _ _ _ _ _ (c .before .before .landmark .ensures) (c .before .mark-bound .ensures)) (c .greater .ensures)
 
 returns : tie.Need-returns Inv-loop μ-loop
 returns c =
-    let s = c .before .before .before .before .before in
     crew-made _ _ _ _ _
-    (greatest-all _ _ _ _ (c .before .loop .inv) (omega (arith, count-marks _ _ (s .pre .0) _ (c .before .before .u8-at .ensures))))
+    (greatest-all _ _ _ _ (c .before .loop .inv) (omega (arith, count-marks _ _ (c .before .before .before .header .ensures) _)))
 
 pub crew-region-spec : {M : Type 1} → statement M
 crew-region-spec =
@@ -63,7 +61,7 @@ crew-region-spec =
     (tie.spec
     Inv-loop
     μ-loop
-    u8-at-requires
+    header-requires
     cast-m
     loop-holds
     landmark-requires

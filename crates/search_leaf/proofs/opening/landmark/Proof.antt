@@ -1,53 +1,54 @@
 use mathlib.Core.Path.{refl}
-use native.Mathlib.Omega.{arith}
-use Rattle.search_leaf.proofs.Landmarks.{pick-small}
+use Rattle.search_leaf.proofs.Landmarks.{same-none, pick-room, open-already, record-here}
 use borrow.Author.Needs.{needs}
 use Rattle.search_leaf.proofs.opening.landmark.Statement.{statement}
 use Rattle.search_leaf.proofs.opening.landmark.Tie as tie
 
-cast-i : tie.Need-cast-i
-cast-i c = search needs
+header-requires : tie.Need-header-requires
+header-requires c κs =
+    let s = c .before .before .before .before .before .before in
+    let ready = s .pre .0 .ready in
+    record-here _ _ _ _ _ _ _ _ ready _ (s .pre .1 _ ready .isLeaf) _ refl .header
+
+pick-at-requires : tie.Need-pick-at-requires
+pick-at-requires c κs = search needs
+
+mul-p : tie.Need-mul-p
+mul-p c = search needs
 
 slice-read-p : tie.Need-slice-read-p
-slice-read-p c = search needs
-
-cast-result : tie.Need-cast-result
-cast-result c = let s = c .before .before .before .before .before .before .before .before .before .before .before .before in record { fits = omega (arith, pick-small _ _ _ _ _ _ _ _ _ (s .pre .0) _ (s .pre .2) _ refl _ _ _ (s .pre .1 .picked _ (s .pre .2 .inside) (s .pre .2 .is) (c .if1 .taken)) refl refl) }
+slice-read-p c =
+    let s = c .before .before .before .before .before .before .before .before .before in
+    let ready = s .pre .0 .ready in
+    pick-room _ _ _ _ _ _ _ _ ready _ _ (s .pre .1 _ ready) _ (c .before .before .header .ensures) _ (c .before .pick-at .ensures)
 
 returns : tie.Need-returns
 returns c =
-    let s = c .before .before .before .before .before .before .before .before .before .before .before .before in
-    record {
-      cached = s .pre .1;
-      pick = s .pre .1 .picked _ (s .pre .2 .inside) (s .pre .2 .is) (c .if1 .taken);
-      opened = s .pre .1 .opened _ (s .pre .2 .inside) (s .pre .2 .is) (c .if1 .taken);
-    }
+    let at-header = c .before .before .before in
+    let start = at-header .before .before .before .before .before .before .before in (
+      same-none _ _ _,
+      λ road z. open-already _ _ _ _ _ _ _ _ z _ _ (start .pre .1 road z) _ (at-header .header .ensures) _ (c .before .before .pick-at .ensures) _
+          refl (c .if1 .taken),
+    )
 
 open-requires : tie.Need-open-requires
-open-requires c κs = search needs
+open-requires c κs = let s = c .before .before .before .before .before .before .before .before .before .before .before in (s .pre .0, s .pre .1)
 
 same-length : tie.Need-same-length
 same-length c = search needs
 
-same-length-2 : tie.Need-same-length-2
-same-length-2 c = search needs
-
-same-length-3 : tie.Need-same-length-3
-same-length-3 c = search needs
-
 returns-2 : tie.Need-returns-2
-returns-2 c = search needs
+returns-2 c = c .before .before .open .ensures
 
 pub landmark-spec : {M : Type 1} → statement M
 landmark-spec =
     tie.close
     (tie.spec
-    cast-i
+    header-requires
+    pick-at-requires
+    mul-p
     slice-read-p
-    cast-result
     returns
     open-requires
     same-length
-    same-length-2
-    same-length-3
     returns-2)

@@ -4,7 +4,7 @@ use native.Mathlib.Omega.{arith}
 use borrow.Author.Needs.{needs}
 use lib.ListN.{length, drop}
 use Rattle.yard.specs.Yards.{yardsOf}
-use Rattle.yard.proofs.YardLayout.{layout, rising-yards, read-count}
+use Rattle.yard.proofs.YardLayout.{yards-length}
 use Rattle.tree_check.specs.Check.{has}
 use Rattle.tree_check.proofs.Knowing.{has-found, has-next, has-none}
 use Rattle.tree_check.proofs.yards.has_yard.Statement.{statement}
@@ -17,18 +17,18 @@ abbrev μ-loop : tie.MeasureT-loop
 μ-loop yard y n k₀ k = n - k
 
 -- the count is that of the yards
-count : (c : tie.At-loop Inv-loop μ-loop) → c .before .u16-at .result ≡ length (yardsOf (c .before .before .before .args .yard .now))
-count c = c .before .u16-at .ensures ∙ read-count _ ∙ sym (rising-yards _ (c .before .before .before .pre) .counted)
+counted : (c : tie.At-loop Inv-loop μ-loop) → c .before .count .result ≡ length (yardsOf (c .before .before .before .args .yard .now))
+counted c = c .before .count .ensures ∙ sym (yards-length _)
 
 -- in the loop a yard is left, and after it none
 left : (c : tie.In-loop Inv-loop μ-loop) → c .before .loop .k < length (yardsOf (c .before .before .before .before .args .yard .now))
-left c = omega (arith, c .loop-test .taken, count (c .before))
+left c = omega (arith, c .loop-test .taken, counted (c .before))
 
 done : (c : tie.After-loop Inv-loop μ-loop) → length (yardsOf (c .before .before .before .before .args .yard .now)) ≤ c .before .loop .k
-done c = omega (arith, c .loop-test .left, count (c .before))
+done c = omega (arith, c .loop-test .left, counted (c .before))
 
-u16-at-requires : tie.Need-u16-at-requires Inv-loop μ-loop
-u16-at-requires c κs = omega (arith, layout _ (c .before .pre) .sized, layout _ (c .before .pre) .least)
+count-requires : tie.Need-count-requires Inv-loop μ-loop
+count-requires c κs = search needs
 
 cast-n : tie.Need-cast-n Inv-loop μ-loop
 cast-n c = search needs
@@ -37,9 +37,7 @@ loop-holds : tie.Need-loop-holds Inv-loop μ-loop
 loop-holds c = (omega arith, refl)
 
 yard-at-requires : tie.Need-yard-at-requires Inv-loop μ-loop
-yard-at-requires c κs =
-    let s = c .before .before .before .before in
-    (s .pre, omega (arith, c .loop-test .taken, c .before .before .u16-at .ensures, read-count (s .args .yard .now)))
+yard-at-requires c κs = search needs
 
 returns : tie.Need-returns Inv-loop μ-loop
 returns c =
@@ -66,7 +64,7 @@ has-yard-spec =
     (tie.spec
     Inv-loop
     μ-loop
-    u16-at-requires
+    count-requires
     cast-n
     loop-holds
     yard-at-requires

@@ -1,0 +1,17 @@
+use borrow.Author.Needs.{needs}
+use borrow.Author.Tests.{eq-eqb, ne-eqb}
+use Rattle.build_cuts.proofs.stays.Statement.{statement}
+use Rattle.build_cuts.proofs.stays.Tie as tie
+
+returns : tie.Need-returns
+returns c = simp (eq-eqb _ _ (c .if1 .taken))
+
+returns-2 : tie.Need-returns-2
+returns-2 c = simp (ne-eqb _ _ (c .if1 .left))
+
+pub stays-spec : {M : Type 1} → statement M
+stays-spec =
+    tie.close
+    (tie.spec
+    returns
+    returns-2)

@@ -1,0 +1,10 @@
+pub mod Numbered
+pub mod Inserting
+pub mod Keyed
+pub mod Measuring
+pub mod Scanning
+pub mod Writing
+pub mod Turns
+pub mod Encoding
+pub mod Fields
+pub mod Records

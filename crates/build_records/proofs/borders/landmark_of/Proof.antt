@@ -1,0 +1,53 @@
+use borrow.Author.Needs.{needs}
+use mathlib.Core.Path.{refl}
+use native.Mathlib.Omega.{arith}
+use lib.ListN.{length}
+use Rattle.cut_tree.proofs.Landmarks.{share}
+use Rattle.build_records.proofs.Scanning.{landmark-from, landmark-at, product-small}
+use Rattle.build_records.proofs.borders.landmark_of.Statement.{statement}
+use Rattle.build_records.proofs.borders.landmark_of.Tie as tie
+
+mul-result : tie.Need-mul-result
+mul-result c = let p = c .before .pre in let a = c .before .args in omega (arith, product-small (a .j) (a .m) (a .s) (p .1) (p .2) (omega (arith, p .3)))
+
+div-result : tie.Need-div-result
+div-result c = search needs
+
+add-result : tie.Need-add-result
+add-result c = let p = c .before .pre in let a = c .before .args in omega (arith, share (a .j) (a .m) (a .s) (p .1) (p .4), p .3)
+
+cast-result : tie.Need-cast-result
+cast-result c = let p = c .before .pre in let a = c .before .args in omega (arith, share (a .j) (a .m) (a .s) (p .1) (p .4), p .3)
+
+returns : tie.Need-returns
+returns c = landmark-from _ _ _ _ _ _ (c .if1 .taken) refl
+
+mul-k : tie.Need-mul-k
+mul-k c = let p = c .before .pre in let a = c .before .args in omega (arith, product-small (a .j) (a .m) (length (a .list .now)) (p .1) (p .2) (p .0))
+
+div-k : tie.Need-div-k
+div-k c = search needs
+
+mul-result-2 : tie.Need-mul-result-2
+mul-result-2 c = let p = c .before .pre in let a = c .before .args in omega (arith, share (a .j) (a .m) (length (a .list .now)) (p .1) (omega (arith, c .if1 .left)), p .0)
+
+shared-slice-read-result : tie.Need-shared-slice-read-result
+shared-slice-read-result c = let p = c .before .before .pre in let a = c .before .before .args in omega (arith, share (a .j) (a .m) (length (a .list .now)) (p .1) (omega (arith, c .before .if1 .left)))
+
+returns-2 : tie.Need-returns-2
+returns-2 c = landmark-at _ _ _ _ _ _ (c .before .if1 .left) refl
+
+pub landmark-of-spec : {M : Type 1} → statement M
+landmark-of-spec =
+    tie.close
+    (tie.spec
+    mul-result
+    div-result
+    add-result
+    cast-result
+    returns
+    mul-k
+    div-k
+    mul-result-2
+    shared-slice-read-result
+    returns-2)

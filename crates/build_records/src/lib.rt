@@ -1,0 +1,105 @@
+// A region's record: its fields, then its landmarks, each with a leaf's list or an inner region's least and greatest.
+pub mod borders; // borders.rt: a range's border junctions and landmarks
+pub mod lists; // lists.rt: a leaf's list
+pub mod marks; // marks.rt: one landmark
+pub mod spans; // spans.rt: an inner region's least and greatest
+
+use tree_layout::Fields;
+ghost use mathlib.Core.Path.{_≡_};
+ghost use mathlib.Core.List.{List};
+ghost use Prim.Native.Nat.{ℕ, _+_, _*_, _-_, _≤_, _<_};
+ghost use lib.ListN.{length};
+ghost use Rattle.book.specs.Writing.{write};
+ghost use Rattle.road_layout.specs.Road.{roads};
+ghost use Rattle.adjacency.specs.Adjacency.{Adjacency};
+ghost use Rattle.yard.specs.Yards.{yardsFrom};
+ghost use Rattle.tree_layout.specs.Decode.{markSize, recordSize};
+ghost use Rattle.tree_encode.specs.Encode.{encodeRegion};
+ghost use Rattle.cut_tree.specs.Cut.{borders};
+ghost use Rattle.build_records.specs.Given.{given};
+ghost use Rattle.build_records.specs.Marks.{markBytes, landmarkBytes};
+ghost use Rattle.build_records.specs.Parts.{Ready, regionOf};
+
+// A range: its first junction, how many junctions it has, and the numbers of its yards, `from` up to `end`.
+pub struct Part {
+    pub start: usize,
+    pub size: usize,
+    pub from: usize,
+    pub end: usize,
+}
+
+// The bytes of one landmark of a region with so many children and yards.
+fn mark_size(children: u8, yards: usize) -> usize
+    requires { ⌜ yards ≤ 65535 ⌝ }
+    ensures { λ r. ⌜ r ≡ markSize children yards ⌝ }
+{
+    if children == 0 {
+        return tree_layout::records::leaf_mark(yards);
+    }
+    tree_layout::records::INNER_MARK
+}
+
+// Writes the m landmarks of a region, from the range's border junctions, and returns the place after them.
+fn put_marks(
+    adj: &[u16],
+    yb: &[u8],
+    list: &[u16],
+    p: Part,
+    m: usize,
+    children: u8,
+    tree: &mut [u8],
+    start: usize,
+) -> usize
+    requires { ⌜ Ready (now adj) (now yb) p
+        × ((road : List ℕ) → Adjacency road (now adj) → now list ≡ borders (roads road) (p .start) (p .size))
+        × (length (now list) ≤ 1024) × (m ≤ 4) × (0 < children → p .from < p .end)
+        × (start + m * markSize children (p .end - p .from) ≤ length (now tree)) ⌝ }
+    ensures place { λ r. ⌜ r ≡ start + m * markSize children (p .end - p .from) ⌝ }
+    ensures tree { λ _. ⌜ ((road : List ℕ) → Adjacency road (now (adj .entry)) → now (tree .exit) ≡ write (now (tree .entry)) start
+        (landmarkBytes (markBytes road (now (yb .entry)) (p .from) (p .end) children) m (p .start) (p .size)
+            (borders (roads road) (p .start) (p .size)) m 0)) ⌝ }
+{
+    let size = mark_size(children, p.end - p.from);
+    let mut at = start;
+    let mut j: usize = 0;
+    while j < m {
+        let l = borders::landmark_of(list, m, p.start, p.size, j);
+        marks::put_mark(adj, yb, p, children, l, tree, at);
+        at += size;
+        j += 1;
+    }
+    at
+}
+
+// Writes the record of a region over a range, with m landmarks and so many children, and returns the place after it. With no child it is a leaf.
+pub fn put_record(
+    adj: &[u16],
+    yb: &[u8],
+    p: Part,
+    m: usize,
+    children: u8,
+    tree: &mut [u8],
+    at: usize,
+) -> usize
+    requires { ⌜ Ready (now adj) (now yb) p × (m ≤ 4) × (0 < children → p .from < p .end)
+        × (at + recordSize m children (p .end - p .from) ≤ length (now tree)) ⌝ }
+    ensures place { λ r. ⌜ r ≡ at + recordSize m children (p .end - p .from) ⌝ }
+    ensures tree { λ _. ⌜ ((road : List ℕ) (limit : ℕ) → Adjacency road (now (adj .entry)) → now (tree .exit) ≡ write (now (tree .entry)) at
+        (encodeRegion (regionOf (given road m limit) (p .start) (p .size) children
+            (yardsFrom (now (yb .entry)) (p .end - p .from) (p .from))))) ⌝ }
+{
+    let mut list = [0u16; 1024];
+    let c = borders::border_list(adj, p.start, p.size, &mut list);
+    tree_encode::put_fields(
+        tree,
+        Fields {
+            at: at,
+            first: p.start as u16,
+            after: (p.start + p.size) as u16,
+            children: children,
+            yards: (p.end - p.from) as u16,
+        },
+    );
+    let start = tree_layout::records::marks_at(at);
+    put_marks(adj, yb, &list[..c], p, m, children, tree, start)
+}

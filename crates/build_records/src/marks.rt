@@ -1,0 +1,79 @@
+// A landmark of a region's record: its junction, and a leaf's list or an inner region's least and greatest.
+use crate::Part;
+use book::Junction;
+ghost use mathlib.Core.Path.{_≡_};
+ghost use mathlib.Core.List.{List};
+ghost use Prim.Native.Nat.{ℕ, _+_, _-_, _≤_, _<_};
+ghost use lib.ListN.{length};
+ghost use Rattle.book.specs.Writing.{write};
+ghost use Rattle.road_layout.specs.Road.{junctions};
+ghost use Rattle.adjacency.specs.Arcs.{net};
+ghost use Rattle.adjacency.specs.Adjacency.{countIn, Adjacency};
+ghost use Rattle.road.specs.Dijkstra.{distances};
+ghost use Rattle.tree_layout.specs.Sizes.{leafMarkSize, innerMarkSize};
+ghost use Rattle.tree_layout.specs.Decode.{markSize};
+ghost use Rattle.build_records.specs.Marks.{leafBytes, innerBytes, markBytes};
+ghost use Rattle.build_records.specs.Parts.{YardsUpTo, Ready};
+
+// Writes landmark l of a leaf that has the yards of number `from` up to `end`: its junction and its list, by the distances from l.
+fn put_leaf_mark(
+    row: &[u32],
+    yb: &[u8],
+    from: usize,
+    end: usize,
+    l: u16,
+    tree: &mut [u8],
+    at: usize,
+)
+    requires { ⌜ YardsUpTo (now yb) from end × (length (now row) ≡ 1024) × (at + leafMarkSize (end - from) ≤ length (now tree)) ⌝ }
+    ensures { λ _. ⌜ ((road : List ℕ) → now (row .entry) ≡ distances (net road) (junctions road) l
+        → now (tree .exit) ≡ write (now (tree .entry)) at (leafBytes road (now (yb .entry)) from end l)) ⌝ }
+{
+    let mut keys = [0u64; 256];
+    crate::lists::rank(row, yb, from, end, &mut keys);
+    tree_encode::put_leaf_mark_junction(tree, at, l);
+    let start = at + tree_layout::records::JUNCTION_SIZE;
+    crate::lists::put_list(tree, start, &keys, end - from);
+}
+
+// Writes landmark l of an inner region that has the yards of number `from` up to `end`: its junction, the least and the greatest distance from l.
+fn put_inner_mark(
+    row: &[u32],
+    yb: &[u8],
+    from: usize,
+    end: usize,
+    l: u16,
+    tree: &mut [u8],
+    at: usize,
+)
+    requires { ⌜ YardsUpTo (now yb) from end × (from < end) × (length (now row) ≡ 1024) × (at + innerMarkSize ≤ length (now tree)) ⌝ }
+    ensures { λ _. ⌜ ((road : List ℕ) → now (row .entry) ≡ distances (net road) (junctions road) l
+        → now (tree .exit) ≡ write (now (tree .entry)) at (innerBytes road (now (yb .entry)) from end l)) ⌝ }
+{
+    let span = crate::spans::measure(row, yb, from, end);
+    tree_encode::put_span(tree, at, l, span);
+}
+
+// Writes landmark l of a region with so many children over a range.
+pub fn put_mark(
+    adj: &[u16],
+    yb: &[u8],
+    p: Part,
+    children: u8,
+    l: u16,
+    tree: &mut [u8],
+    at: usize,
+)
+    requires { ⌜ Ready (now adj) (now yb) p × (0 < children → p .from < p .end) × (l < countIn (now adj))
+        × (at + markSize children (p .end - p .from) ≤ length (now tree)) ⌝ }
+    ensures { λ _. ⌜ ((road : List ℕ) → Adjacency road (now (adj .entry)) → now (tree .exit) ≡ write (now (tree .entry)) at
+        (markBytes road (now (yb .entry)) (p .from) (p .end) children l)) ⌝ }
+{
+    let mut row = [0u32; 1024];
+    road::walk::distances(adj, &mut row, Junction { number: l });
+    if children == 0 {
+        put_leaf_mark(&row, yb, p.from, p.end, l, tree, at);
+        return;
+    }
+    put_inner_mark(&row, yb, p.from, p.end, l, tree, at);
+}

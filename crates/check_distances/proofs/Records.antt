@@ -1,0 +1,118 @@
+-- A tree book's regions, one at a time, and their landmarks. Assumes nothing.
+use mathlib.Core.Path.{_≡_, refl, sym, ap, _∙_}
+use mathlib.Core.Bool.{Bool, true, false}
+use mathlib.Core.List.{List, List·Memᴰ as Mem}
+use Prim.Native.Nat.{ℕ, suc, _+_, _*_, _≤_, _<_}
+use native.Mathlib.Omega.{arith}
+use lib.ListN.{length, getD, drop}
+use Rattle.book.specs.Bytes.{u8At, u16At}
+use Rattle.book.proofs.Lists.{getD-mem}
+use Rattle.tree_layout.specs.Values.{Mark, Region, noMark, noRegion, regionAt}
+use Rattle.tree_layout.specs.Decode.{readRegion, sizeAt, markSize, junctionCount, regionCount, landmarkCount, placeOf, decode}
+use Rattle.tree_layout.specs.Facts.{TreeLayout}
+use Rattle.tree_layout.specs.Refusal.{all, layoutRefusal}
+use Rattle.tree_layout.specs.Reading.{headerOf}
+use Rattle.tree_layout.specs.Marks.{marksAt, markPlace, RecordAt}
+use Rattle.tree_layout.specs.declared.Header.{Header}
+use Rattle.tree_layout.proofs.Accepting.{layout-facts}
+use Rattle.tree_layout.proofs.Places.{region-at, decode-length, record-inside, place-after}
+use Rattle.tree_layout.proofs.Formed.{at-mem}
+use Rattle.tree_layout.proofs.Reading.{region-yards}
+use Rattle.tree_layout.proofs.RecordFields.{marks-count, place-is}
+use Rattle.tree_layout.proofs.MarkPlaces.{listMark, leaf-mark-at}
+use Rattle.check_distances.proofs.Turns.{all-goes, all-stops, all-ends}
+
+-- the header's counts that a loop over the regions reads
+pub header-counts : (b : List ℕ) (h : Header) → h ≡ headerOf b → (h .regions ≡ regionCount b) × (h .landmarks ≡ landmarkCount b)
+unfolding headerOf
+header-counts b h e = (ap (λ (x : Header). x .regions) e, ap (λ (x : Header). x .landmarks) e)
+
+-- ---- a record's landmarks
+
+module _ (b : List ℕ) (at : ℕ) where
+  pub marks-read : marksAt b at ≡ readRegion b (landmarkCount b) at .marks
+  unfolding marksAt
+  marks-read = refl
+
+  module _ (j : ℕ) (h : j < landmarkCount b) where
+    -- landmark j is one of them
+    pub mark-number : j < length (marksAt b at)
+    mark-number = omega (arith, marks-count b at)
+
+    pub mark-mem : Mem (getD (marksAt b at) j noMark) (marksAt b at)
+    mark-mem = getD-mem (marksAt b at) j noMark mark-number
+
+    -- it is the one that stands at its place, of a leaf
+    pub mark-listed : RecordAt b at → (p yards : ℕ) → p ≡ markPlace b at j → u8At b (at + 4) ≡ 0 → yards ≡ u16At b (at + 5)
+        → getD (marksAt b at) j noMark ≡ listMark b yards p
+    mark-listed r p yards e z y =
+        let s : p ≡ (at + 7) + j * markSize (u8At b (at + 4)) (u16At b (at + 5)) =
+        e ∙ sym (place-is b at r j h (markSize (u8At b (at + 4)) (u16At b (at + 5))) refl) in
+        rw (marks-read, y) (leaf-mark-at b (landmarkCount b) at j p noMark h s z)
+
+-- a test of every landmark, with none left
+pub marks-done : (b : List ℕ) (at m : ℕ) (f : Mark → Bool) (j : ℕ) → m ≡ landmarkCount b → m ≤ j → all f (drop j (marksAt b at)) ≡ true
+marks-done b at m f j e h = all-ends f (marksAt b at) j (omega (arith, marks-count b at))
+
+-- ---- region k of a book of sound layout, whose record stands at a place
+
+module _ (b : List ℕ) (ok : layoutRefusal b ≡ 0) (k : ℕ) (h : k < regionCount b) (at : ℕ) (place : at ≡ placeOf b k) where
+  layout : TreeLayout b
+  layout = layout-facts b ok
+
+  number : k < length (decode b .regions)
+  number = omega (arith, decode-length b)
+
+  pub region-here : regionAt (decode b .regions) k ≡ readRegion b (landmarkCount b) at
+  region-here = rw place (region-at b k h)
+
+  pub region-mem : Mem (regionAt (decode b .regions) k) (decode b .regions)
+  region-mem = at-mem (decode b .regions) k number
+
+  marks-here : marksAt b at ≡ regionAt (decode b .regions) k .marks
+  marks-here = marks-read b at ∙ ap (λ (r : Region). r .marks) (sym region-here)
+
+  yards-here : u16At b (at + 5) ≡ regionAt (decode b .regions) k .yards
+  yards-here = sym (region-yards b (landmarkCount b) at) ∙ ap (λ (r : Region). r .yards) (sym region-here)
+
+  -- its landmarks are junctions
+  pub record-placed : (m : Mark) → Mem m (marksAt b at) → m .place < junctionCount b
+  record-placed m j =
+      let v = layout .values (regionAt (decode b .regions) k) region-mem in
+      omega (arith, v .placed m (rw marks-here at j) .1, v .within)
+
+  pub record-whole : at + sizeAt b (landmarkCount b) at ≤ length b
+  record-whole = rw place (record-inside b (layout .filled) k h)
+
+  pub record-here : RecordAt b at
+  record-here = record {
+    header = omega (arith, layout .opens .headed);
+    inside = record-whole;
+    landmarks = layout .landmarks;
+    some = omega (arith, yards-here, layout .values (regionAt (decode b .regions) k) region-mem .some);
+    placed = λ m j. omega (arith, record-placed m j, layout .junctions .1);
+  }
+
+  pub record-end : (m size : ℕ) → m ≡ landmarkCount b → size ≡ sizeAt b m at → at + size ≤ length b
+  record-end m size em e = rw (e, em) record-whole
+
+  -- the next one stands after it
+  pub record-next : (m size : ℕ) → m ≡ landmarkCount b → size ≡ sizeAt b m at → at + size ≡ placeOf b (k + 1)
+  record-next m size em e =
+      let s : k + 1 ≡ suc k = omega arith in
+      rw (e, em, s, place) (sym (place-after b k))
+
+  -- a test of every region, with k of them done
+  module _ (f : Region → Bool) (m : ℕ) (em : m ≡ landmarkCount b) (r : Bool) (e : r ≡ f (readRegion b m at)) where
+    answer : f (getD (decode b .regions) k noRegion) ≡ r
+    unfolding regionAt
+    answer = sym (e ∙ rw em (ap f (sym region-here)))
+
+    pub regions-on : r ≡ true → all f (drop (k + 1) (decode b .regions)) ≡ all f (drop k (decode b .regions))
+    regions-on t = all-goes f (decode b .regions) noRegion k number (answer ∙ t)
+
+    pub regions-off : r ≡ false → all f (drop k (decode b .regions)) ≡ false
+    regions-off t = all-stops f (decode b .regions) noRegion k number (answer ∙ t)
+
+pub regions-done : (b : List ℕ) (f : Region → Bool) (k : ℕ) → regionCount b ≤ k → all f (drop k (decode b .regions)) ≡ true
+regions-done b f k h = all-ends f (decode b .regions) k (omega (arith, decode-length b))

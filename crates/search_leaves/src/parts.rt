@@ -1,0 +1,48 @@
+// Where a search's words stand.
+use tree_layout::Header;
+use tree_layout::Region;
+ghost use mathlib.Core.Path.{_≡_};
+ghost use Prim.Native.Nat.{ℕ, _+_};
+ghost use Rattle.search_state.specs.State.{yardKeysAt, firstsAt, picksAt, fsAt, boundsAt, goneAt};
+
+// Yard y's key.
+pub fn key_at(h: Header, y: u16) -> usize
+    ensures { λ r. ⌜ r ≡ yardKeysAt (h .regions) (h .junctions) + y ⌝ }
+{
+    h.regions as usize + y as usize
+}
+
+// Region r's first key.
+pub fn first_at(h: Header, r: Region) -> usize
+    ensures { λ x. ⌜ x ≡ firstsAt (h .regions) (h .junctions) + r .number ⌝ }
+{
+    h.regions as usize + h.junctions as usize + r.number as usize
+}
+
+// The landmark that leaf r picked.
+pub fn pick_at(h: Header, r: Region) -> usize
+    ensures { λ x. ⌜ x ≡ picksAt (h .regions) (h .junctions) + r .number ⌝ }
+{
+    2 * (h.regions as usize) + h.junctions as usize + r.number as usize
+}
+
+// Yard y's f.
+pub fn f_at(h: Header, y: u16) -> usize
+    ensures { λ r. ⌜ r ≡ fsAt (h .regions) (h .junctions) + y ⌝ }
+{
+    3 * (h.regions as usize) + h.junctions as usize + y as usize
+}
+
+// Yard y's bound.
+pub fn bound_at(h: Header, y: u16) -> usize
+    ensures { λ r. ⌜ r ≡ boundsAt (h .regions) (h .junctions) + y ⌝ }
+{
+    3 * (h.regions as usize) + 2 * (h.junctions as usize) + y as usize
+}
+
+// Whether yard y has left.
+pub fn gone_at(h: Header, y: u16) -> usize
+    ensures { λ r. ⌜ r ≡ goneAt (h .regions) (h .junctions) + y ⌝ }
+{
+    3 * (h.regions as usize) + 3 * (h.junctions as usize) + y as usize
+}

@@ -1,0 +1,127 @@
+-- A region that is taken, by the words and by the definition. Assumes nothing.
+use mathlib.Core.Path.{_≡_, refl, sym, ap, _∙_}
+use mathlib.Core.Bool.{Bool, not}
+use mathlib.Core.List.{List}
+use Prim.Native.Nat.{ℕ, _<_, max}
+use native.Mathlib.Omega.{arith}
+use lib.ListN.{length, set}
+use lib.Dec.{T, eqb}
+use Rattle.book.proofs.Lists.{eq→eqb, ne→neqb}
+use Rattle.tree_layout.specs.Values.{regionAt}
+use Rattle.tree_layout.specs.Decode.{decode, junctionCount, landmarkCount}
+use Rattle.tree_layout.proofs.Places.{decode-junctions}
+use Rattle.tree.specs.Arrays.{fieldsOf}
+use Rattle.tree.specs.declared.Fields.{Fields}
+use Rattle.tree.specs.Yards.{childrenOf}
+use Rattle.tree.proofs.Recursing.{children-is}
+use Rattle.search_rules.specs.Instance.{Instance, size, children, leaf}
+use Rattle.search_rules.specs.Books.{searchOf}
+use Rattle.search_rules.specs.Bounds.{bound}
+use Rattle.search_rules.specs.Queue.{unqueued}
+use Rattle.search_rules.specs.Step.{State, queueChildren, openInner, openLeaf, takeRegion}
+use Rattle.search_rules.proofs.Equations.{search-of}
+use Rattle.search_rules.proofs.Steps.{leaf-is, take-leaf, take-inner, open-inner-is}
+use Rattle.search_rules.proofs.Steps.{children-is as children-of}
+use Rattle.search_bounds.specs.Bounds.{rowsBound}
+use Rattle.search_bounds.proofs.Searching.{bound-of}
+use Rattle.search_held.specs.declared.Held.{Held}
+use Rattle.search_state.specs.State.{wordCount, regionKeysIn, yardKeysIn, firstsIn, picksIn, fsIn, boundsIn, goneIn, stateOf}
+use Rattle.search_state.proofs.Cells.{Parts, parts-of, store-key, state-by, counts-of}
+use Rattle.search_inner.specs.Children.{keyOf, putKeys, Slots}
+use Rattle.search_inner.proofs.Queueing.{key-of, put-parts}
+use Rattle.search_leaf.specs.Ready.{Ready, Cached, Leafed}
+use Rattle.search_leaf.proofs.Landmarks.{well, size-of}
+use Rattle.search_step.specs.Regions.{Queued}
+
+-- what is kept of the leaves, where no part that keeps it has changed
+pub cached-by : {i : Instance} {r n : ℕ} {words keys yards firsts picks fs bounds : List ℕ} {gone : List Bool} → Parts r n words keys yards firsts picks fs bounds gone
+    → Cached i picks fs bounds → Cached i (picksIn r n words) (fsIn r n words) (boundsIn r n words)
+cached-by p c = rw (p .picks-are, p .fs-are, p .bounds-are) c
+
+module _ {road tree : List ℕ} {code wanted : ℕ} {crews drives places sheet : List ℕ} (ready : Ready road tree code wanted crews drives places sheet) where
+  abbrev i : Instance
+  i = searchOf road tree code wanted crews
+
+  -- how many regions and junctions there are
+  pub regions-of : size i ≡ length places
+  regions-of = size-of road tree code wanted crews drives places sheet ready ∙ sym (ready .laid .count)
+
+  pub junctions-are : i .tree .junctions ≡ junctionCount tree
+  junctions-are = ap (λ (z : Instance). z .tree .junctions) (search-of road tree code wanted crews) ∙ decode-junctions tree
+
+  module _ (v : ℕ) where
+    children-at : children i v ≡ childrenOf (decode tree .regions) v
+    children-at = children-of i v ∙ ap (λ (z : Instance). childrenOf (z .tree .regions) v) (search-of road tree code wanted crews)
+
+    leaf-test : leaf i v ≡ eqb (regionAt (decode tree .regions) v .children) 0
+    leaf-test = leaf-is i v ∙ ap (λ (z : Instance). eqb (regionAt (z .tree .regions) v .children) 0) (search-of road tree code wanted crews)
+
+    module _ (f : Fields) (e : f ≡ fieldsOf tree v) where
+      pub leaf-yes : f .children ≡ 0 → T (leaf i v)
+      leaf-yes z = rw leaf-test (eq→eqb (regionAt (decode tree .regions) v .children) 0 (children-is tree v f e ∙ z))
+
+      pub leaf-no : (f .children ≡ 0 → ⊥) → T (not (leaf i v))
+      leaf-no z = rw leaf-test (ne→neqb (regionAt (decode tree .regions) v .children) 0 (λ q. z (sym (children-is tree v f e) ∙ q)))
+
+    module _ (words : List ℕ) (q : Queued i (length places) (junctionCount tree) words v) where
+      abbrev r : ℕ
+      r = length places
+
+      abbrev n : ℕ
+      n = junctionCount tree
+
+      pub region-slot : v < length places
+      region-slot = omega (arith, q .inside, regions-of)
+
+      -- a leaf
+      pub leaf-ready : T (leaf i v) → Leafed i r n words v
+      leaf-ready t = let k = counts-of r n words (q .count) in record {
+        count = q .count;
+        cached = q .cached;
+        isLeaf = record { inside = q .inside; is = t };
+        waiting = record {
+          keys-count = k .keys ∙ sym regions-of;
+          firsts-count = k .firsts ∙ sym regions-of;
+          yards-count = k .yards ∙ sym junctions-are;
+          gone-count = k .gone ∙ sym junctions-are;
+          waits = q .waits t;
+        };
+      }
+
+      pub leaf-is-taken : T (leaf i v) → (a : ℕ) (st out : State) → out ≡ openLeaf i st v → out ≡ takeRegion i st v a
+      leaf-is-taken t a st out p = p ∙ sym (take-leaf i st v a t)
+
+      -- an inner region
+      pub inner-slots : Slots tree r n words v
+      inner-slots = record {
+        count = q .count;
+        self = region-slot;
+        children = λ c k. omega (
+          arith,
+          well road tree code wanted crews drives places sheet ready .shape .range v c (rw children-at k),
+          regions-of,
+        );
+      }
+
+      module _ (a : ℕ) (words′ : List ℕ)
+          (e : words′ ≡ putKeys (keyOf tree sheet (landmarkCount tree) code crews a) r n (childrenOf (decode tree .regions) v) (set words v unqueued)) where
+        child-key : (c : ℕ) → keyOf tree sheet (landmarkCount tree) code crews a c ≡ max (bound i c) a
+        child-key c =
+            let x : ℕ = rowsBound sheet (landmarkCount tree) code crews (regionAt (decode tree .regions) c .marks) in
+            sym (key-of tree sheet (landmarkCount tree) code crews a c x (max x a) refl refl) ∙ ap (λ (w : ℕ). max w a) (bound-of road tree code wanted crews
+            (ready .passed) (landmarkCount tree) sheet (ready .sheeted) c x refl)
+
+        inner-parts : Parts r n words′ (queueChildren i a (children i v) (set (regionKeysIn r n words) v unqueued)) (yardKeysIn r n words)
+            (queueChildren i a (children i v) (firstsIn r n words)) (picksIn r n words) (fsIn r n words) (boundsIn r n words) (goneIn r n words)
+        inner-parts = rw (e, children-at) (put-parts i a (keyOf tree sheet (landmarkCount tree) code crews a) r n (childrenOf (decode tree .regions) v) child-key
+            (inner-slots .children) (store-key (parts-of r n words) v unqueued v refl region-slot))
+
+        pub inner-cached : Cached i (picksIn r n words′) (fsIn r n words′) (boundsIn r n words′)
+        inner-cached = cached-by inner-parts (q .cached)
+
+        pub inner-is-taken : T (not (leaf i v)) → (held : Held) (measured : List ℕ) (count : ℕ)
+            → stateOf r n words′ held measured count ≡ takeRegion i (stateOf r n words held measured count) v a
+        inner-is-taken t held measured count =
+            state-by inner-parts held measured count
+            ∙ sym (take-inner i (stateOf r n words held measured count) v a t
+            ∙ (ap (λ (s : State). openInner i s v a) (state-by (parts-of r n words) held measured count) ∙ open-inner-is i _ v a))

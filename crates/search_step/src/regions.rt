@@ -1,0 +1,66 @@
+// A region is taken: a leaf queues its next yard and itself, an inner region its children.
+use query::Query;
+use tree_layout::Region;
+ghost use mathlib.Core.Path.{_≡_};
+ghost use mathlib.Core.List.{List};
+ghost use Prim.Native.Nat.{ℕ};
+ghost use lib.ListN.{length};
+ghost use Rattle.tree_layout.specs.Decode.{junctionCount};
+ghost use Rattle.search_rules.specs.Books.{searchOf};
+ghost use Rattle.search_rules.specs.Step.{takeRegion};
+ghost use Rattle.search_held.specs.declared.Held.{Held};
+ghost use Rattle.search_state.specs.State.{picksIn, fsIn, boundsIn, stateOf};
+ghost use Rattle.search_inner.specs.Children.{Ended};
+ghost use Rattle.search_leaf.specs.Ready.{Ready, Readied, Cached};
+ghost use Rattle.search_step.specs.Regions.{Queued};
+
+// Takes region r, whose key is a.
+pub fn take(
+    tree: &[u8],
+    places: &[usize],
+    ends: &[usize],
+    sheet: &[u32],
+    drives: &[u32],
+    crews: &[u16],
+    asked: Query,
+    words: &mut [u64],
+    r: Region,
+    a: u64,
+)
+    requires { ⌜ Readied (now tree) (asked .aggregate) (asked .wanted) (now crews) (now drives) (now places) (now sheet)
+        × Ended (now tree) (now ends)
+        × ((road : List ℕ) → Ready road (now tree) (asked .aggregate) (asked .wanted) (now crews) (now drives) (now places) (now sheet)
+        → Queued (searchOf road (now tree) (asked .aggregate) (asked .wanted) (now crews))
+        (length (now places)) (junctionCount (now tree)) (now words) (r .number)) ⌝ }
+    ensures cached { λ _. ⌜ ((road : List ℕ)
+        → Ready road (now (tree .entry)) (asked .aggregate) (asked .wanted)
+        (now (crews .entry)) (now (drives .entry)) (now (places .entry)) (now (sheet .entry))
+        → Cached (searchOf road (now (tree .entry)) (asked .aggregate) (asked .wanted) (now (crews .entry)))
+        (picksIn (length (now (places .entry))) (junctionCount (now (tree .entry))) (now (words .exit)))
+        (fsIn (length (now (places .entry))) (junctionCount (now (tree .entry))) (now (words .exit)))
+        (boundsIn (length (now (places .entry))) (junctionCount (now (tree .entry))) (now (words .exit)))) ⌝ }
+    ensures state { λ _. ⌜ ((road : List ℕ)
+        → Ready road (now (tree .entry)) (asked .aggregate) (asked .wanted)
+        (now (crews .entry)) (now (drives .entry)) (now (places .entry)) (now (sheet .entry))
+        → (held : Held) (measured : List ℕ) (count : ℕ)
+        → stateOf (length (now (places .entry))) (junctionCount (now (tree .entry))) (now (words .exit)) held measured count
+        ≡ takeRegion (searchOf road (now (tree .entry)) (asked .aggregate) (asked .wanted) (now (crews .entry)))
+        (stateOf (length (now (places .entry))) (junctionCount (now (tree .entry))) (now (words .entry)) held measured count) (r .number) a) ⌝ }
+{
+    let f = tree::regions::fields(tree, places, r);
+    if f.children == 0 {
+        search_leaf::take(tree, places, sheet, drives, crews, asked, words, r);
+        return;
+    }
+    search_inner::open_inner(
+        tree,
+        places,
+        ends,
+        sheet,
+        crews,
+        asked.aggregate,
+        words,
+        r,
+        a,
+    );
+}

@@ -1,3 +1,0 @@
-pub mod Inserting
-pub mod Keyed
-pub mod Measuring
