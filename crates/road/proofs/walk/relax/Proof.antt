@@ -36,7 +36,10 @@ cost-requires : tie.Need-cost-requires Inv-loop μ-loop
 cost-requires c κs = (c .before .before .before .before .before .before .before .pre .0 .adjacent .size, facts (c .before) .some, facts (c .before) .few)
 
 next-requires : tie.Need-next-requires Inv-loop μ-loop
-next-requires c κs = (c .before .before .before .before .before .before .before .before .pre .0 .adjacent .size, facts (c .before .before) .some, facts (c .before .before) .few)
+next-requires c κs =
+    let i = c .before .before .before .before .before .before .before .before .pre .0 in
+    let f = facts (c .before .before) in
+    (i .adjacent .size, f .some, f .few)
 
 cast-shorten : tie.Need-cast-shorten Inv-loop μ-loop
 cast-shorten c = search needs
@@ -49,17 +52,21 @@ shorten-requires c κs =
     let l = c .before .before .before .before .before .before in
     let i = l .before .before .before .before .before .pre .0 in
     let ch = l .loop .inv (i .book) (i .adjacent) in
-    (ch .distances, ch .words, omega (arith, facts (c .before .before .before .before .before) .inside, c .before .before .before .before .to .ensures), ch .above)
+    let f = facts (c .before .before .before .before .before) in
+    (ch .distances, ch .words, omega (arith, f .inside, c .before .before .before .before .to .ensures), ch .above)
 
 loop-less : tie.Need-loop-less Inv-loop μ-loop
-loop-less c = omega (arith, facts (c .before .before .before .before .before .before .before .before .before .before) .falls, c .before .before .before .before .before .before .before .next .ensures)
+loop-less c =
+    let f = facts (c .before .before .before .before .before .before .before .before .before .before) in
+    omega (arith, f .falls, c .before .before .before .before .before .before .before .next .ensures)
 
 loop-again : tie.Need-loop-again Inv-loop μ-loop
 loop-again c =
     let n = c .before .before .before .before .before .before .before in
     let l = c .before .before .before .before .before .before .before .before .before .before .before in
-    λ b ad. chain-goes-on _ _ _ _ _ _ _ (l .loop .inv b ad) (c .before .before .before .before .before .before .before .before .before .before .loop-test .taken) _ _ _ _
-    (n .before .before .to .ensures) (n .before .cost .ensures) (n .next .ensures) (c .before .before .before .before .shorten .ensures)
+    let t = c .before .before .before .before .before .before .before .before .before .before .loop-test .taken in
+    let s = c .before .before .before .before .shorten .ensures in
+    λ b ad. chain-goes-on _ _ _ _ _ _ _ (l .loop .inv b ad) t _ _ _ _ (n .before .before .to .ensures) (n .before .cost .ensures) (n .next .ensures) s
 
 same-length : tie.Need-same-length Inv-loop μ-loop
 same-length c =
