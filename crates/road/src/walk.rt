@@ -54,8 +54,8 @@ fn relax(adj: &[u16], row: &mut [u32], queue: &mut [u64], u: u16, d: u32)
     while a != 0 {
         let v = adjacency::to(adj, a);
         let s = adjacency::cost(adj, a);
-        shorten(row, queue, v, d + s as u32);
         a = adjacency::next(adj, a);
+        shorten(row, queue, v, d + s as u32);
     }
 }
 

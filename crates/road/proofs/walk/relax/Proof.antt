@@ -35,31 +35,38 @@ to-requires c κs = (c .before .before .before .before .before .before .pre .0 .
 cost-requires : tie.Need-cost-requires Inv-loop μ-loop
 cost-requires c κs = (c .before .before .before .before .before .before .before .pre .0 .adjacent .size, facts (c .before) .some, facts (c .before) .few)
 
+next-requires : tie.Need-next-requires Inv-loop μ-loop
+next-requires c κs =
+    let i = c .before .before .before .before .before .before .before .before .pre .0 in
+    let f = facts (c .before .before) in
+    (i .adjacent .size, f .some, f .few)
+
 cast-shorten : tie.Need-cast-shorten Inv-loop μ-loop
 cast-shorten c = search needs
 
 add-shorten : tie.Need-add-shorten Inv-loop μ-loop
-add-shorten c = omega (arith, facts (c .before .before .before .before) .cheap, c .before .before .cost .ensures)
+add-shorten c = omega (arith, facts (c .before .before .before .before .before) .cheap, c .before .before .before .cost .ensures)
 
 shorten-requires : tie.Need-shorten-requires Inv-loop μ-loop
 shorten-requires c κs =
-    let far = c .before .before .before .before .before .before .before .before in
-    let ch = c .before .before .before .before .before .loop .inv (far .before .before .pre .0 .book) (far .before .before .pre .0 .adjacent) in
-    (ch .distances, ch .words, omega (arith, facts (c .before .before .before .before) .inside, c .before .before .before .to .ensures), ch .above)
-
-next-requires : tie.Need-next-requires Inv-loop μ-loop
-next-requires c κs =
-    let far = c .before .before .before .before .before .before .before .before in
-    (far .before .before .before .before .before .before .before .pre .0 .adjacent .size, facts (far .before) .some, facts (far .before) .few)
+    let l = c .before .before .before .before .before .before in
+    let i = l .before .before .before .before .before .pre .0 in
+    let ch = l .loop .inv (i .book) (i .adjacent) in
+    let f = facts (c .before .before .before .before .before) in
+    (ch .distances, ch .words, omega (arith, f .inside, c .before .before .before .before .to .ensures), ch .above)
 
 loop-less : tie.Need-loop-less Inv-loop μ-loop
-loop-less c = omega (arith, facts (c .before .before .before .before .before .before .before .before .before .before) .falls, c .next .ensures)
+loop-less c =
+    let f = facts (c .before .before .before .before .before .before .before .before .before .before) in
+    omega (arith, f .falls, c .before .before .before .before .before .before .before .next .ensures)
 
 loop-again : tie.Need-loop-again Inv-loop μ-loop
 loop-again c =
-    let far = c .before .before .before .before .before .before .before .before in
-    λ b ad. chain-goes-on _ _ _ _ _ _ _ (far .before .before .before .loop .inv b ad) (far .before .before .loop-test .taken) _ _ _ _
-    (far .before .to .ensures) (far .cost .ensures) (c .next .ensures) (c .before .before .before .before .before .shorten .ensures)
+    let n = c .before .before .before .before .before .before .before in
+    let l = c .before .before .before .before .before .before .before .before .before .before .before in
+    let t = c .before .before .before .before .before .before .before .before .before .before .loop-test .taken in
+    let s = c .before .before .before .before .shorten .ensures in
+    λ b ad. chain-goes-on _ _ _ _ _ _ _ (l .loop .inv b ad) t _ _ _ _ (n .before .before .to .ensures) (n .before .cost .ensures) (n .next .ensures) s
 
 same-length : tie.Need-same-length Inv-loop μ-loop
 same-length c =
@@ -84,10 +91,10 @@ relax-spec =
     loop-holds
     to-requires
     cost-requires
+    next-requires
     cast-shorten
     add-shorten
     shorten-requires
-    next-requires
     loop-less
     loop-again
     same-length
