@@ -10,7 +10,7 @@ use Rattle.examples.specs.Books.{asking, onN, onOne, onThree, row, settl
 
 -- crews whose distance from a landmark is their own number
 unfoldable pub valued : List ℕ → Instance
-valued crews = record { code = 0; wanted = 1; crews = crews; tree = record { junctions = 0; yards = 0; landmarks = 0; regions = [] }; d = λ l q. q }
+valued crews = record { code = 0; k = 1; crews = crews; tree = record { junctions = 0; yards = 0; landmarks = 0; regions = [] }; d = λ l q. q }
 
 -- a list's element at a distance
 unfoldable pub listAt : ℕ → Element

@@ -78,18 +78,18 @@ module _ (tree : List ℕ) (layout : TreeLayout tree) where
 
 -- ---- a search's sheet
 
-module _ (road tree : List ℕ) (layout : TreeLayout tree) (code wanted : ℕ) (crews : List ℕ) where
+module _ (road tree : List ℕ) (layout : TreeLayout tree) (code goal : ℕ) (crews : List ℕ) where
   abbrev i : Instance
-  i = searchOf road tree code wanted crews
+  i = searchOf road tree code goal crews
 
   root-marks : marksAt tree 12 ≡ marks i 0
-  root-marks = layout-marks tree layout 0 (layout .regions .0) 12 (sym (place-first tree)) ∙ sym (marks-book road tree code wanted crews 0)
+  root-marks = layout-marks tree layout 0 (layout .regions .0) 12 (sym (place-first tree)) ∙ sym (marks-book road tree code goal crews 0)
 
   distance-is : (k : Mark) (v : ℕ) → dist road (k .place) v ≡ sheetAt i k v
-  distance-is k v = ap (λ (x : Instance). x .d (k .place) v) (sym (search-of road tree code wanted crews)) ∙ sym (sheet-at i k v)
+  distance-is k v = ap (λ (x : Instance). x .d (k .place) v) (sym (search-of road tree code goal crews)) ∙ sym (sheet-at i k v)
 
   junctions-are : i .tree .junctions ≡ junctionCount tree
-  junctions-are = ap (λ (x : Instance). x .tree .junctions) (search-of road tree code wanted crews) ∙ decode-junctions tree
+  junctions-are = ap (λ (x : Instance). x .tree .junctions) (search-of road tree code goal crews) ∙ decode-junctions tree
 
   -- "The sheet holds d from the root's landmarks r to every junction."
   pub sheet-filled : (sheet : List ℕ) → length sheet ≡ sheetWords → Rowed road (rootPlaces tree) sheet → Sheet i (landmarkCount tree) sheet

@@ -29,18 +29,18 @@ same-chosen : (sheet : List ℕ) (rows : ℕ) (crews crews′ : List ℕ) (ks ks
     → rowsChosen sheet rows crews ks ≡ rowsChosen sheet rows crews′ ks′
 same-chosen sheet rows crews crews′ ks ks′ e f = rw (e, f) refl
 
-module _ (road tree : List ℕ) (code wanted : ℕ) (crews : List ℕ) where
+module _ (road tree : List ℕ) (code goal : ℕ) (crews : List ℕ) where
   abbrev i : Instance
-  i = searchOf road tree code wanted crews
+  i = searchOf road tree code goal crews
 
   code-is : i .code ≡ code
-  code-is = ap (λ (x : Instance). x .code) (search-of road tree code wanted crews)
+  code-is = ap (λ (x : Instance). x .code) (search-of road tree code goal crews)
 
   crews-is : i .crews ≡ crews
-  crews-is = ap (λ (x : Instance). x .crews) (search-of road tree code wanted crews)
+  crews-is = ap (λ (x : Instance). x .crews) (search-of road tree code goal crews)
 
   tree-is : i .tree ≡ decode tree
-  tree-is = ap (λ (x : Instance). x .tree) (search-of road tree code wanted crews)
+  tree-is = ap (λ (x : Instance). x .tree) (search-of road tree code goal crews)
 
   -- a region's landmarks, as they stand in the book
   pub marks-book : (r : ℕ) → marks i r ≡ regionAt (decode tree .regions) r .marks
@@ -50,11 +50,11 @@ module _ (road tree : List ℕ) (code wanted : ℕ) (crews : List ℕ) where
     -- the crews have their places in the sheet's rows
     pub crews-of : Crews crews
     crews-of =
-        let a = accepted-of road tree code wanted crews p .few-junctions in
-        record { few = p .few; there = λ q k. omega (arith, p .there q k, count road tree code wanted crews p, a, ap (λ t. t .junctions) tree-is) }
+        let a = accepted-of road tree code goal crews p .few-junctions in
+        record { few = p .few; there = λ q k. omega (arith, p .there q k, count road tree code goal crews p, a, ap (λ t. t .junctions) tree-is) }
 
     inside : (v : ℕ) → v < junctions road → v < i .tree .junctions
-    inside v h = omega (arith, count road tree code wanted crews p, ap (λ t. t .junctions) tree-is)
+    inside v h = omega (arith, count road tree code goal crews p, ap (λ t. t .junctions) tree-is)
 
     module _ (rows : ℕ) (sheet : List ℕ) (s : Sheet i rows sheet) where
       pub lower-of : (l q x : ℕ) → l < junctions road → q < junctions road → x ≡ rowsLower sheet rows l q → x ≡ lower i l q
@@ -66,7 +66,7 @@ module _ (road tree : List ℕ) (code wanted : ℕ) (crews : List ℕ) where
             e
             ∙ same-bound sheet rows code (i .code) crews (i .crews) (regionAt (decode tree .regions) r .marks) (marks i r) (sym code-is)
             (sym crews-is) (sym (marks-book r))
-            ∙ bound-sheet i (well-of road tree code wanted crews p) rows sheet s r
+            ∙ bound-sheet i (well-of road tree code goal crews p) rows sheet s r
 
         module _ (h : r < length (decode tree .regions)) (j : ℕ)
             (e : j ≡ rowsChosen sheet rows crews (regionAt (decode tree .regions) r .marks)) where
@@ -79,15 +79,15 @@ module _ (road tree : List ℕ) (code wanted : ℕ) (crews : List ℕ) where
 
           marked : marks i r ≢ []
           marked n =
-              let a = accepted-of road tree code wanted crews p .landmarks in
+              let a = accepted-of road tree code goal crews p .landmarks in
               let none = ap length (sym (marks-book r) ∙ n) in
               omega (arith, marks-length, none, a, ap (λ t. t .landmarks) tree-is, decode-landmarks tree)
 
           -- the landmark that leaf r picks is its landmark j
           pub chosen-of : getD (regionAt (decode tree .regions) r .marks) j noMark ≡ chosen i r
-          chosen-of = rw (← marks-book r, chosen-is) (chosen-sheet i (well-of road tree code wanted crews p) rows sheet s r marked)
+          chosen-of = rw (← marks-book r, chosen-is) (chosen-sheet i (well-of road tree code goal crews p) rows sheet s r marked)
 
           pub chosen-few : j < landmarkCount tree
           chosen-few =
               omega
-              (arith, chosen-is, chosen-below i (well-of road tree code wanted crews p) rows sheet s r marked, ap length (marks-book r), marks-length)
+              (arith, chosen-is, chosen-below i (well-of road tree code goal crews p) rows sheet s r marked, ap length (marks-book r), marks-length)

@@ -25,7 +25,7 @@ use Rattle.search_rules.specs.Theorems.{Sorted, TreeYards, Listing, Decided as 
 use Rattle.search_rules.proofs.Held.{before-not, greatest-is}
 use Rattle.search_rules.specs.Books.{Passed}
 use Rattle.search_rules.proofs.Books.{well-of, sound-of}
-use Rattle.search_rules.proofs.Asked.{asked-wanted, asked-yards, asked-there, asked-ends}
+use Rattle.search_rules.proofs.Asked.{asked-k, asked-yards, asked-there, asked-ends}
 use Rattle.search_rules.proofs.Theorems.{decided, answer-taken, answer-measured, answer-listing, answer-within, answer-spent, words-length}
 use Rattle.search_rules.proofs.Walks.{total-least, first-yards}
 use Rattle.search_call.specs.Call.{Call, Areas, Search, searches}
@@ -86,14 +86,14 @@ module _ (s : Search) where
           distinct = yards-distinct (list s) (l .sorted) (l .distinct);
           sorted = l .sorted;
           in-tree = λ e j. tree-yards .every (e .yard) (l .in-tree e j);
-          few = omega (arith, l .few, asked-wanted road tree (code s) (k s) (crews s));
+          few = omega (arith, l .few, asked-k road tree (code s) (k s) (crews s));
         }
 
     -- no measured yard's bound is above the last distance of a full list
     within-last : OnPassing s → T (answer (instanceOf s) (limit s) .settled) → Full s → (y b : ℕ) → Mem y (measured s) → BoundOf s y b → b ≤ lastDistance s
     within-last q t full y b j d =
         let m : Mem (d .element .yard) (measured s) = rw (d .names) j in
-        let f = full ∙ sym (asked-wanted road tree (code s) (k s) (crews s)) in
+        let f = full ∙ sym (asked-k road tree (code s) (k s) (crews s)) in
         let h = answer-within (instanceOf s) (sound q) (limit s) t f (d .home) (d .element) (d .is-leaf) (d .number) (d .in-list) m in
         omega (arith, d .value, greatest-is (list s))
 

@@ -9,7 +9,7 @@ use lib.Dec.{T, eqb, eqb→eq}
 use Rattle.book.proofs.Choosing.{T-split}
 use Rattle.book.proofs.Lists.{neqb→ne}
 use Rattle.query.specs.Query.{aggregateOf, kOf, limitOf, crewsOf}
-use Rattle.search_rules.proofs.Asked.{asked-wanted}
+use Rattle.search_rules.proofs.Asked.{asked-k}
 use Rattle.search_rules.proofs.Few.{answer-few}
 use Rattle.search_call.specs.Call.{Found, refused, accepted, searchRefusal, searchIn, searchFound}
 use Rattle.search_call.proofs.Calls.{tests, found-accepted, found-refused}
@@ -25,7 +25,7 @@ module _ (road tree query : List ℕ) (work results : ℕ) where
         arith,
         ap (λ (f : Found). f .listed) (found-accepted road tree query work results e),
         answer-few (searchIn road tree query) (limitOf query),
-        asked-wanted road tree (aggregateOf query) (kOf query) (crewsOf query),
+        asked-k road tree (aggregateOf query) (kOf query) (crewsOf query),
         tests road tree query work results e .results-full,
       )
 

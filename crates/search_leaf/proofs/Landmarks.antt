@@ -51,13 +51,13 @@ yards-of tree at f e = rw e refl
 pub same-none : (r n : ℕ) (ws : List ℕ) → SameQueue r n ws ws
 same-none r n ws = record { keys = refl; yards = refl; firsts = refl; gone = refl }
 
-module _ (road tree : List ℕ) (code wanted : ℕ) (crews drives places sheet : List ℕ)
-    (ready : Ready road tree code wanted crews drives places sheet) where
+module _ (road tree : List ℕ) (code goal : ℕ) (crews drives places sheet : List ℕ)
+    (ready : Ready road tree code goal crews drives places sheet) where
   abbrev i : Instance
-  i = searchOf road tree code wanted crews
+  i = searchOf road tree code goal crews
 
   pub well : WellFormed i
-  well = well-of road tree code wanted crews (ready .passed)
+  well = well-of road tree code goal crews (ready .passed)
 
   -- each crew has its row of distances
   pub driven-of : Driven road crews drives
@@ -66,21 +66,21 @@ module _ (road tree : List ℕ) (code wanted : ℕ) (crews drives places sheet :
   -- ---- the instance's tree
 
   pub junctions-of : i .tree .junctions ≡ junctions road
-  junctions-of = ap (λ (z : Instance). z .tree .junctions) (search-of road tree code wanted crews) ∙ count road tree code wanted crews (ready .passed)
+  junctions-of = ap (λ (z : Instance). z .tree .junctions) (search-of road tree code goal crews) ∙ count road tree code goal crews (ready .passed)
 
   pub size-of : size i ≡ regionCount tree
-  size-of = size-is i ∙ (ap (λ (z : Instance). length (z .tree .regions)) (search-of road tree code wanted crews) ∙ decode-length tree)
+  size-of = size-is i ∙ (ap (λ (z : Instance). length (z .tree .regions)) (search-of road tree code goal crews) ∙ decode-length tree)
 
   pub marks-at : (r : ℕ) → marks i r ≡ regionAt (decode tree .regions) r .marks
-  marks-at r = marks-is i r ∙ ap (λ (z : Instance). regionAt (z .tree .regions) r .marks) (search-of road tree code wanted crews)
+  marks-at r = marks-is i r ∙ ap (λ (z : Instance). regionAt (z .tree .regions) r .marks) (search-of road tree code goal crews)
 
   pub leaf-at : (r : ℕ) → T (leaf i r) → regionAt (decode tree .regions) r .children ≡ 0
-  leaf-at r t = sym (ap (λ (z : Instance). regionAt (z .tree .regions) r .children) (search-of road tree code wanted crews)) ∙ eqb→eq (regionAt
+  leaf-at r t = sym (ap (λ (z : Instance). regionAt (z .tree .regions) r .children) (search-of road tree code goal crews)) ∙ eqb→eq (regionAt
       (i .tree .regions) r .children) 0 (rw (leaf-is i r) at t)
 
   -- the crews have places in the sheet's rows
   pub sheet-crews : Crews crews
-  sheet-crews = rows-crews road tree code wanted crews (ready .passed)
+  sheet-crews = rows-crews road tree code goal crews (ready .passed)
 
   marks-count : (r : ℕ) → r < length places → length (marks i r) ≡ landmarkCount tree
   marks-count r h = rw (marks-at r, laid-region tree places (ready .laid) r h) (region-marks tree (landmarkCount tree) (placeOf tree r))
@@ -92,10 +92,10 @@ module _ (road tree : List ℕ) (code wanted : ℕ) (crews drives places sheet :
     inside = omega (
       arith,
       marks-count r (omega (arith, size-of, ready .laid .count)),
-      chosen-few road tree code wanted crews
+      chosen-few road tree code goal crews
           (ready .passed) (landmarkCount tree) sheet (ready .sheeted) r (omega (arith, size-of, decode-length tree)) p e,
     );
-    is = rw (marks-at r) (chosen-of road tree code wanted crews (ready .passed) (landmarkCount tree) sheet (ready .sheeted) r
+    is = rw (marks-at r) (chosen-of road tree code goal crews (ready .passed) (landmarkCount tree) sheet (ready .sheeted) r
         (omega (arith, size-of, decode-length tree)) p e);
   }
     where
@@ -223,17 +223,17 @@ module _ (road tree : List ℕ) (code wanted : ℕ) (crews drives places sheet :
 
         new : Opened i (chosen i r) fs′ bounds′
         unfolding m
-        new = opened road tree code wanted crews sheet (landmarkCount tree) m fs bounds fs′ bounds′ f-new bound-new (near fs (c .fs-count)) (near bounds
+        new = opened road tree code goal crews sheet (landmarkCount tree) m fs bounds fs′ bounds′ f-new bound-new (near fs (c .fs-count)) (near bounds
             (c .bounds-count))
             (λ e h j k. well .shape .once-listed r (chosen i r) e h (l .is) chosen-mark j k)
-            (λ e k q j. lower-of road tree code wanted crews (ready .passed) (landmarkCount tree) sheet (ready .sheeted) (e .yard) q
+            (λ e k q j. lower-of road tree code goal crews (ready .passed) (landmarkCount tree) sheet (ready .sheeted) (e .yard) q
             (rowsLower sheet (landmarkCount tree) (e .yard) q)
             (omega (arith, well .shape .yards r (chosen i r) e (l .is) chosen-mark k, junctions-of)) (ready .passed .there q j) refl)
 
         -- another leaf stays open
         old : (s : ℕ) → s ≢ r → s < size i → T (leaf i s) → Opened i (chosen i s) fs bounds → Opened i (chosen i s) fs′ bounds′
         unfolding m
-        old s d h t o = opened-kept road tree code wanted crews sheet (landmarkCount tree) m fs bounds fs′ bounds′ f-new bound-new (near fs (c .fs-count))
+        old s d h t o = opened-kept road tree code goal crews sheet (landmarkCount tree) m fs bounds fs′ bounds′ f-new bound-new (near fs (c .fs-count))
             (near bounds (c .bounds-count)) (chosen i s)
             (λ e g k j q. d (well .shape .one-leaf s r (chosen i s) (chosen i r) (e .yard) t (l .is) (chosen-in i well s h) chosen-mark
             (record { element = g; mem = j; names = sym q }) (record { element = e; mem = k; names = refl })))

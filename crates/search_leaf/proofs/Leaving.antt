@@ -54,13 +54,13 @@ module _ (i : Instance) (m : Mark) (fs bounds : List ℕ) (o : Opened i m fs bou
 
 -- ---- the list of a ready search's leaf
 
-module _ (road tree : List ℕ) (code wanted : ℕ) (crews drives places sheet : List ℕ)
-    (ready : Ready road tree code wanted crews drives places sheet)
-    (r : ℕ) (l : IsLeaf (searchOf road tree code wanted crews) r) (at : ℕ) (e : at ≡ getD places r 0)
-    (p n place : ℕ) (picks : IsPick (searchOf road tree code wanted crews) r p) (en : n ≡ u16At tree (at + 5)) (ep : place ≡ markPlace tree at p)
+module _ (road tree : List ℕ) (code k : ℕ) (crews drives places sheet : List ℕ)
+    (ready : Ready road tree code k crews drives places sheet)
+    (r : ℕ) (l : IsLeaf (searchOf road tree code k crews) r) (at : ℕ) (e : at ≡ getD places r 0)
+    (p n place : ℕ) (picks : IsPick (searchOf road tree code k crews) r p) (en : n ≡ u16At tree (at + 5)) (ep : place ≡ markPlace tree at p)
     (list : List ℕ) (el : list ≡ listPart tree n (place + 2)) where
   abbrev i : Instance
-  i = searchOf road tree code wanted crews
+  i = searchOf road tree code k crews
 
   abbrev es : List Element
   es = readList list n 0
@@ -73,10 +73,10 @@ module _ (road tree : List ℕ) (code wanted : ℕ) (crews drives places sheet :
 
   list-is : es ≡ chosen i r .list
   list-is = list-here tree place n list el
-      ∙ sym (list-of road tree code wanted crews drives places sheet ready r l at e p n place picks en ep)
+      ∙ sym (list-of road tree code k crews drives places sheet ready r l at e p n place picks en ep)
 
   pub list-some : 1 ≤ n
-  list-some = rw en (record-here road tree code wanted crews drives places sheet ready r l at e .some)
+  list-some = rw en (record-here road tree code k crews drives places sheet ready r l at e .some)
 
   count : n ≡ length (chosen i r .list)
   count = sym (readList-length list n 0) ∙ ap length list-is
@@ -129,10 +129,10 @@ module _ (road tree : List ℕ) (code wanted : ℕ) (crews drives places sheet :
     unfolding y
     y-inside = omega (
       arith,
-      tree-junctions road tree code wanted crews drives places sheet ready,
-      well road tree code wanted crews drives places sheet ready .shape .yards r (chosen i r)
+      tree-junctions road tree code k crews drives places sheet ready,
+      well road tree code k crews drives places sheet ready .shape .yards r (chosen i r)
           (nextIn (fsIn regions junctions ws′) (goneIn regions junctions ws′) es n) (l .is)
-          (chosen-mark road tree code wanted crews drives places sheet ready r l at e)
+          (chosen-mark road tree code k crews drives places sheet ready r l at e)
           (next-mem i (chosen i r) (fsIn regions junctions ws′) (boundsIn regions junctions ws′) (o .opened)
           (goneIn regions junctions ws′) n es count list-is list-some),
     )
@@ -161,7 +161,7 @@ module _ (road tree : List ℕ) (code wanted : ℕ) (crews drives places sheet :
           (firstsIn regions junctions ws′) (picksIn regions junctions ws′) (fsIn regions junctions ws′) (boundsIn regions junctions ws′)
           (set (goneIn regions junctions ws′) y true)
       unfolding y
-      parts = rw is (leaf-queued regions junctions es n ws′ r (slot road tree code wanted crews drives places sheet ready r l) y
+      parts = rw is (leaf-queued regions junctions es n ws′ r (slot road tree code k crews drives places sheet ready r l) y
           (sym (leaving-by regions junctions es n ws′)) y-inside)
 
       pub leaf-cached : Cached i (picksIn (length places) (junctionCount tree) ws″) (fsIn (length places) (junctionCount tree) ws″)

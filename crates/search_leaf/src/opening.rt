@@ -24,17 +24,17 @@ fn open(
     words: &mut [u64],
     r: Region,
 ) -> usize
-    requires { ⌜ Readied (now tree) (asked .aggregate) (asked .wanted) (now crews) (now drives) (now places) (now sheet)
+    requires { ⌜ Readied (now tree) (asked .aggregate) (asked .k) (now crews) (now drives) (now places) (now sheet)
         × ((road : List ℕ)
-        → Ready road (now tree) (asked .aggregate) (asked .wanted) (now crews) (now drives) (now places) (now sheet)
-        → Leafed (searchOf road (now tree) (asked .aggregate) (asked .wanted) (now crews))
+        → Ready road (now tree) (asked .aggregate) (asked .k) (now crews) (now drives) (now places) (now sheet)
+        → Leafed (searchOf road (now tree) (asked .aggregate) (asked .k) (now crews))
         (length (now places)) (junctionCount (now tree)) (now words) (r .number)) ⌝ }
     ensures same { λ _. ⌜ SameQueue (length (now (places .entry))) (junctionCount (now (tree .entry)))
         (now (words .entry)) (now (words .exit)) ⌝ }
     ensures open { λ p. ⌜ ((road : List ℕ)
-        → Ready road (now (tree .entry)) (asked .aggregate) (asked .wanted)
+        → Ready road (now (tree .entry)) (asked .aggregate) (asked .k)
         (now (crews .entry)) (now (drives .entry)) (now (places .entry)) (now (sheet .entry))
-        → OpenLeaf (searchOf road (now (tree .entry)) (asked .aggregate) (asked .wanted) (now (crews .entry)))
+        → OpenLeaf (searchOf road (now (tree .entry)) (asked .aggregate) (asked .k) (now (crews .entry)))
         (picksIn (length (now (places .entry))) (junctionCount (now (tree .entry))) (now (words .exit)))
         (fsIn (length (now (places .entry))) (junctionCount (now (tree .entry))) (now (words .exit)))
         (boundsIn (length (now (places .entry))) (junctionCount (now (tree .entry))) (now (words .exit)))
@@ -71,17 +71,17 @@ pub fn landmark(
     words: &mut [u64],
     r: Region,
 ) -> usize
-    requires { ⌜ Readied (now tree) (asked .aggregate) (asked .wanted) (now crews) (now drives) (now places) (now sheet)
+    requires { ⌜ Readied (now tree) (asked .aggregate) (asked .k) (now crews) (now drives) (now places) (now sheet)
         × ((road : List ℕ)
-        → Ready road (now tree) (asked .aggregate) (asked .wanted) (now crews) (now drives) (now places) (now sheet)
-        → Leafed (searchOf road (now tree) (asked .aggregate) (asked .wanted) (now crews))
+        → Ready road (now tree) (asked .aggregate) (asked .k) (now crews) (now drives) (now places) (now sheet)
+        → Leafed (searchOf road (now tree) (asked .aggregate) (asked .k) (now crews))
         (length (now places)) (junctionCount (now tree)) (now words) (r .number)) ⌝ }
     ensures same { λ _. ⌜ SameQueue (length (now (places .entry))) (junctionCount (now (tree .entry)))
         (now (words .entry)) (now (words .exit)) ⌝ }
     ensures open { λ p. ⌜ ((road : List ℕ)
-        → Ready road (now (tree .entry)) (asked .aggregate) (asked .wanted)
+        → Ready road (now (tree .entry)) (asked .aggregate) (asked .k)
         (now (crews .entry)) (now (drives .entry)) (now (places .entry)) (now (sheet .entry))
-        → OpenLeaf (searchOf road (now (tree .entry)) (asked .aggregate) (asked .wanted) (now (crews .entry)))
+        → OpenLeaf (searchOf road (now (tree .entry)) (asked .aggregate) (asked .k) (now (crews .entry)))
         (picksIn (length (now (places .entry))) (junctionCount (now (tree .entry))) (now (words .exit)))
         (fsIn (length (now (places .entry))) (junctionCount (now (tree .entry))) (now (words .exit)))
         (boundsIn (length (now (places .entry))) (junctionCount (now (tree .entry))) (now (words .exit)))

@@ -104,20 +104,20 @@ module _ (tree : List ℕ) (at yards : ℕ) (l : List ℕ) (el : l ≡ listPart 
 abbrev pub Once : List Element → Type 0
 Once es = (e h : Element) → Mem e es → Mem h es → e .yard ≡ h .yard → e ≡ h
 
-module _ (road tree : List ℕ) (code wanted : ℕ) (crews : List ℕ) (sheet : List ℕ) (rows : ℕ) (m : Mark) (fs bounds fs′ bounds′ : List ℕ)
+module _ (road tree : List ℕ) (code goal : ℕ) (crews : List ℕ) (sheet : List ℕ) (rows : ℕ) (m : Mark) (fs bounds fs′ bounds′ : List ℕ)
     (f-set : fs′ ≡ byYard (fIn code (toCrews road (m .place) crews)) (m .list) fs)
     (bound-set : bounds′ ≡ byYard (boundIn code sheet rows crews (toCrews road (m .place) crews)) (m .list) bounds)
     (near-fs : Near (length fs) (m .list)) (near-bounds : Near (length bounds) (m .list)) where
   abbrev i : Instance
-  i = searchOf road tree code wanted crews
+  i = searchOf road tree code goal crews
 
   pub opened : Once (m .list) → ((e : Element) → Mem e (m .list) → (q : ℕ) → Mem q crews → rowsLower sheet rows (e .yard) q ≡ lower i (e .yard) q) →
       Opened i m fs′ bounds′
   opened once low = record {
     words = λ e k. rw f-set (by-yard-at (fIn code (toCrews road (m .place) crews)) (m .list) fs near-fs once e k)
-        ∙ f-by road tree code wanted crews m e (toCrews road (m .place) crews) refl;
+        ∙ f-by road tree code goal crews m e (toCrews road (m .place) crews) refl;
     keys = λ e k. rw bound-set (by-yard-at (boundIn code sheet rows crews (toCrews road (m .place) crews)) (m .list) bounds near-bounds once e k)
-        ∙ bound-by road tree code wanted crews m e (toCrews road (m .place) crews) refl sheet rows (low e k);
+        ∙ bound-by road tree code goal crews m e (toCrews road (m .place) crews) refl sheet rows (low e k);
   }
 
   -- a leaf of other yards that is open stays so

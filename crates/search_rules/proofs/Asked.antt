@@ -18,26 +18,26 @@ use Rattle.search_rules.proofs.Trees.{tree-yards}
 use Rattle.search_rules.proofs.Books.{count, accepted-of, well-of}
 use Rattle.search_rules.proofs.Theorems.{answer-ends}
 
-module _ (road tree : List ℕ) (code wanted : ℕ) (crews : List ℕ) where
+module _ (road tree : List ℕ) (code k : ℕ) (crews : List ℕ) where
   abbrev i : Instance
-  i = searchOf road tree code wanted crews
+  i = searchOf road tree code k crews
 
-  pub asked-wanted : i .wanted ≡ wanted
+  pub asked-k : i .k ≡ k
   unfolding searchOf
-  asked-wanted = refl
+  asked-k = refl
 
   module _ (p : Passed road tree crews) where
     -- the yards below the root are the tree book's
     pub asked-yards : TreeYards i (treeYards (decode tree))
     unfolding searchOf
-    asked-yards = tree-yards i (accepted-of road tree code wanted crews p)
+    asked-yards = tree-yards i (accepted-of road tree code k crews p)
 
     -- they are junctions of the road book
     pub asked-there : (y : ℕ) → Below i 0 y → y < junctions road
     unfolding searchOf
-    asked-there y b = omega (arith, below-range i (well-of road tree code wanted crews p .shape) b, count road tree code wanted crews p)
+    asked-there y b = omega (arith, below-range i (well-of road tree code k crews p .shape) b, count road tree code k crews p)
 
     -- a limit of inner regions plus twice the yards settles
     pub asked-ends : (limit : ℕ) → inners (decode tree) + 2 * length (treeYards (decode tree)) ≤ limit → T (answer i limit .settled)
     unfolding searchOf
-    asked-ends limit h = answer-ends i (well-of road tree code wanted crews p) limit (treeYards (decode tree)) asked-yards h
+    asked-ends limit h = answer-ends i (well-of road tree code k crews p) limit (treeYards (decode tree)) asked-yards h

@@ -17,9 +17,9 @@ use Rattle.search_rules.specs.Books.{searchOf, Passed}
 use Rattle.search_rules.specs.Facts.{WellFormed, Metric, Symmetric, Sound}
 use Rattle.search_rules.proofs.Trees.{Accepted, accepted-tree, well-formed, truth-of}
 
-module _ (road tree : List ℕ) (code wanted : ℕ) (crews : List ℕ) (p : Passed road tree crews) where
+module _ (road tree : List ℕ) (code goal : ℕ) (crews : List ℕ) (p : Passed road tree crews) where
   abbrev i : Instance
-  i = searchOf road tree code wanted crews
+  i = searchOf road tree code goal crews
 
   pub count : decode tree .junctions ≡ junctions road
   count = decode-junctions tree ∙ sym (p .counts)

@@ -119,7 +119,7 @@ module _ (i : Instance) where
 
 -- ---- the search of two books
 
-pub search-of : (road tree : List ℕ) (code wanted : ℕ) (crews : List ℕ)
-    → searchOf road tree code wanted crews ≡ record { code = code; wanted = wanted; crews = crews; tree = decode tree; d = dist road }
+pub search-of : (road tree : List ℕ) (code goal : ℕ) (crews : List ℕ)
+    → searchOf road tree code goal crews ≡ record { code = code; k = goal; crews = crews; tree = decode tree; d = dist road }
 unfolding searchOf
-search-of road tree code wanted crews = refl
+search-of road tree code goal crews = refl

@@ -73,7 +73,7 @@ unfoldable pub along : List ℕ
 along = 0 ∷ 2 ∷ 5 ∷ 9 ∷ 10 ∷ []
 
 unfoldable pub five : Instance
-five = record { code = 0; wanted = 2; crews = 0 ∷ 2 ∷ []; tree = decode fiveRegions; d = λ u v. apart (getD along u 0) (getD along v 0) }
+five = record { code = 0; k = 2; crews = 0 ∷ 2 ∷ []; tree = decode fiveRegions; d = λ u v. apart (getD along u 0) (getD along v 0) }
 
 bytes : Bytes fiveRegions
 unfolding Bytes fiveRegions all
@@ -127,5 +127,5 @@ five-count = omega arith
 pub five-settles : T (answer five 8 .settled)
 five-settles = accepted-ends five tree-accepted 8 (five-sound .well) five-count
 
-pub five-lists : answer five 8 .listed ≡ take (five .wanted) (ranked five (1 ∷ 3 ∷ 4 ∷ []))
+pub five-lists : answer five 8 .listed ≡ take (five .k) (ranked five (1 ∷ 3 ∷ 4 ∷ []))
 five-lists = rw (← yards-are) (accepted-exact five tree-accepted 8 five-sound five-settles)

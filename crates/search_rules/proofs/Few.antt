@@ -15,7 +15,7 @@ use Rattle.search_rules.specs.Run.{Outcome, advance, run, report, answer
 
 module _ (i : Instance) where
   Few : State → Type 0
-  Few st = length (st .held) ≤ i .wanted
+  Few st = length (st .held) ≤ i .k
 
   -- a region that is taken leaves the held yards
   region-few : (st : State) (r a : ℕ) → Few st → Few (takeRegion i st r a)
@@ -24,7 +24,7 @@ module _ (i : Instance) where
 
   yard-few : (st : State) (y : ℕ) → Few (takeYard i st y)
   unfolding Few takeYard hold
-  yard-few st y = omega (arith, length-take (i .wanted) (insert (entry i y) (st .held)))
+  yard-few st y = omega (arith, length-take (i .k) (insert (entry i y) (st .held)))
 
   step-few : (st : State) → Few st → Few (step i st)
   unfolding step
@@ -39,6 +39,6 @@ module _ (i : Instance) where
   run-few (suc limit) =
       choose-case (λ (o : Outcome). Few (o .state)) (settled i (run i limit .state)) (λ t. run-few limit) (λ t. step-few (run i limit .state) (run-few limit))
 
-  pub answer-few : (limit : ℕ) → length (answer i limit .listed) ≤ i .wanted
+  pub answer-few : (limit : ℕ) → length (answer i limit .listed) ≤ i .k
   unfolding Few answer report
-  answer-few limit = choose-case (λ (l : List Element). length l ≤ i .wanted) (settled i (run i limit .state)) (λ t. run-few limit) (λ t. omega arith)
+  answer-few limit = choose-case (λ (l : List Element). length l ≤ i .k) (settled i (run i limit .state)) (λ t. run-few limit) (λ t. omega arith)

@@ -118,20 +118,20 @@ module _ (i : Instance) where
   kept-listing st was = rw (was .first-ranked) (record {
     sorted = sort;
     distances = λ h k. entry-total h (is h k);
-    distinct = sorted-one i (take (i .wanted) all) is;
-    in-tree = λ h k. was .measured-in (h .yard) (ranked-mem i h (st .measured) (take-mem (i .wanted) h all k) .0);
-    few = omega (arith, length-take (i .wanted) all);
-    greatest = λ h k. greatestHeld-le h (take (i .wanted) all) sort k;
+    distinct = sorted-one i (take (i .k) all) is;
+    in-tree = λ h k. was .measured-in (h .yard) (ranked-mem i h (st .measured) (take-mem (i .k) h all k) .0);
+    few = omega (arith, length-take (i .k) all);
+    greatest = λ h k. greatestHeld-le h (take (i .k) all) sort k;
   })
     where
       all : List Element
       all = ranked i (st .measured)
 
-      is : (h : Element) → Mem h (take (i .wanted) all) → h ≡ entry i (h .yard)
-      is h k = ranked-mem i h (st .measured) (take-mem (i .wanted) h all k) .1
+      is : (h : Element) → Mem h (take (i .k) all) → h ≡ entry i (h .yard)
+      is h k = ranked-mem i h (st .measured) (take-mem (i .k) h all k) .1
 
-      sort : Sorted (take (i .wanted) all)
-      sort = take-sorted (i .wanted) all (ranked-sorted i (st .measured) (was .once))
+      sort : Sorted (take (i .k) all)
+      sort = take-sorted (i .k) all (ranked-sorted i (st .measured) (was .once))
 
   -- A yard that is measured, or lies past the held ones.
   settled-cover : (st : State) → Kept i st → Low i st → T (settled i st) → (y : ℕ) → Below i 0 y → Mem y (st .measured) ⊎ Past i st (total i y)
@@ -147,28 +147,28 @@ module _ (i : Instance) where
 
   -- a yard of the tree is held, or k are held and it comes after every one of them
   module _ (st : State) (was : Kept i st) (low : Low i st) (t : T (settled i st)) where
-    settled-rest : (y : ℕ) → Below i 0 y → Mem (entry i y) (st .held) ⊎ Out (i .wanted) (st .held) (entry i y)
+    settled-rest : (y : ℕ) → Below i 0 y → Mem (entry i y) (st .held) ⊎ Out (i .k) (st .held) (entry i y)
     unfolding entry
     settled-rest y below = place (settled-cover st was low t y below)
       where
-        place : Mem y (st .measured) ⊎ Past i st (total i y) → Mem (entry i y) (st .held) ⊎ Out (i .wanted) (st .held) (entry i y)
-        place (inl k) = rw (was .first-ranked) (take-rest (i .wanted) (entry i y) (ranked i (st .measured)) (ranked-sorted i (st .measured) (was .once)) (ranked-in i y (st .measured) k))
+        place : Mem y (st .measured) ⊎ Past i st (total i y) → Mem (entry i y) (st .held) ⊎ Out (i .k) (st .held) (entry i y)
+        place (inl k) = rw (was .first-ranked) (take-rest (i .k) (entry i y) (ranked i (st .measured)) (ranked-sorted i (st .measured) (was .once)) (ranked-in i y (st .measured) k))
         place (inr p) = inr (record { full = p .full; after = λ g k. inl (omega (arith, p .far, kept-listing st was .greatest g k)) })
 
-    settled-number : (ys : List ℕ) → TreeYards i ys → length (st .held) ≡ min (i .wanted) (length ys)
-    settled-number ys tree = go (ℕ-discrete (length (st .held)) (i .wanted))
+    settled-number : (ys : List ℕ) → TreeYards i ys → length (st .held) ≡ min (i .k) (length ys)
+    settled-number ys tree = go (ℕ-discrete (length (st .held)) (i .k))
       where
-        size-is : length (st .held) ≡ min (i .wanted) (length (st .measured))
-        size-is = ap length (was .first-ranked) ∙ length-take (i .wanted) (ranked i (st .measured)) ∙ ap (min (i .wanted)) (ranked-length i (st .measured))
+        size-is : length (st .held) ≡ min (i .k) (length (st .measured))
+        size-is = ap length (was .first-ranked) ∙ length-take (i .k) (ranked i (st .measured)) ∙ ap (min (i .k)) (ranked-length i (st .measured))
 
         most : length (st .measured) ≤ length ys
         most = fewer (st .measured) ys (was .once) (λ y k. tree .every y (was .measured-in y k))
 
-        measured : length (st .held) ≢ i .wanted → (y : ℕ) → Mem y (st .measured) ⊎ Past i st (total i y) → Mem y (st .measured)
+        measured : length (st .held) ≢ i .k → (y : ℕ) → Mem y (st .measured) ⊎ Past i st (total i y) → Mem y (st .measured)
         measured n y (inl k) = k
         measured n y (inr p) = absurd (n (p .full))
 
-        go : Dec (length (st .held) ≡ i .wanted) → length (st .held) ≡ min (i .wanted) (length ys)
+        go : Dec (length (st .held) ≡ i .k) → length (st .held) ≡ min (i .k) (length ys)
         go (yes e) = omega (arith, size-is, most)
         go (no n) = omega (arith, size-is, most, fewer ys (st .measured) (tree .distinct) (λ y k. measured n y (settled-cover st was low t y (tree .below y k))))
 
@@ -176,7 +176,7 @@ module _ (i : Instance) where
   abbrev TreeYard : Element → Type 0
   TreeYard h = (h ≡ entry i (h .yard)) × Below i 0 (h .yard)
 
-  listing-first : (held : List Element) → Listing i held → ((y : ℕ) → Below i 0 y → Mem (entry i y) held ⊎ Out (i .wanted) held (entry i y)) → First TreeYard (i .wanted) held
+  listing-first : (held : List Element) → Listing i held → ((y : ℕ) → Below i 0 y → Mem (entry i y) held ⊎ Out (i .k) held (entry i y)) → First TreeYard (i .k) held
   unfolding entry
   listing-first held l rest = record {
     sorted = l .sorted;
@@ -185,12 +185,12 @@ module _ (i : Instance) where
     rest = λ h p. rw (p .0) (rest (h .yard) (p .1));
   }
 
-  ranked-first : (ys : List ℕ) → TreeYards i ys → First TreeYard (i .wanted) (take (i .wanted) (ranked i ys))
+  ranked-first : (ys : List ℕ) → TreeYards i ys → First TreeYard (i .k) (take (i .k) (ranked i ys))
   ranked-first ys tree = record {
-    sorted = take-sorted (i .wanted) all sort;
-    among = λ h k. let x = ranked-mem i h ys (take-mem (i .wanted) h all k) in (x .1, tree .below (h .yard) (x .0));
-    few = omega (arith, length-take (i .wanted) all);
-    rest = λ h p. take-rest (i .wanted) h all sort (Memᴰ·cast (p .0) (ranked-in i (h .yard) ys (tree .every (h .yard) (p .1))));
+    sorted = take-sorted (i .k) all sort;
+    among = λ h k. let x = ranked-mem i h ys (take-mem (i .k) h all k) in (x .1, tree .below (h .yard) (x .0));
+    few = omega (arith, length-take (i .k) all);
+    rest = λ h p. take-rest (i .k) h all sort (Memᴰ·cast (p .0) (ranked-in i (h .yard) ys (tree .every (h .yard) (p .1))));
   }
     where
       all : List Element
@@ -203,7 +203,7 @@ module _ (i : Instance) where
   settled-complete st was low t = record {
     rest = settled-rest st was low t;
     number = settled-number st was low t;
-    exact = λ ys tree. first-one TreeYard (i .wanted) (st .held) (take (i .wanted) (ranked i ys)) (listing-first (st .held) (kept-listing st was) (settled-rest st was low t)) (ranked-first ys tree);
+    exact = λ ys tree. first-one TreeYard (i .k) (st .held) (take (i .k) (ranked i ys)) (listing-first (st .held) (kept-listing st was) (settled-rest st was low t)) (ranked-first ys tree);
   }
 
 -- whatever the limit and whatever the tree's numbers say

@@ -40,7 +40,7 @@ pub record Kept (i : Instance) (st : State) : Type 0 where
   pub measured-left : (y : ℕ) → Mem y (st .measured) → T (left (st .gone) y)
   pub once : Distinct (st .measured)
   -- the held yards are the first k measured
-  pub first-ranked : st .held ≡ take (i .wanted) (ranked i (st .measured))
+  pub first-ranked : st .held ≡ take (i .k) (ranked i (st .measured))
   -- what is queued or measured belongs to the tree
   pub regions-in : (r a y : ℕ) → key (st .regionKeys) r ≡ some a → Below i r y → Below i 0 y
   pub yards-in : (y a : ℕ) → key (st .yardKeys) y ≡ some a → Below i 0 y
@@ -324,7 +324,7 @@ module _ (i : Instance) (well : WellFormed i) (st : State) (was : Kept i st) whe
         in-tree v (inl p) = rw p (was .yards-in y b at)
         in-tree v (inr k) = was .measured-in v k
 
-        ranked-more : take (i .wanted) (insert (entry i y) (st .held)) ≡ take (i .wanted) (ranked i (y ∷ st .measured))
+        ranked-more : take (i .k) (insert (entry i y) (st .held)) ≡ take (i .k) (ranked i (y ∷ st .measured))
         ranked-more = rw (was .first-ranked, take-insert) refl
 
   -- Taking a region, by cases.
@@ -400,7 +400,7 @@ module _ (i : Instance) (well : WellFormed i) where
     queued-new = λ v b e. absurd (start-yard v e);
     measured-left = λ v k. absurd (not-nil k);
     once = tt;
-    first-ranked = sym (take-none (i .wanted));
+    first-ranked = sym (take-none (i .k));
     regions-in = λ v b y. start-key (λ o. o ≡ some b → Below i v y → Below i 0 y) v (λ p e below. rw p at below) (λ p e. absurd (no-key e));
     yards-in = λ v b e. absurd (start-yard v e);
     measured-in = λ v k. absurd (not-nil k);

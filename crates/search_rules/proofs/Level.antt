@@ -33,7 +33,7 @@ pub record MeasuredKey (i : Instance) (st : State) (y : ℕ) : Type 0 where
   pub is : KeyOf i (st .firsts) y queue-key
   pub regions : (v b : ℕ) → key (st .regionKeys) v ≡ some b → queue-key ≤ b
   pub yards : (v b : ℕ) → key (st .yardKeys) v ≡ some b → queue-key ≤ b
-  pub held : length (st .held) ≡ i .wanted → queue-key ≤ greatestHeld (st .held)
+  pub held : length (st .held) ≡ i .k → queue-key ≤ greatestHeld (st .held)
 
 pub record Level (i : Instance) (st : State) : Type 0 where
   pub queued-key : (y a : ℕ) → key (st .yardKeys) y ≡ some a → KeyOf i (st .firsts) y a
@@ -192,7 +192,7 @@ module _ (i : Instance) (well : WellFormed i) where
     }
       where
         held′ : List Element
-        held′ = take (i .wanted) (insert (entry i y) (st .held))
+        held′ = take (i .k) (insert (entry i y) (st .held))
 
         new : State
         new = takeYard i st y
@@ -200,15 +200,15 @@ module _ (i : Instance) (well : WellFormed i) where
         yard-key : (P : Option ℕ → Type 0) (v : ℕ) → (v ≡ y → P none) → (v ≢ y → P (key (st .yardKeys) v)) → P (key (set (st .yardKeys) y unqueued) v)
         yard-key = taken-yard-key i well st was y b at
 
-        few : length (st .held) ≤ i .wanted
-        few = omega (arith, ap length (was .first-ranked), length-take (i .wanted) (ranked i (st .measured)))
+        few : length (st .held) ≤ i .k
+        few = omega (arith, ap length (was .first-ranked), length-take (i .k) (ranked i (st .measured)))
 
-        up : length held′ ≡ i .wanted → b ≤ greatestHeld held′
-        up full = go (insert-front (i .wanted) (entry i y) (st .held))
+        up : length held′ ≡ i .k → b ≤ greatestHeld held′
+        up full = go (insert-front (i .k) (entry i y) (st .held))
           where
-            go : Mem (entry i y) held′ ⊎ (held′ ≡ take (i .wanted) (st .held)) → b ≤ greatestHeld held′
+            go : Mem (entry i y) held′ ⊎ (held′ ≡ take (i .k) (st .held)) → b ≤ greatestHeld held′
             go (inl k) = omega (arith, low .yard-low y b at, kept-listing i (takeYard i st y) (yard-kept i well st was y b at) .greatest (entry i y) k)
-            go (inr p) = let e : held′ ≡ st .held = p ∙ take-all (i .wanted) (st .held) few in rw e (due .held (sym (ap length e) ∙ full))
+            go (inr p) = let e : held′ ≡ st .held = p ∙ take-all (i .k) (st .held) few in rw e (due .held (sym (ap length e) ∙ full))
 
         measured : (z : ℕ) → (z ≡ y) ⊎ Mem z (st .measured) → MeasuredKey i new z
         measured z (inl p) = record {
@@ -272,13 +272,13 @@ module _ (i : Instance) (sound : Sound i) where
   run-measured limit y k = run-level limit .measured-key y k
 
   -- The key of a measured yard, however it is found, is not above the greatest held distance if k are held.
-  pub run-within : (limit y a : ℕ) → Mem y (run i limit .state .measured) → KeyOf i (run i limit .state .firsts) y a → length (run i limit .state .held) ≡ i .wanted
+  pub run-within : (limit y a : ℕ) → Mem y (run i limit .state .measured) → KeyOf i (run i limit .state .firsts) y a → length (run i limit .state .held) ≡ i .k
       → a ≤ greatestHeld (run i limit .state .held)
   run-within limit y a k j full = let x = run-measured limit y k in
       rw (key-of-one i (sound .well) (run i limit .state .firsts) (run-kept i (sound .well) limit .sizes .firsts) j (x .is)) (x .held full)
 
   -- Nor is the bound of a measured yard, of whatever leaf's chosen list it is an element.
-  pub run-bound-within : (limit r : ℕ) (e : Element) → T (leaf i r) → r < size i → Mem e (chosen i r .list) → Mem (e .yard) (run i limit .state .measured) → length (run i limit .state .held) ≡ i .wanted
+  pub run-bound-within : (limit r : ℕ) (e : Element) → T (leaf i r) → r < size i → Mem e (chosen i r .list) → Mem (e .yard) (run i limit .state .measured) → length (run i limit .state .held) ≡ i .k
       → yardBound i (chosen i r) e ≤ greatestHeld (run i limit .state .held)
   run-bound-within limit r e l h k j full = omega (arith, same-bound, x .held full, x .is .value)
     where

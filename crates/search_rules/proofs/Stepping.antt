@@ -28,11 +28,11 @@ pub record Sizes (i : Instance) (st : State) : Type 0 where
 pub record Due (i : Instance) (st : State) (a : ℕ) : Type 0 where
   pub regions : (v b : ℕ) → key (st .regionKeys) v ≡ some b → a ≤ b
   pub yards : (v b : ℕ) → key (st .yardKeys) v ≡ some b → a ≤ b
-  pub held : length (st .held) ≡ i .wanted → a ≤ greatestHeld (st .held)
+  pub held : length (st .held) ≡ i .k → a ≤ greatestHeld (st .held)
 
 -- k are held, and all of them at distances below b
 pub record Past (i : Instance) (st : State) (b : ℕ) : Type 0 where
-  pub full : length (st .held) ≡ i .wanted
+  pub full : length (st .held) ≡ i .k
   pub far : greatestHeld (st .held) < b
 
 module _ (i : Instance) (st : State) (sizes : Sizes i st) where
@@ -53,11 +53,11 @@ module _ (i : Instance) (st : State) (sizes : Sizes i st) where
   unfolding settled
   settled-past t b s h = go (or-cases (not (queued (leastKey i st))) _ t)
     where
-      go : T (not (queued (leastKey i st))) ⊎ T (eqb (length (st .held)) (i .wanted) && ltb (greatestHeld (st .held)) (leastKey i st)) → Past i st b
+      go : T (not (queued (leastKey i st))) ⊎ T (eqb (length (st .held)) (i .k) && ltb (greatestHeld (st .held)) (leastKey i st)) → Past i st b
       go (inl n) = absurd (omega (arith, not-queued (leastKey i st) n))
       go (inr n) = record {
-        full = eqb→eq (length (st .held)) (i .wanted) (and-left (eqb (length (st .held)) (i .wanted)) _ n);
-        far = omega (arith, ltb→lt (greatestHeld (st .held)) (leastKey i st) (and-right (eqb (length (st .held)) (i .wanted)) _ n));
+        full = eqb→eq (length (st .held)) (i .k) (and-left (eqb (length (st .held)) (i .k)) _ n);
+        far = omega (arith, ltb→lt (greatestHeld (st .held)) (leastKey i st) (and-right (eqb (length (st .held)) (i .k)) _ n));
       }
 
   pub settled-regions : T (settled i st) → (v b : ℕ) → key (st .regionKeys) v ≡ some b → Past i st b
@@ -77,10 +77,10 @@ module _ (i : Instance) (st : State) (sizes : Sizes i st) where
       go true b h t = h tt
       go false b h t = absurd t
 
-  unsettled-low : T (not (settled i st)) → length (st .held) ≡ i .wanted → leastKey i st ≤ greatestHeld (st .held)
+  unsettled-low : T (not (settled i st)) → length (st .held) ≡ i .k → leastKey i st ≤ greatestHeld (st .held)
   unfolding settled
   unsettled-low t e = nltb→le (greatestHeld (st .held)) (leastKey i st) (not-T (ltb (greatestHeld (st .held)) (leastKey i st))
-      (λ s. T-not (settled i st) t (or-right (not (queued (leastKey i st))) _ (and-both (eqb (length (st .held)) (i .wanted)) _ (eq→eqb (length (st .held)) (i .wanted) e) s))))
+      (λ s. T-not (settled i st) t (or-right (not (queued (leastKey i st))) _ (and-both (eqb (length (st .held)) (i .k)) _ (eq→eqb (length (st .held)) (i .k) e) s))))
 
   -- A step of a search that isn't settled takes a region or a yard that is due.
   pub step-case : (P : State → Type 0) → T (not (settled i st))

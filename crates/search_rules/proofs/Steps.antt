@@ -62,7 +62,7 @@ module _ (i : Instance) where
   unfolding leastKey
   least-key-is st = refl
 
-  pub settled-is : (st : State) → settled i st ≡ (not (queued (leastKey i st)) || (eqb (length (st .held)) (i .wanted) && ltb (greatestHeld (st .held)) (leastKey i st)))
+  pub settled-is : (st : State) → settled i st ≡ (not (queued (leastKey i st)) || (eqb (length (st .held)) (i .k) && ltb (greatestHeld (st .held)) (leastKey i st)))
   unfolding settled
   settled-is st = refl
 
@@ -101,7 +101,7 @@ module _ (i : Instance) where
     yardKeys = set (st .yardKeys) y unqueued;
     firsts = st .firsts;
     gone = st .gone;
-    held = hold (i .wanted) (entry i y) (st .held);
+    held = hold (i .k) (entry i y) (st .held);
     measured = y ∷ st .measured;
   }
   unfolding takeYard

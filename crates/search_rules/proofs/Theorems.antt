@@ -103,7 +103,7 @@ words-length [] = refl
 words-length (e ∷ es) = omega (arith, words-length es)
 
 -- a settled search on a true tree lists the first k of the tree's yards, or all if fewer
-pub answer-exact : (i : Instance) → Sound i → (limit : ℕ) → T (answer i limit .settled) → (ys : List ℕ) → TreeYards i ys → answer i limit .listed ≡ take (i .wanted) (ranked i ys)
+pub answer-exact : (i : Instance) → Sound i → (limit : ℕ) → T (answer i limit .settled) → (ys : List ℕ) → TreeYards i ys → answer i limit .listed ≡ take (i .k) (ranked i ys)
 unfolding answer report
 answer-exact i sound limit t ys tree = answer-listed i limit t ∙ run-complete i sound limit t .exact ys tree
 
@@ -112,7 +112,7 @@ pub answer-listing : (i : Instance) → WellFormed i → (limit : ℕ) → T (an
 answer-listing i well limit t = rw (answer-listed i limit t) (run-listing i well limit)
 
 -- and if that is k yards, none was measured whose bound is above the last listed distance
-pub answer-within : (i : Instance) → Sound i → (limit : ℕ) → T (answer i limit .settled) → length (answer i limit .listed) ≡ i .wanted
+pub answer-within : (i : Instance) → Sound i → (limit : ℕ) → T (answer i limit .settled) → length (answer i limit .listed) ≡ i .k
     → (r : ℕ) (e : Element) → T (leaf i r) → r < size i → Mem e (chosen i r .list) → Mem (e .yard) (run i limit .state .measured) → yardBound i (chosen i r) e ≤ greatestHeld (answer i limit .listed)
 answer-within i sound limit t full r e l h k j =
     rw (answer-listed i limit t) (run-bound-within i sound limit r e l h k j (rw (answer-listed i limit t) at full))
@@ -134,7 +134,7 @@ module _ (i : Instance) (a : Accepted (i .tree)) (limit : ℕ) where
   pub accepted-ends : WellFormed i → inners (i .tree) + 2 * i .tree .yards ≤ limit → T (answer i limit .settled)
   accepted-ends well h = answer-ends i well limit (treeYards (i .tree)) (tree-yards i a) (rw (a .whole .yard-count) h)
 
-  pub accepted-exact : Sound i → T (answer i limit .settled) → answer i limit .listed ≡ take (i .wanted) (ranked i (treeYards (i .tree)))
+  pub accepted-exact : Sound i → T (answer i limit .settled) → answer i limit .listed ≡ take (i .k) (ranked i (treeYards (i .tree)))
   accepted-exact sound t = answer-exact i sound limit t (treeYards (i .tree)) (tree-yards i a)
 
   pub accepted-measured : WellFormed i → answer i limit .measured ≤ i .tree .yards

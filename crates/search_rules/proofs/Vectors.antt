@@ -22,9 +22,9 @@ use Rattle.search_rules.specs.Run.{Outcome, Answer, words, advance, run,
 
 -- a search on a chain of junctions, given by each one's distance from junction 0
 unfoldable pub onChain : List ℕ → ℕ → ℕ → List ℕ → ℕ → List Region → Instance
-onChain along code wanted crews yards regions = record {
+onChain along code goal crews yards regions = record {
   code = code;
-  wanted = wanted;
+  k = goal;
   crews = crews;
   tree = record { junctions = length along; yards = yards; landmarks = 1; regions = regions };
   d = λ u v. apart (getD along u 0) (getD along v 0);
@@ -39,9 +39,9 @@ leafOf first after marks list = record { first = first; after = after; children 
 
 -- net N: "junctions 0 to 4 in a chain, seconds 2, 3, 4, 1; yards 1, 3, 4; m 1, leaf limit 3"
 unfoldable pub netN : ℕ → ℕ → List ℕ → Instance
-netN code wanted crews =
+netN code goal crews =
     let list = at 2 1 ∷ at 9 3 ∷ at 10 4 ∷ [] in
-    onChain (0 ∷ 2 ∷ 5 ∷ 9 ∷ 10 ∷ []) code wanted crews 3 (leafOf 0 5 (leafMark 0 list ∷ []) list ∷ [])
+    onChain (0 ∷ 2 ∷ 5 ∷ 9 ∷ 10 ∷ []) code goal crews 3 (leafOf 0 5 (leafMark 0 list ∷ []) list ∷ [])
 
 -- "One junction, no road, yard 0, crew 0"
 unfoldable pub oneJunction : Instance
@@ -105,7 +105,7 @@ regions = refl
 unfoldable pub crewsAt : Instance
 crewsAt = record {
   code = 0;
-  wanted = 1;
+  k = 1;
   crews = 1 ∷ 1 ∷ 2 ∷ [];
   tree = record { junctions = 3; yards = 0; landmarks = 1; regions = [] };
   d = λ u v. getD (0 ∷ 5 ∷ 10 ∷ []) v 0;

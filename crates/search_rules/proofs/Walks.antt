@@ -25,9 +25,9 @@ use Rattle.search_rules.proofs.Trees.{tree-yards}
 use Rattle.search_rules.proofs.Books.{count, accepted-of}
 use Rattle.search_rules.proofs.Theorems.{answer-settled, answer-listed, answer-listing}
 
-module _ (road tree : List ℕ) (code wanted : ℕ) (crews : List ℕ) (p : Passed road tree crews) where
+module _ (road tree : List ℕ) (code goal : ℕ) (crews : List ℕ) (p : Passed road tree crews) where
   abbrev i : Instance
-  i = searchOf road tree code wanted crews
+  i = searchOf road tree code goal crews
 
   -- ---- a yard's aggregate is that of the walks' least totals, and no other number is
 
@@ -59,9 +59,9 @@ module _ (road tree : List ℕ) (code wanted : ℕ) (crews : List ℕ) (p : Pass
   module _ (sound : Sound i) (limit : ℕ) (t : T (answer i limit .settled)) where
     yard-there : (y : ℕ) → Below i 0 y → y < junctions road
     unfolding searchOf
-    yard-there y b = omega (arith, below-range i (sound .well .shape) b, count road tree code wanted crews p)
+    yard-there y b = omega (arith, below-range i (sound .well .shape) b, count road tree code goal crews p)
 
-    pub first-yards : FirstYards (net road) code wanted crews (treeYards (decode tree)) (answer i limit .listed)
+    pub first-yards : FirstYards (net road) code goal crews (treeYards (decode tree)) (answer i limit .listed)
     unfolding searchOf entry
     first-yards = record {
       sorted = l .sorted;
@@ -79,4 +79,4 @@ module _ (road tree : List ℕ) (code wanted : ℕ) (crews : List ℕ) (p : Pass
         c = run-complete i sound limit (rw (answer-settled i limit) at t)
 
         ys : TreeYards i (treeYards (decode tree))
-        ys = tree-yards i (accepted-of road tree code wanted crews p)
+        ys = tree-yards i (accepted-of road tree code goal crews p)

@@ -12,8 +12,8 @@ use Rattle.tree.specs.Shape.{treeRefusal}
 use Rattle.search_rules.specs.Instance.{Instance}
 
 -- of the tree book's tree, with the road book's distances
-unfoldable pub searchOf : (road tree : List ℕ) → (code wanted : ℕ) → List ℕ → Instance
-searchOf road tree code wanted crews = record { code = code; wanted = wanted; crews = crews; tree = decode tree; d = dist road }
+unfoldable pub searchOf : (road tree : List ℕ) → (code k : ℕ) → List ℕ → Instance
+searchOf road tree code k crews = record { code = code; k = k; crews = crews; tree = decode tree; d = dist road }
 
 -- what the tests give of the two books and the crews
 pub record Passed (road tree crews : List ℕ) : Type 0 where

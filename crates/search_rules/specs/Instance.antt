@@ -11,7 +11,7 @@ use Rattle.tree.specs.Yards.{childrenOf}
 -- stand at one junction and both count"), the tree, and d u v, "the least total of seconds over all walks from u to v".
 pub record Instance : Type 0 where
   pub code : ℕ
-  pub wanted : ℕ
+  pub k : ℕ
   pub crews : List ℕ
   pub tree : Tree
   pub d : ℕ → ℕ → ℕ

@@ -113,7 +113,7 @@ module _ (i : Instance) where
     yardKeys = set (st .yardKeys) y unqueued;
     firsts = st .firsts;
     gone = st .gone;
-    held = hold (i .wanted) (entry i y) (st .held);
+    held = hold (i .k) (entry i y) (st .held);
     measured = y ∷ st .measured;
   }
 
@@ -144,7 +144,7 @@ module _ (i : Instance) where
 
   -- "The search is settled when the queue is empty, or k are held and every queued key is above the greatest held distance."
   unfoldable pub settled : State → Bool
-  settled st = not (queued (leastKey st)) || (eqb (length (st .held)) (i .wanted) && ltb (greatestHeld (st .held)) (leastKey st))
+  settled st = not (queued (leastKey st)) || (eqb (length (st .held)) (i .k) && ltb (greatestHeld (st .held)) (leastKey st))
 
   -- "The queue starts with the root."
   unfoldable pub start : State

@@ -42,18 +42,18 @@ pub record Listing (i : Instance) (list : List Element) : Type 0 where
   pub distances : (h : Element) → Mem h list → h .distance ≡ total i (h .yard)
   pub distinct : (h g : Element) → Mem h list → Mem g list → h .yard ≡ g .yard → h ≡ g
   pub in-tree : (h : Element) → Mem h list → Below i 0 (h .yard)
-  pub few : length list ≤ i .wanted
+  pub few : length list ≤ i .k
   -- the greatest distance is the last one's
   pub greatest : (h : Element) → Mem h list → h .distance ≤ greatestHeld list
 
 -- the list has the first k of the tree's yards in yard order, or all if there are fewer
 pub record Complete (i : Instance) (list : List Element) : Type 0 where
   -- a yard of the tree is listed, or k are and it comes after every one of them
-  pub rest : (y : ℕ) → Below i 0 y → Mem (entry i y) list ⊎ Out (i .wanted) list (entry i y)
+  pub rest : (y : ℕ) → Below i 0 y → Mem (entry i y) list ⊎ Out (i .k) list (entry i y)
   -- their number is the lesser of k and the number of the tree's yards
-  pub number : (ys : List ℕ) → TreeYards i ys → length list ≡ min (i .wanted) (length ys)
+  pub number : (ys : List ℕ) → TreeYards i ys → length list ≡ min (i .k) (length ys)
   -- as an equation
-  pub exact : (ys : List ℕ) → TreeYards i ys → list ≡ take (i .wanted) (ranked i ys)
+  pub exact : (ys : List ℕ) → TreeYards i ys → list ≡ take (i .k) (ranked i ys)
 
 -- ---- keys
 
@@ -95,7 +95,7 @@ pub record Bounded (i : Instance) : Type 0 where
 pub record Decided (i : Instance) (limit : ℕ) : Type 0 where
   pub listing : Listing i (run i limit .state .held)
   -- the held yards are the first k of the measured yards, of which none is measured twice, and each is a yard of the tree
-  pub held : run i limit .state .held ≡ take (i .wanted) (ranked i (run i limit .state .measured))
+  pub held : run i limit .state .held ≡ take (i .k) (ranked i (run i limit .state .measured))
   pub measured-once : Distinct (run i limit .state .measured)
   pub measured-in : (y : ℕ) → Mem y (run i limit .state .measured) → Below i 0 y
   pub measured-few : (ys : List ℕ) → TreeYards i ys → length (run i limit .state .measured) ≤ length ys
@@ -114,6 +114,6 @@ pub record Right (i : Instance) (limit : ℕ) : Type 0 where
   pub complete : Complete i (run i limit .state .held)
   -- every measured yard was queued with a key, and if k are held, neither its key nor its bound is above the last held distance
   pub keyed : (y : ℕ) → Mem y (run i limit .state .measured) → (a : ℕ) × KeyOf i (run i limit .state .firsts) y a
-  pub key-within : length (run i limit .state .held) ≡ i .wanted → (y a : ℕ) → Mem y (run i limit .state .measured) → KeyOf i (run i limit .state .firsts) y a → a ≤ greatestHeld (run i limit .state .held)
-  pub bound-within : length (run i limit .state .held) ≡ i .wanted → (r : ℕ) (e : Element) → T (leaf i r) → r < size i → Mem e (chosen i r .list) → Mem (e .yard) (run i limit .state .measured)
+  pub key-within : length (run i limit .state .held) ≡ i .k → (y a : ℕ) → Mem y (run i limit .state .measured) → KeyOf i (run i limit .state .firsts) y a → a ≤ greatestHeld (run i limit .state .held)
+  pub bound-within : length (run i limit .state .held) ≡ i .k → (r : ℕ) (e : Element) → T (leaf i r) → r < size i → Mem e (chosen i r .list) → Mem (e .yard) (run i limit .state .measured)
       → yardBound i (chosen i r) e ≤ greatestHeld (run i limit .state .held)

@@ -40,14 +40,14 @@ pub record Runs (i : Instance) (r n : ℕ) (words : List ℕ) (st : State) (take
   pub counts : taken ≡ run i taken .taken
 
 -- what the steps change: of the search by every road book beside which it is ready, and within the limit and the room
-pub record Steps (tree : List ℕ) (code wanted : ℕ) (crews drives places sheet : List ℕ) (limit room : ℕ) (words measured : List ℕ)
+pub record Steps (tree : List ℕ) (code goal : ℕ) (crews drives places sheet : List ℕ) (limit room : ℕ) (words measured : List ℕ)
     (progress : Progress) (taken : ℕ) : Type 0 where
   pub size : length words ≡ wordCount (length places) (junctionCount tree)
   pub same : length measured ≡ room
-  pub runs : (road : List ℕ) → Ready road tree code wanted crews drives places sheet
-      → Runs (searchOf road tree code wanted crews) (length places) (junctionCount tree) words
+  pub runs : (road : List ℕ) → Ready road tree code goal crews drives places sheet
+      → Runs (searchOf road tree code goal crews) (length places) (junctionCount tree) words
       (stateOf (length places) (junctionCount tree) words (progress .held) measured (progress .measured)) taken
-  pub few : progress .held .count ≤ wanted
+  pub few : progress .held .count ≤ goal
   pub most : progress .measured ≤ 256
   pub within : taken ≤ limit
 
@@ -55,9 +55,9 @@ pub record Steps (tree : List ℕ) (code wanted : ℕ) (crews drives places shee
 pub least-of : (r n : ℕ) (ws : List ℕ) (queue p : ℕ) → queue ≡ r + n → length ws ≡ wordCount r n → p ≡ pick (take queue ws) (length (take queue ws)) → Least r n ws p
 least-of r n ws queue p e s h = h ∙ (ap (pick (take queue ws)) (length-take-le queue ws (omega arith) ∙ e) ∙ rw (e, part-all ws (r + n)) refl)
 
-module _ {tree : List ℕ} {code wanted : ℕ} {crews drives places sheet : List ℕ} {limit room : ℕ} {words measured : List ℕ} {progress : Progress} {taken : ℕ}
-    (steps : Steps tree code wanted crews drives places sheet limit room words measured progress taken)
-    (p : ℕ) (e : Least (length places) (junctionCount tree) words p) (b : Bool) (q : b ≡ settledBy wanted (getD words p 0) (progress .held)) where
+module _ {tree : List ℕ} {code goal : ℕ} {crews drives places sheet : List ℕ} {limit room : ℕ} {words measured : List ℕ} {progress : Progress} {taken : ℕ}
+    (steps : Steps tree code goal crews drives places sheet limit room words measured progress taken)
+    (p : ℕ) (e : Least (length places) (junctionCount tree) words p) (b : Bool) (q : b ≡ settledBy goal (getD words p 0) (progress .held)) where
   abbrev r : ℕ
   r = length places
 
@@ -67,9 +67,9 @@ module _ {tree : List ℕ} {code wanted : ℕ} {crews drives places sheet : List
   abbrev st : State
   st = stateOf r n words (progress .held) measured (progress .measured)
 
-  module _ (road : List ℕ) (ready : Ready road tree code wanted crews drives places sheet) where
+  module _ (road : List ℕ) (ready : Ready road tree code goal crews drives places sheet) where
     abbrev i : Instance
-    i = searchOf road tree code wanted crews
+    i = searchOf road tree code goal crews
 
     abbrev s : Runs i r n words st taken
     s = steps .runs road ready
@@ -77,10 +77,10 @@ module _ {tree : List ℕ} {code wanted : ℕ} {crews drives places sheet : List
     -- what the test says
     settled-is : b ≡ settled i st
     settled-is =
-        q ∙ (ap (λ (w : ℕ). settledBy wanted w (progress .held))
+        q ∙ (ap (λ (w : ℕ). settledBy goal w (progress .held))
         (picked-word r n words (steps .size) (some-region ready) (some-junction ready) i (regions-of ready) (junctions-are ready)
         (progress .held) measured (progress .measured) p e)
-        ∙ (ap (λ (k : ℕ). settledBy k (leastKey i st) (progress .held)) (sym (ap (λ (z : Instance). z .wanted) (search-of road tree code wanted crews)))
+        ∙ (ap (λ (k : ℕ). settledBy k (leastKey i st) (progress .held)) (sym (ap (λ (z : Instance). z .k) (search-of road tree code goal crews)))
         ∙ settled-of i r n words (progress .held) measured (progress .measured)))
 
     -- one step more is taken
@@ -104,7 +104,7 @@ module _ {tree : List ℕ} {code wanted : ℕ} {crews drives places sheet : List
     ends-settled z =
         let t : T (settled i (run i taken .state)) = rw (s .is) at (true-T (sym settled-is ∙ z)) in
         let l : taken + (limit - taken) ≡ limit = omega (arith, steps .within) in
-        let o : run i limit ≡ run i taken = rw l at (decided i (well road tree code wanted crews drives places sheet ready) taken .stays t (limit - taken)) in
+        let o : run i limit ≡ run i taken = rw l at (decided i (well road tree code goal crews drives places sheet ready) taken .stays t (limit - taken)) in
         answer-is i limit r n words measured (record { held = progress .held; measured = progress .measured; taken = taken; settled = true })
         (s .is ∙ sym (ap (λ (x : Ended). x .state) o))
         (s .counts ∙ sym (ap (λ (x : Ended). x .taken) o))
@@ -118,12 +118,12 @@ module _ {tree : List ℕ} {code wanted : ℕ} {crews drives places sheet : List
 
   pub steps-on : b ≡ false → (taken ≡ limit → ⊥) → (words′ measured′ : List ℕ) (progress′ : Progress) → length words′ ≡ length words
       → length measured′ ≡ length measured
-      → ((road : List ℕ) → Ready road tree code wanted crews drives places sheet
-      → Cached (searchOf road tree code wanted crews) (picksIn r n words′) (fsIn r n words′) (boundsIn r n words′))
-      → ((road : List ℕ) → Ready road tree code wanted crews drives places sheet
-      → stateOf r n words′ (progress′ .held) measured′ (progress′ .measured) ≡ step (searchOf road tree code wanted crews) st)
-      → (progress′ .held .count ≤ wanted) × (progress′ .measured ≤ 256)
-      → Steps tree code wanted crews drives places sheet limit room words′ measured′ progress′ (taken + 1)
+      → ((road : List ℕ) → Ready road tree code goal crews drives places sheet
+      → Cached (searchOf road tree code goal crews) (picksIn r n words′) (fsIn r n words′) (boundsIn r n words′))
+      → ((road : List ℕ) → Ready road tree code goal crews drives places sheet
+      → stateOf r n words′ (progress′ .held) measured′ (progress′ .measured) ≡ step (searchOf road tree code goal crews) st)
+      → (progress′ .held .count ≤ goal) × (progress′ .measured ≤ 256)
+      → Steps tree code goal crews drives places sheet limit room words′ measured′ progress′ (taken + 1)
   steps-on z l words′ measured′ progress′ sw sm c t f = record {
     size = sw ∙ steps .size;
     same = sm ∙ steps .same;

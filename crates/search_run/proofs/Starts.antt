@@ -46,10 +46,10 @@ cached-none i r n er en = record {
     marked : (v : ℕ) → v < size i → getD (replicate r unqueued) v 0 ≡ unopened
     marked v k = getD-replicate r v unqueued 0 (omega arith)
 
-module _ {road tree : List ℕ} {code wanted : ℕ} {crews drives places sheet : List ℕ} (ready : Ready road tree code wanted crews drives places sheet)
+module _ {road tree : List ℕ} {code goal : ℕ} {crews drives places sheet : List ℕ} (ready : Ready road tree code goal crews drives places sheet)
     (words : List ℕ) (held : Held) (measured : List ℕ) where
   abbrev i : Instance
-  i = searchOf road tree code wanted crews
+  i = searchOf road tree code goal crews
 
   abbrev r : ℕ
   r = length places
@@ -70,7 +70,7 @@ module _ {road tree : List ℕ} {code wanted : ℕ} {crews drives places sheet :
     start-state : stateOf r n words held measured 0 ≡ run i 0 .state
     start-state =
         state-by start-parts held measured 0
-        ∙ (rw (none, newest-none measured, bound-of road tree code wanted crews (ready .passed) (landmarkCount tree) sheet (ready .sheeted) 0 key refl,
+        ∙ (rw (none, newest-none measured, bound-of road tree code goal crews (ready .passed) (landmarkCount tree) sheet (ready .sheeted) 0 key refl,
         ← regions-of ready, ← junctions-are ready) refl
         ∙ sym (ap (λ (o : Ended). o .state) (run-start i) ∙ start-is i))
 
@@ -81,14 +81,14 @@ module _ {road tree : List ℕ} {code wanted : ℕ} {crews drives places sheet :
       counts = sym (ap (λ (o : Ended). o .taken) (run-start i));
     }
 
-pub steps-start : (tree : List ℕ) (code wanted : ℕ) (crews drives places sheet : List ℕ) (limit : ℕ) (words₀ words : List ℕ) (held : Held) (measured : List ℕ)
+pub steps-start : (tree : List ℕ) (code goal : ℕ) (crews drives places sheet : List ℕ) (limit : ℕ) (words₀ words : List ℕ) (held : Held) (measured : List ℕ)
     → words₀ ≡ replicate (wordCount (length places) (junctionCount tree)) unqueued
     → words ≡ putRoot (length places) (junctionCount tree)
     (rowsBound sheet (landmarkCount tree) code crews (regionAt (decode tree .regions) 0 .marks)) words₀
     → (heldOf held ≡ []) × (held .count ≡ 0)
-    → Steps tree code wanted crews drives places sheet limit (length measured) words measured (record { held = held; measured = 0 }) 0
+    → Steps tree code goal crews drives places sheet limit (length measured) words measured (record { held = held; measured = 0 }) 0
 unfolding putRoot
-steps-start tree code wanted crews drives places sheet limit words₀ words held measured z e h = record {
+steps-start tree code goal crews drives places sheet limit words₀ words held measured z e h = record {
   size = long;
   same = refl;
   runs = λ road ready. starts ready words held measured (rw z at e) (h .0);

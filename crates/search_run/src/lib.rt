@@ -72,14 +72,14 @@ fn steps(
     words: &mut [u64],
     measured: &mut [u16],
 ) -> Outcome
-    requires { ⌜ Readied (now tree) (asked .aggregate) (asked .wanted) (now crews) (now drives) (now places) (now sheet)
-        × Ended (now tree) (now ends) × (asked .wanted ≤ 64) × (256 ≤ length (now measured))
+    requires { ⌜ Readied (now tree) (asked .aggregate) (asked .k) (now crews) (now drives) (now places) (now sheet)
+        × Ended (now tree) (now ends) × (asked .k ≤ 64) × (256 ≤ length (now measured))
         × (now words ≡ replicate (wordCount (length (now places)) (junctionCount (now tree))) unqueued) ⌝ }
     ensures answer { λ o. ⌜ ((road : List ℕ)
-        → Ready road (now (tree .entry)) (asked .aggregate) (asked .wanted)
+        → Ready road (now (tree .entry)) (asked .aggregate) (asked .k)
         (now (crews .entry)) (now (drives .entry)) (now (places .entry)) (now (sheet .entry))
-        → answerOf o ≡ answer (searchOf road (now (tree .entry)) (asked .aggregate) (asked .wanted) (now (crews .entry))) (asked .limit)) ⌝ }
-    ensures room { λ o. ⌜ (o .held .count ≤ asked .wanted) × (o .measured ≤ 256) ⌝ }
+        → answerOf o ≡ answer (searchOf road (now (tree .entry)) (asked .aggregate) (asked .k) (now (crews .entry))) (asked .limit)) ⌝ }
+    ensures room { λ o. ⌜ (o .held .count ≤ asked .k) × (o .measured ≤ 256) ⌝ }
 {
     queue_root(tree, places, sheet, crews, asked.aggregate, words);
     let h = records::header(tree);
@@ -92,7 +92,7 @@ fn steps(
     loop {
         let p = search_queue::pick(&words[..queue]);
         let held = progress.held;
-        if search_state::settled(words[p], held, asked.wanted as usize) {
+        if search_state::settled(words[p], held, asked.k as usize) {
             return Outcome {
                 held,
                 measured: progress.measured,
@@ -125,13 +125,13 @@ pub fn run(
     crews: &[u16],
     asked: Query,
 ) -> Outcome
-    requires { ⌜ Readied (now tree) (asked .aggregate) (asked .wanted) (now crews) (now drives) (now places) (now sheet)
-        × Ended (now tree) (now ends) × (asked .wanted ≤ 64) ⌝ }
+    requires { ⌜ Readied (now tree) (asked .aggregate) (asked .k) (now crews) (now drives) (now places) (now sheet)
+        × Ended (now tree) (now ends) × (asked .k ≤ 64) ⌝ }
     ensures answer { λ o. ⌜ ((road : List ℕ)
-        → Ready road (now (tree .entry)) (asked .aggregate) (asked .wanted)
+        → Ready road (now (tree .entry)) (asked .aggregate) (asked .k)
         (now (crews .entry)) (now (drives .entry)) (now (places .entry)) (now (sheet .entry))
-        → answerOf o ≡ answer (searchOf road (now (tree .entry)) (asked .aggregate) (asked .wanted) (now (crews .entry))) (asked .limit)) ⌝ }
-    ensures room { λ o. ⌜ (o .held .count ≤ asked .wanted) × (o .measured ≤ 256) ⌝ }
+        → answerOf o ≡ answer (searchOf road (now (tree .entry)) (asked .aggregate) (asked .k) (now (crews .entry))) (asked .limit)) ⌝ }
+    ensures room { λ o. ⌜ (o .held .count ≤ asked .k) × (o .measured ≤ 256) ⌝ }
 {
     let mut words = [search_queue::UNQUEUED; MOST_WORDS];
     let mut measured = [0u16; MOST_YARDS];

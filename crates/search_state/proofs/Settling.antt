@@ -40,9 +40,9 @@ small-key a n h = omega (arith, n)
 -- ---- the definition's
 
 pub settled-of : (i : Instance) (r n : ℕ) (ws : List ℕ) (held : Held) (measured : List ℕ) (count : ℕ)
-    → settledBy (i .wanted) (leastKey i (stateOf r n ws held measured count)) held ≡ settled i (stateOf r n ws held measured count)
+    → settledBy (i .k) (leastKey i (stateOf r n ws held measured count)) held ≡ settled i (stateOf r n ws held measured count)
 unfolding settledBy stateOf
 settled-of i r n ws held measured count = by (leastKey i (stateOf r n ws held measured count)) refl
   where
-    by : (least : ℕ) → least ≡ leastKey i (stateOf r n ws held measured count) → settledBy (i .wanted) least held ≡ settled i (stateOf r n ws held measured count)
+    by : (least : ℕ) → least ≡ leastKey i (stateOf r n ws held measured count) → settledBy (i .k) least held ≡ settled i (stateOf r n ws held measured count)
     by least e = rw (settled-is, ← e, held-length) refl

@@ -38,23 +38,23 @@ pub cached-by : {i : Instance} {r n : ℕ} {words keys yards firsts picks fs bou
     → Cached i picks fs bounds → Cached i (picksIn r n words) (fsIn r n words) (boundsIn r n words)
 cached-by p c = rw (p .picks-are, p .fs-are, p .bounds-are) c
 
-module _ {road tree : List ℕ} {code wanted : ℕ} {crews drives places sheet : List ℕ} (ready : Ready road tree code wanted crews drives places sheet) where
+module _ {road tree : List ℕ} {code goal : ℕ} {crews drives places sheet : List ℕ} (ready : Ready road tree code goal crews drives places sheet) where
   abbrev i : Instance
-  i = searchOf road tree code wanted crews
+  i = searchOf road tree code goal crews
 
   -- how many regions and junctions there are
   pub regions-of : size i ≡ length places
-  regions-of = size-of road tree code wanted crews drives places sheet ready ∙ sym (ready .laid .count)
+  regions-of = size-of road tree code goal crews drives places sheet ready ∙ sym (ready .laid .count)
 
   pub junctions-are : i .tree .junctions ≡ junctionCount tree
-  junctions-are = ap (λ (z : Instance). z .tree .junctions) (search-of road tree code wanted crews) ∙ decode-junctions tree
+  junctions-are = ap (λ (z : Instance). z .tree .junctions) (search-of road tree code goal crews) ∙ decode-junctions tree
 
   module _ (v : ℕ) where
     children-at : children i v ≡ childrenOf (decode tree .regions) v
-    children-at = children-of i v ∙ ap (λ (z : Instance). childrenOf (z .tree .regions) v) (search-of road tree code wanted crews)
+    children-at = children-of i v ∙ ap (λ (z : Instance). childrenOf (z .tree .regions) v) (search-of road tree code goal crews)
 
     leaf-test : leaf i v ≡ eqb (regionAt (decode tree .regions) v .children) 0
-    leaf-test = leaf-is i v ∙ ap (λ (z : Instance). eqb (regionAt (z .tree .regions) v .children) 0) (search-of road tree code wanted crews)
+    leaf-test = leaf-is i v ∙ ap (λ (z : Instance). eqb (regionAt (z .tree .regions) v .children) 0) (search-of road tree code goal crews)
 
     module _ (f : Fields) (e : f ≡ fieldsOf tree v) where
       pub leaf-yes : f .children ≡ 0 → T (leaf i v)
@@ -98,7 +98,7 @@ module _ {road tree : List ℕ} {code wanted : ℕ} {crews drives places sheet :
         self = region-slot;
         children = λ c k. omega (
           arith,
-          well road tree code wanted crews drives places sheet ready .shape .range v c (rw children-at k),
+          well road tree code goal crews drives places sheet ready .shape .range v c (rw children-at k),
           regions-of,
         );
       }
@@ -108,7 +108,7 @@ module _ {road tree : List ℕ} {code wanted : ℕ} {crews drives places sheet :
         child-key : (c : ℕ) → keyOf tree sheet (landmarkCount tree) code crews a c ≡ max (bound i c) a
         child-key c =
             let x : ℕ = rowsBound sheet (landmarkCount tree) code crews (regionAt (decode tree .regions) c .marks) in
-            sym (key-of tree sheet (landmarkCount tree) code crews a c x (max x a) refl refl) ∙ ap (λ (w : ℕ). max w a) (bound-of road tree code wanted crews
+            sym (key-of tree sheet (landmarkCount tree) code crews a c x (max x a) refl refl) ∙ ap (λ (w : ℕ). max w a) (bound-of road tree code goal crews
             (ready .passed) (landmarkCount tree) sheet (ready .sheeted) c x refl)
 
         inner-parts : Parts r n words′ (queueChildren i a (children i v) (set (regionKeysIn r n words) v unqueued)) (yardKeysIn r n words)

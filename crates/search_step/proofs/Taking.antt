@@ -40,7 +40,7 @@ held-by k d t y l r e h = rw (← e) h
 
 -- ---- the numbers
 
-module _ {road tree : List ℕ} {code wanted : ℕ} {crews drives places sheet : List ℕ} (ready : Ready road tree code wanted crews drives places sheet) where
+module _ {road tree : List ℕ} {code goal : ℕ} {crews drives places sheet : List ℕ} (ready : Ready road tree code goal crews drives places sheet) where
   pub some-region : 0 < length places
   some-region = omega (arith, ready .laid .layout .regions .0, ready .laid .count)
 
@@ -48,7 +48,7 @@ module _ {road tree : List ℕ} {code wanted : ℕ} {crews drives places sheet :
   some-junction = ready .laid .layout .junctions .0
 
   same-junctions : junctionCount tree ≡ junctions road
-  same-junctions = sym (junctions-are ready) ∙ junctions-of road tree code wanted crews drives places sheet ready
+  same-junctions = sym (junctions-are ready) ∙ junctions-of road tree code goal crews drives places sheet ready
 
   -- a yard that is picked is a junction of the road book
   pub near : (p : ℕ) → p < length places + junctionCount tree → length places ≤ p → p - length places < junctions road
@@ -60,8 +60,8 @@ pub record Picked (tree places words : List ℕ) (p : ℕ) : Type 0 where
   pub below : p < length places + junctionCount tree
   pub small : p < 1535
 
-module _ {tree : List ℕ} {code wanted : ℕ} {crews drives places sheet : List ℕ} (readied : Readied tree code wanted crews drives places sheet) where
-  abbrev rd : Ready (readied .road) tree code wanted crews drives places sheet
+module _ {tree : List ℕ} {code goal : ℕ} {crews drives places sheet : List ℕ} (readied : Readied tree code goal crews drives places sheet) where
+  abbrev rd : Ready (readied .road) tree code goal crews drives places sheet
   rd = readied .ready
 
   pub picked : {words : List ℕ} {p : ℕ} → length words ≡ wordCount (length places) (junctionCount tree) → Least (length places) (junctionCount tree) words p
@@ -79,16 +79,16 @@ module _ {tree : List ℕ} {code wanted : ℕ} {crews drives places sheet : List
   pub yard-driven : (y : ℕ) → y < junctionCount tree → IsDriven crews drives y
   yard-driven y h = record {
     road = readied .road;
-    driven = driven-of (readied .road) tree code wanted crews drives places sheet rd;
+    driven = driven-of (readied .road) tree code goal crews drives places sheet rd;
     junction = omega (arith, same-junctions rd);
   }
 
 -- ---- what the step does
 
-module _ {road tree : List ℕ} {code wanted : ℕ} {crews drives places sheet : List ℕ} (ready : Ready road tree code wanted crews drives places sheet)
+module _ {road tree : List ℕ} {code goal : ℕ} {crews drives places sheet : List ℕ} (ready : Ready road tree code goal crews drives places sheet)
     (words : List ℕ) (held : Held) (measured : List ℕ) (count : ℕ) where
   abbrev i : Instance
-  i = searchOf road tree code wanted crews
+  i = searchOf road tree code goal crews
 
   abbrev r : ℕ
   r = length places
@@ -104,7 +104,7 @@ module _ {road tree : List ℕ} {code wanted : ℕ} {crews drives places sheet :
     u = g .unsettled
 
     formed : WellFormed i
-    formed = well road tree code wanted crews drives places sheet ready
+    formed = well road tree code goal crews drives places sheet ready
 
     word : getD words p 0 ≡ leastKey i st
     word = picked-word r n words s (some-region ready) (some-junction ready) i (regions-of ready) (junctions-are ready) held measured count p e
@@ -171,7 +171,7 @@ module _ {road tree : List ℕ} {code wanted : ℕ} {crews drives places sheet :
           )
         where
           accepted : Accepted (i .tree)
-          accepted = accepted-of road tree code wanted crews (ready .passed)
+          accepted = accepted-of road tree code goal crews (ready .passed)
 
       yard-parts : Parts r n (set words p unqueued) (regionKeysIn r n words) (set (yardKeysIn r n words) y unqueued)
           (firstsIn r n words) (picksIn r n words) (fsIn r n words) (boundsIn r n words) (goneIn r n words)
@@ -184,7 +184,7 @@ module _ {road tree : List ℕ} {code wanted : ℕ} {crews drives places sheet :
 
       pub yard-is-taken : (measured′ : List ℕ) (held′ : Held) (count′ : ℕ) → count′ ≡ count + 1
           → newest measured′ (count + 1) ≡ (p - r) ∷ newest measured count
-          → heldOf held′ ≡ hold wanted (element (totalOf road code crews (p - r)) (p - r)) (heldOf held)
+          → heldOf held′ ≡ hold goal (element (totalOf road code crews (p - r)) (p - r)) (heldOf held)
           → stateOf r n (set words p unqueued) held′ measured′ count′ ≡ step i st
       unfolding y
       yard-is-taken measured′ held′ count′ c q t =
@@ -192,8 +192,8 @@ module _ {road tree : List ℕ} {code wanted : ℕ} {crews drives places sheet :
           ∙ (rw (c, q, holds) refl
           ∙ sym (yard-step ∙ (ap (λ (x : State). takeYard i x y) (state-by (parts-of r n words) held measured count) ∙ take-yard-is i _ y)))
         where
-          holds : heldOf held′ ≡ hold (i .wanted) (entry i y) (heldOf held)
+          holds : heldOf held′ ≡ hold (i .k) (entry i y) (heldOf held)
           holds =
-              t ∙ (ap (λ (d : ℕ). hold wanted (element d y) (heldOf held)) (total-of road tree code wanted crews y)
-              ∙ (ap (λ (x : Element). hold wanted x (heldOf held)) (sym (entry-is i y))
-              ∙ ap (λ (k : ℕ). hold k (entry i y) (heldOf held)) (sym (ap (λ (z : Instance). z .wanted) (search-of road tree code wanted crews)))))
+              t ∙ (ap (λ (d : ℕ). hold goal (element d y) (heldOf held)) (total-of road tree code goal crews y)
+              ∙ (ap (λ (x : Element). hold goal x (heldOf held)) (sym (entry-is i y))
+              ∙ ap (λ (k : ℕ). hold k (entry i y) (heldOf held)) (sym (ap (λ (z : Instance). z .k) (search-of road tree code goal crews)))))

@@ -38,29 +38,29 @@ pub fn step(
     progress: Progress,
     p: usize,
 ) -> Progress
-    requires { ⌜ Readied (now tree) (asked .aggregate) (asked .wanted) (now crews) (now drives) (now places) (now sheet)
+    requires { ⌜ Readied (now tree) (asked .aggregate) (asked .k) (now crews) (now drives) (now places) (now sheet)
         × Ended (now tree) (now ends)
-        × ((road : List ℕ) → Ready road (now tree) (asked .aggregate) (asked .wanted) (now crews) (now drives) (now places) (now sheet)
-        → Going (searchOf road (now tree) (asked .aggregate) (asked .wanted) (now crews)) (length (now places)) (junctionCount (now tree)) (now words)
+        × ((road : List ℕ) → Ready road (now tree) (asked .aggregate) (asked .k) (now crews) (now drives) (now places) (now sheet)
+        → Going (searchOf road (now tree) (asked .aggregate) (asked .k) (now crews)) (length (now places)) (junctionCount (now tree)) (now words)
         (stateOf (length (now places)) (junctionCount (now tree)) (now words) (progress .held) (now measured) (progress .measured)))
         × (length (now words) ≡ wordCount (length (now places)) (junctionCount (now tree)))
         × Least (length (now places)) (junctionCount (now tree)) (now words) p
-        × (256 ≤ length (now measured)) × (progress .measured ≤ 256) × (progress .held .count ≤ asked .wanted) × (asked .wanted ≤ 64) ⌝ }
+        × (256 ≤ length (now measured)) × (progress .measured ≤ 256) × (progress .held .count ≤ asked .k) × (asked .k ≤ 64) ⌝ }
     ensures cached { λ _. ⌜ ((road : List ℕ)
-        → Ready road (now (tree .entry)) (asked .aggregate) (asked .wanted)
+        → Ready road (now (tree .entry)) (asked .aggregate) (asked .k)
         (now (crews .entry)) (now (drives .entry)) (now (places .entry)) (now (sheet .entry))
-        → Cached (searchOf road (now (tree .entry)) (asked .aggregate) (asked .wanted) (now (crews .entry)))
+        → Cached (searchOf road (now (tree .entry)) (asked .aggregate) (asked .k) (now (crews .entry)))
         (picksIn (length (now (places .entry))) (junctionCount (now (tree .entry))) (now (words .exit)))
         (fsIn (length (now (places .entry))) (junctionCount (now (tree .entry))) (now (words .exit)))
         (boundsIn (length (now (places .entry))) (junctionCount (now (tree .entry))) (now (words .exit)))) ⌝ }
     ensures state { λ o. ⌜ ((road : List ℕ)
-        → Ready road (now (tree .entry)) (asked .aggregate) (asked .wanted)
+        → Ready road (now (tree .entry)) (asked .aggregate) (asked .k)
         (now (crews .entry)) (now (drives .entry)) (now (places .entry)) (now (sheet .entry))
         → stateOf (length (now (places .entry))) (junctionCount (now (tree .entry))) (now (words .exit)) (o .held) (now (measured .exit)) (o .measured)
-        ≡ step (searchOf road (now (tree .entry)) (asked .aggregate) (asked .wanted) (now (crews .entry)))
+        ≡ step (searchOf road (now (tree .entry)) (asked .aggregate) (asked .k) (now (crews .entry)))
         (stateOf (length (now (places .entry))) (junctionCount (now (tree .entry))) (now (words .entry))
         (progress .held) (now (measured .entry)) (progress .measured))) ⌝ }
-    ensures room { λ o. ⌜ (o .held .count ≤ asked .wanted) × (o .measured ≤ 256) ⌝ }
+    ensures room { λ o. ⌜ (o .held .count ≤ asked .k) × (o .measured ≤ 256) ⌝ }
 {
     let r = places.len();
     if p < r {

@@ -31,21 +31,21 @@ aggregate-to code g road l (q ∷ qs) =
 
 -- ---- of a search of two books
 
-module _ (road tree : List ℕ) (code wanted : ℕ) (crews : List ℕ) where
+module _ (road tree : List ℕ) (code goal : ℕ) (crews : List ℕ) where
   abbrev i : Instance
-  i = searchOf road tree code wanted crews
+  i = searchOf road tree code goal crews
 
   abbrev j : Instance
-  j = record { code = code; wanted = wanted; crews = crews; tree = decode tree; d = dist road }
+  j = record { code = code; k = goal; crews = crews; tree = decode tree; d = dist road }
 
   pub total-of : (y : ℕ) → totalOf road code crews y ≡ total i y
   unfolding totalOf
-  total-of y = rw (search-of road tree code wanted crews) (sym (total-is j y))
+  total-of y = rw (search-of road tree code goal crews) (sym (total-is j y))
 
   module _ (m : Mark) (e : Element) (out : List ℕ) (o : out ≡ toCrews road (m .place) crews) where
     pub f-by : fBy code out (e .distance) ≡ f i m e
     unfolding fBy
-    f-by = rw (search-of road tree code wanted crews, o) (aggregate-to code (λ x. apart x (e .distance)) road (m .place) crews ∙ sym (f-is j m e))
+    f-by = rw (search-of road tree code goal crews, o) (aggregate-to code (λ x. apart x (e .distance)) road (m .place) crews ∙ sym (f-is j m e))
 
     module _ (sheet : List ℕ) (rows : ℕ) (low : (q : ℕ) → Mem q crews → rowsLower sheet rows (e .yard) q ≡ lower i (e .yard) q) where
       abbrev g : ℕ → ℕ
@@ -64,11 +64,11 @@ module _ (road tree : List ℕ) (code wanted : ℕ) (crews : List ℕ) where
       whole = first (length crews) (omega arith) ∙ ap (aggregate code g) (take-all (length crews) crews (omega arith))
 
       pub bound-by : yardBoundBy code sheet rows crews out (e .yard) (e .distance) (length crews) ≡ yardBound i m e
-      bound-by = whole ∙ alike ∙ sym (yard-bound-is j m e) ∙ sym (ap (λ (z : Instance). yardBound z m e) (search-of road tree code wanted crews))
+      bound-by = whole ∙ alike ∙ sym (yard-bound-is j m e) ∙ sym (ap (λ (z : Instance). yardBound z m e) (search-of road tree code goal crews))
         where
           alike : aggregate code g crews ≡ aggregate code (λ q. max (lower j (e .yard) q) (apart (dist road (m .place) q) (e .distance))) crews
           alike = aggregate-same code g (λ q. max (lower j (e .yard) q) (apart (dist road (m .place) q) (e .distance))) crews
-              (λ q k. ap (λ (z : Instance). max (lower z (e .yard) q) (apart (dist road (m .place) q) (e .distance))) (search-of road tree code wanted crews))
+              (λ q k. ap (λ (z : Instance). max (lower z (e .yard) q) (apart (dist road (m .place) q) (e .distance))) (search-of road tree code goal crews))
 
     -- under the search's sheet
     pub bound-of : (rows : ℕ) (sheet : List ℕ) → Sheet i rows sheet → e .yard < i .tree .junctions → ((q : ℕ) → Mem q crews → q < i .tree .junctions)

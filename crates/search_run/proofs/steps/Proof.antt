@@ -13,7 +13,7 @@ use Rattle.search_run.proofs.steps.Statement.{statement}
 use Rattle.search_run.proofs.steps.Tie as tie
 
 abbrev Inv-loop : tie.InvT-loop
-Inv-loop tree places ends sheet drives crews asked words₀ measured₀ queue progress₀ taken₀ words measured progress taken = (queue ≡ length places + junctionCount tree) × Steps tree (asked .aggregate) (asked .wanted) crews drives places sheet (asked .limit) (length measured₀) words measured progress taken
+Inv-loop tree places ends sheet drives crews asked words₀ measured₀ queue progress₀ taken₀ words measured progress taken = (queue ≡ length places + junctionCount tree) × Steps tree (asked .aggregate) (asked .k) crews drives places sheet (asked .limit) (length measured₀) words measured progress taken
 
 abbrev μ-loop : tie.MeasureT-loop
 μ-loop tree places ends sheet drives crews asked words₀ measured₀ queue progress₀ taken₀ words measured progress taken = asked .limit - taken
