@@ -1,4 +1,4 @@
--- What is searched: a tree, the crews, the aggregate, how many yards are wanted, and the distance. Assumes nothing: these are definitions.
+-- What is searched: a tree, the crews, the aggregate, k, and the distance. Assumes nothing: these are definitions.
 use mathlib.Core.Bool.{Bool}
 use mathlib.Core.List.{List}
 use Prim.Native.Nat.{ℕ}
@@ -7,7 +7,7 @@ use lib.Dec.{eqb}
 use Rattle.tree_layout.specs.Values.{Mark, Tree, regionAt}
 use Rattle.tree.specs.Yards.{childrenOf}
 
--- The aggregate's code (0 is the sum, 1 the maximum), how many yards are wanted (01's k), the crews' junctions (query vertices; "two crews may
+-- The aggregate's code (0 is the sum, 1 the maximum), k (how many yards are listed at most), the crews' junctions (query vertices; "two crews may
 -- stand at one junction and both count"), the tree, and d u v, "the least total of seconds over all walks from u to v".
 pub record Instance : Type 0 where
   pub code : ℕ
