@@ -19,7 +19,7 @@ use Rattle.tree.proofs.Theorems.{tree-facts}
 use Rattle.tree.proofs.Answering.{accepted-laid, accepted-slots, accepted-room, accepted-ends}
 use Rattle.query.specs.Query.{crewCount, crewsOf, aggregateOf, kOf, limitOf, queryOf}
 use Rattle.query.specs.declared.Query.{Query}
-use Rattle.query.proofs.Reading.{asked-aggregate, asked-wanted, asked-limit, asked-crews}
+use Rattle.query.proofs.Reading.{asked-aggregate, asked-k, asked-limit, asked-crews}
 use Rattle.search_rules.specs.Books.{searchOf, Passed}
 use Rattle.search_rules.specs.Run.{answer}
 use Rattle.search_sheet.specs.Filling.{rootPlaces}
@@ -58,16 +58,16 @@ module _ (road tree query : List ℕ) (work results : ℕ) (a : Accepted road tr
     crews-count : asked .crews ≡ crewCount query
     crews-count = ap (λ (q : Query). q .crews) read ∙ asked-crews query
 
-    wanted-is : asked .wanted ≡ kOf query
-    wanted-is = ap (λ (q : Query). q .wanted) read ∙ asked-wanted query
+    wanted-is : asked .k ≡ kOf query
+    wanted-is = ap (λ (q : Query). q .k) read ∙ asked-k query
 
     pub few-crews : asked .crews ≤ 16
     few-crews = omega (arith, crews-count, a .asked .few-crews)
 
-    pub few-wanted : asked .wanted ≤ 64
-    few-wanted = omega (arith, wanted-is, a .asked .few-wanted)
+    pub few-wanted : asked .k ≤ 64
+    few-wanted = omega (arith, wanted-is, a .asked .few-k)
 
-    pub results-room : 2 * asked .wanted ≤ results
+    pub results-room : 2 * asked .k ≤ results
     results-room = omega (arith, wanted-is, a .results-full)
 
     module _ (q : ℕ) (count : q ≡ asked .crews) (copied : List ℕ) (crews : take (crewCount query) copied ≡ crewsOf query) where
@@ -75,7 +75,7 @@ module _ (road tree query : List ℕ) (work results : ℕ) (a : Accepted road tr
       crews-are = let e : q ≡ crewCount query = count ∙ crews-count in rw e crews
 
       -- the search is the call's
-      pub same-search : answer (searchOf road tree (asked .aggregate) (asked .wanted) (take q copied)) (asked .limit) ≡ searchAnswer road tree query
+      pub same-search : answer (searchOf road tree (asked .aggregate) (asked .k) (take q copied)) (asked .limit) ≡ searchAnswer road tree query
       same-search =
           let g : asked .aggregate ≡ aggregateOf query = ap (λ (x : Query). x .aggregate) read ∙ asked-aggregate query in
           let l : asked .limit ≡ limitOf query = ap (λ (x : Query). x .limit) read ∙ asked-limit query in
@@ -97,14 +97,14 @@ module _ (road tree query : List ℕ) (work results : ℕ) (a : Accepted road tr
           r-is = regions ∙ sym (region-count tree)
 
           pub ready : (drives sheet : List ℕ) (rows : ℕ) → Rowed road (take q copied) drives → length sheet ≡ 4096 → Rowed road (rootPlaces tree) sheet
-              → rows ≡ u8At tree 11 → Ready road tree (asked .aggregate) (asked .wanted) (take q copied) drives (take r new) sheet rows
+              → rows ≡ u8At tree 11 → Ready road tree (asked .aggregate) (asked .k) (take q copied) drives (take r new) sheet rows
           ready drives sheet rows driven four rowed landmarks =
               let m : rows ≡ landmarkCount tree = landmarks ∙ sym (landmark-count tree) in
               record {
                 passed = passed;
                 driven = driven;
                 laid = accepted-laid tree (a .shape) r r-is old new wide placed;
-                sheeted = rw m (sheet-filled road tree tree-laid (a .counts) (asked .aggregate) (asked .wanted) (take q copied) sheet four rowed);
+                sheeted = rw m (sheet-filled road tree tree-laid (a .counts) (asked .aggregate) (asked .k) (take q copied) sheet four rowed);
               }
 
   -- the first entries of the arrays, one for each region

@@ -22,7 +22,7 @@ use Rattle.query.specs.Query.{kOf, queryRefusal, queryOf, queryBook, numberOf}
 use Rattle.query.specs.declared.Query.{Query}
 use Rattle.query.specs.declared.QueryBook.{QueryBook}
 use Rattle.query.specs.declared.QueryBook.the-variants.{Asked, Refused as query-refused}
-use Rattle.query.proofs.Reading.{read-asked, read-refused as query-why, number-is, asked-wanted}
+use Rattle.query.proofs.Reading.{read-asked, read-refused as query-why, number-is, asked-k}
 use Rattle.search_call.specs.Call.{treeRefusalIn, areasRefusal, searchRefusal}
 use Rattle.search_call.proofs.Refusing.{tree-turned-back, counts-differ, counts-agree, by-road, by-tree, by-query, by-areas}
 
@@ -78,8 +78,8 @@ module _ (road tree query : List ℕ) (work results : ℕ) (o : RoadBook) (e : o
           h ∙ ap numberOf on-query ∙ number-is (queryRefusal query (junctions road)) (queryOf query)
           ∙ sym (by-query road tree query work results (roads .0) (sym on-tree ∙ z) (omega (arith, x .0, x .1)))
 
-      pub areas-last : (asked : Query) → b ≡ Asked asked → (s : ℕ) → s ≡ areasRefusal (asked .wanted) work results → s ≡ searchRefusal road tree query work results
+      pub areas-last : (asked : Query) → b ≡ Asked asked → (s : ℕ) → s ≡ areasRefusal (asked .k) work results → s ≡ searchRefusal road tree query work results
       areas-last asked p s h =
           let x = read-asked (queryRefusal query (junctions road)) (queryOf query) asked (sym on-query ∙ p) in
-          let w : asked .wanted ≡ kOf query = ap (λ (y : Query). y .wanted) (sym (x .1)) ∙ asked-wanted query in
+          let w : asked .k ≡ kOf query = ap (λ (y : Query). y .k) (sym (x .1)) ∙ asked-k query in
           h ∙ ap (λ (k : ℕ). areasRefusal k work results) w ∙ sym (by-areas road tree query work results (roads .0) (sym on-tree ∙ z) (x .0))

@@ -54,5 +54,5 @@ pub fn refusal(road: &[u8], tree: &[u8], query: &[u8], work: usize, results: usi
     let QueryBook::Asked(asked) = q else {
         return query::number(q);
     };
-    areas_refusal(asked.wanted, work, results)
+    areas_refusal(asked.k, work, results)
 }
