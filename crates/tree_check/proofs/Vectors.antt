@@ -15,8 +15,10 @@ use Rattle.road.specs.Dijkstra.{at, walked, score, nearer, pick, shorten, relax
 use Rattle.road.specs.Refusal.{reached, roadRefusal}
 use Rattle.yard.specs.Yards.{yardCount, yardAt, yardsFrom, yardsOf, rises, inside, bodyRefusal, yardRefusal, yardRefusalIn}
 use Rattle.tree_layout.specs.Values.{firstDistance, lastFrom, leafMark, innerMark, noRegion, regionAt}
-use Rattle.tree_layout.specs.Decode.{elementAt, readList, listPart, readLists, readSpans, readMarks, markSize, recordSize, sizeAt, readRegion, readRegions, junctionCount, regionCount, yardCount as tree_layout-yardCount, landmarkCount, decode}
-use Rattle.tree_layout.specs.Refusal.{between, all, recordsOk, near, comes, risesFrom, rises as tree_layout-rises, listOk, markOk, childrenOk, regionOk, valuesOk, layoutRefusal as tree_layout-layoutRefusal}
+use Rattle.tree_layout.specs.Decode.{elementAt, readList, listPart, readLists, readSpans, readMarks, markSize, recordSize, sizeAt, readRegion, readRegions}
+use Rattle.tree_layout.specs.Decode.{junctionCount, regionCount, yardCount as tree_layout-yardCount, landmarkCount, decode}
+use Rattle.tree_layout.specs.Refusal.{between, all, recordsOk, near, comes, risesFrom, rises as tree_layout-rises, listOk, markOk, childrenOk, regionOk}
+use Rattle.tree_layout.specs.Refusal.{valuesOk, layoutRefusal as tree_layout-layoutRefusal}
 use Rattle.tree_leaf.specs.Leaf.{yardsIn, names, once, inRange, namedBy, firstList, sameYards, agreeing, leafOk}
 use Rattle.tree.specs.Shape.{childFits, siblings, subtree, shaped, treeRefusal}
 use Rattle.tree.specs.Yards.{endOf, levelBy, ownYards, yardsFrom as tree-yardsFrom, yardsBelow, treeYards}

@@ -43,7 +43,7 @@ loop-holds c =
     (omega arith, omega arith, simp sub-zero (s .pre .0), simp sub-zero, s .pre .3)
 
 list-requires-2 : tie.Need-list-requires-2 Inv-loop μ-loop
-list-requires-2 c κs = room _ _ _ _ _ (c .loop-test .taken) (c .before .loop .inv .2) .0
+list-requires-2 c κs = omega (arith, room _ _ _ _ _ (c .loop-test .taken) (c .before .loop .inv .2) .0, c .before .loop .inv .1)
 
 same-yards-requires : tie.Need-same-yards-requires Inv-loop μ-loop
 same-yards-requires c κs =
@@ -53,7 +53,7 @@ same-yards-requires c κs =
     let one = c .before .before .before .before .list .ensures in
     let two = c .before .list2 .ensures in (
       part-room _ _ _ _ one (first-room (c .before .before .before .before .before)),
-      part-room _ _ _ _ two (room _ _ _ _ _ (l .loop-test .taken) (l .before .loop .inv .2) .0),
+      part-room _ _ _ _ two (omega (arith, room _ _ _ _ _ (l .loop-test .taken) (l .before .loop .inv .2) .0, l .before .loop .inv .1)),
       s .pre .2,
       i .4,
       part-fits _ _ _ _ one _ _ (s .pre .4),
