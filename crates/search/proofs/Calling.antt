@@ -42,7 +42,7 @@ module _ {road tree adj places ends : List ℕ} (d : District road tree adj plac
   query-back why s p h =
       let x = read-refused (queryRefusal query (junctions road)) (queryOf query) why (sym on-query ∙ p) in
       let q : s ≡ queryRefusal query (junctions road) =
-        h ∙ ap numberOf on-query ∙ number-is (queryRefusal query (junctions road)) (queryOf query) in
+      h ∙ ap numberOf on-query ∙ number-is (queryRefusal query (junctions road)) (queryOf query) in
       (q ∙ sym (by-query road tree query work results (d .roads) tree-none (omega (arith, x .0, x .1))), λ z. omega (arith, q, x .0, x .1))
 
   module _ (asked : Query) (p : b ≡ Asked asked) where

@@ -12,13 +12,14 @@ use Rattle.search_rules.specs.Run.{Answer, words}
 use Rattle.search_held.specs.Pairs.{heldOf}
 use Rattle.search_held.proofs.Pairing.{held-length}
 use Rattle.search_run.specs.declared.Outcome.{Outcome}
-use Rattle.search_run.specs.Answer.{answerOf}
+use Rattle.search_run.specs.Answers.{answerOf}
 use Rattle.search_call.specs.Call.{Found, accepted}
 use Rattle.search_call.proofs.Calls.{accepted-is}
 use Rattle.search.specs.Found.{foundOf, writtenBy}
 
 same-found : (s l t m s′ l′ t′ m′ : ℕ) → s ≡ s′ → l ≡ l′ → t ≡ t′ → m ≡ m′
-    → _≡_ {A = Found} (record { refusal = 0; settled = s; listed = l; taken = t; measured = m }) (record { refusal = 0; settled = s′; listed = l′; taken = t′; measured = m′ })
+    → _≡_ {A = Found} (record { refusal = 0; settled = s; listed = l; taken = t; measured = m })
+    (record { refusal = 0; settled = s′; listed = l′; taken = t′; measured = m′ })
 same-found s l t m s′ l′ t′ m′ e f g h = rw (e, f, g, h) refl
 
 -- ---- of an outcome
@@ -37,7 +38,8 @@ module _ (o : Outcome) where
   unfolding foundOf answerOf
   settled-found n m z f e =
       let t : T (o .settled) = true-T z in
-      same-found 1 n (o .taken) m _ _ _ _ (sym (choose-yes (o .settled) 1 0 t)) (f ∙ sym (ap length (choose-yes (o .settled) (heldOf (o .held)) [] t) ∙ held-length (o .held))) refl e
+      same-found 1 n (o .taken) m _ _ _ _ (sym (choose-yes (o .settled) 1 0 t))
+      (f ∙ sym (ap length (choose-yes (o .settled) (heldOf (o .held)) [] t) ∙ held-length (o .held))) refl e
       ∙ sym (accepted-is (answerOf o))
 
   pub spent-written : (results : List ℕ) → o .settled ≡ false → results ≡ writtenBy (answerOf o) results
@@ -48,7 +50,8 @@ module _ (o : Outcome) where
   unfolding writtenBy answerOf
   settled-written results out z e =
       let t : T (o .settled) = true-T z in
-      e ∙ ap (λ (l : List Element). write results 0 (words l)) (sym (choose-yes (o .settled) (heldOf (o .held)) [] t)) ∙ sym (choose-yes (o .settled) _ results t)
+      e ∙ ap (λ (l : List Element). write results 0 (words l)) (sym (choose-yes (o .settled) (heldOf (o .held)) [] t))
+      ∙ sym (choose-yes (o .settled) _ results t)
 
 -- what is reported of them
 pub found-so : (f : Found) (a b : Answer) → f ≡ accepted a → a ≡ b → f ≡ accepted b

@@ -8,7 +8,8 @@ use Rattle.search.specs.declared.Found.{Found as Returned}
 
 -- the returned words, as the definition of a call has them
 unfoldable pub foundOf : Returned → Found
-foundOf r = record { refusal = r .refusal; settled = r .settled; listed = r .listed; taken = r .taken; measured = r .measured }
+foundOf r =
+    record { refusal = r .refusal; settled = r .settled; listed = r .listed; taken = r .taken; measured = r .measured }
 
 -- "Settled writes (yard, distance) words into the result area and nothing after them; spent writes nothing there."
 unfoldable pub writtenBy : Answer → List ℕ → List ℕ

@@ -9,7 +9,7 @@ ghost use Prim.Native.Nat.{ℕ, _*_, _≤_};
 ghost use lib.ListN.{length};
 ghost use Rattle.work_area.specs.Work.{workWords, zeroed};
 ghost use Rattle.query.specs.Query.{queryOf};
-ghost use Rattle.search_run.specs.Answer.{answerOf};
+ghost use Rattle.search_run.specs.Answers.{answerOf};
 ghost use Rattle.search_call.specs.Call.{accepted, searchAnswer};
 ghost use Rattle.search_call.specs.Accepted.{Accepted};
 ghost use Rattle.search.specs.District.{District, IsDistrict};
@@ -73,8 +73,22 @@ pub fn search(
     query::crews(query, &mut crews);
     let q = asked.crews as usize;
     let mut sheet = [0u32; sheet::WORDS];
-    sheet::prepare(adj, tree, &crews[..q], &mut sheet, &mut work[..work_area::WORDS]);
-    let o = search_run::run(tree, places, ends, &sheet, &work[..work_area::WORDS], &crews[..q], asked);
+    sheet::prepare(
+        adj,
+        tree,
+        &crews[..q],
+        &mut sheet,
+        &mut work[..work_area::WORDS],
+    );
+    let o = search_run::run(
+        tree,
+        places,
+        ends,
+        &sheet,
+        &work[..work_area::WORDS],
+        &crews[..q],
+        asked,
+    );
     work_area::zero_words(work);
     report(o, results)
 }

@@ -11,7 +11,8 @@ use Rattle.search_state.specs.State.{wordCount, firstsAt}
 
 -- "A region's key is the greater of this and its parent's key.": region c's, by the sheet's rows
 unfoldable pub keyOf : (tree sheet : List ℕ) → (rows code : ℕ) → (crews : List ℕ) → (parent c : ℕ) → ℕ
-keyOf tree sheet rows code crews parent c = max (rowsBound sheet rows code crews (regionAt (decode tree .regions) c .marks)) parent
+keyOf tree sheet rows code crews parent c =
+    max (rowsBound sheet rows code crews (regionAt (decode tree .regions) c .marks)) parent
 
 -- the words of a search of r regions and n junctions with the keys and the first keys of some regions set
 unfoldable pub putKeys : (ℕ → ℕ) → (r n : ℕ) → List ℕ → List ℕ → List ℕ

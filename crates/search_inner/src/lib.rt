@@ -4,7 +4,7 @@ use search_bounds::regions;
 use tree_layout::Region;
 use tree_layout::records;
 ghost use mathlib.Core.Path.{_≡_};
-ghost use Prim.Native.Nat.{ℕ, _<_};
+ghost use Prim.Native.Nat.{_<_};
 ghost use lib.ListN.{length, set};
 ghost use Rattle.tree_layout.specs.Decode.{decode, junctionCount, landmarkCount};
 ghost use Rattle.tree.specs.Arrays.{Laid};
@@ -25,14 +25,16 @@ fn key(
     c: Region,
     parent: u64,
 ) -> u64
-    requires { ⌜ Laid (now tree) (now places) × (c .number < length (now places)) × Rows (now sheet) rows × Crews (now crews) ⌝ }
-    ensures { λ w. ⌜ w ≡ keyOf (now (tree .entry)) (now (sheet .entry)) rows code (now (crews .entry)) parent (c .number) ⌝ }
+    requires { ⌜ Laid (now tree) (now places) × (c .number < length (now places))
+        × Rows (now sheet) rows × Crews (now crews) ⌝ }
+    ensures { λ w. ⌜ w
+        ≡ keyOf (now (tree .entry)) (now (sheet .entry)) rows code (now (crews .entry)) parent (c .number) ⌝ }
 {
     let x = regions::region_bound(tree, places, sheet, rows, code, crews, c);
     numbers::greater64(x, parent)
 }
 
-// "An inner region queues its children.": region r, whose key is a, leaves the queue, and each child's first key and word become its key.
+// "An inner region queues its children.": region r, whose key is a, leaves the queue, and each child gets its key.
 pub fn open_inner(
     tree: &[u8],
     places: &[usize],
@@ -44,12 +46,15 @@ pub fn open_inner(
     r: Region,
     a: u64,
 )
-    requires { ⌜ Laid (now tree) (now places) × Ended (now tree) (now ends) × Rows (now sheet) (landmarkCount (now tree)) × Crews (now crews)
+    requires { ⌜ Laid (now tree) (now places) × Ended (now tree) (now ends)
+        × Rows (now sheet) (landmarkCount (now tree)) × Crews (now crews)
         × Slots (now tree) (length (now places)) (junctionCount (now tree)) (now words) (r .number) ⌝ }
     ensures { λ _. ⌜ now (words .exit)
-        ≡ putKeys (keyOf (now (tree .entry)) (now (sheet .entry)) (landmarkCount (now (tree .entry))) code (now (crews .entry)) a)
+        ≡ putKeys
+        (keyOf (now (tree .entry)) (now (sheet .entry)) (landmarkCount (now (tree .entry))) code (now (crews .entry)) a)
         (length (now (places .entry))) (junctionCount (now (tree .entry)))
-        (childrenOf (decode (now (tree .entry)) .regions) (r .number)) (set (now (words .entry)) (r .number) unqueued) ⌝ }
+        (childrenOf (decode (now (tree .entry)) .regions) (r .number))
+        (set (now (words .entry)) (r .number) unqueued) ⌝ }
 {
     let h = records::header(tree);
     let rows = h.landmarks as usize;

@@ -2,7 +2,7 @@
 use mathlib.Core.Path.{_≡_, refl, sym, ap, _∙_}
 use mathlib.Core.Bool.{Bool, true, false}
 use mathlib.Core.List.{List}
-use Prim.Native.Nat.{ℕ, suc, _+_, _-_, _≤_, _<_}
+use Prim.Native.Nat.{ℕ, suc, _+_, _-_, _≤_}
 use native.Mathlib.Numerals.{add-one}
 use native.Mathlib.Omega.{arith}
 use lib.ListN.{length, getD, take}
@@ -18,8 +18,7 @@ use Rattle.search_rules.specs.Run.{Outcome as Ended, run, answer}
 use Rattle.search_rules.proofs.Equations.{search-of}
 use Rattle.search_rules.proofs.Theorems.{decided}
 use Rattle.search_rules.proofs.Turns.{run-on}
-use Rattle.search_held.specs.declared.Held.{Held}
-use Rattle.search_state.specs.State.{wordCount, part, picksIn, fsIn, boundsIn, stateOf, settledBy}
+use Rattle.search_state.specs.State.{wordCount, picksIn, fsIn, boundsIn, stateOf, settledBy}
 use Rattle.search_state.proofs.Cells.{part-all}
 use Rattle.search_state.proofs.Choosing.{picked-word}
 use Rattle.search_state.proofs.Settling.{settled-of}
@@ -29,7 +28,6 @@ use Rattle.search_step.specs.declared.Progress.{Progress}
 use Rattle.search_step.specs.Regions.{Going, Least}
 use Rattle.search_step.proofs.Opening.{regions-of, junctions-are}
 use Rattle.search_step.proofs.Taking.{some-region, some-junction}
-use Rattle.search_run.specs.declared.Outcome.{Outcome}
 use Rattle.search_run.specs.Answers.{answerOf}
 use Rattle.search_run.proofs.Answering.{answer-is}
 
@@ -52,7 +50,11 @@ pub record Steps (tree : List ℕ) (code goal : ℕ) (crews drives places sheet 
   pub within : taken ≤ limit
 
 -- the queue's words are the first ones
-pub least-of : (r n : ℕ) (ws : List ℕ) (queue p : ℕ) → queue ≡ r + n → length ws ≡ wordCount r n → p ≡ pick (take queue ws) (length (take queue ws)) → Least r n ws p
+pub queue-part : (r n queue : ℕ) (ws : List ℕ) → queue ≡ r + n → length ws ≡ wordCount r n → queue ≡ length (take queue ws)
+queue-part r n queue ws e s = sym (length-take-le queue ws (omega arith))
+
+pub least-of : (r n : ℕ) (ws : List ℕ) (queue p : ℕ) → queue ≡ r + n → length ws ≡ wordCount r n
+    → p ≡ pick (take queue ws) (length (take queue ws)) → Least r n ws p
 least-of r n ws queue p e s h = h ∙ (ap (pick (take queue ws)) (length-take-le queue ws (omega arith) ∙ e) ∙ rw (e, part-all ws (r + n)) refl)
 
 module _ {tree : List ℕ} {code goal : ℕ} {crews drives places sheet : List ℕ} {limit room : ℕ} {words measured : List ℕ} {progress : Progress} {taken : ℕ}
@@ -113,7 +115,8 @@ module _ {tree : List ℕ} {code goal : ℕ} {crews drives places sheet : List �
     -- the limit's number of steps was taken
     pub ends-limit : b ≡ false → taken ≡ limit
         → answerOf (record { held = progress .held; measured = progress .measured; taken = taken; settled = false }) ≡ answer i limit
-    ends-limit z l = rw (← l) (answer-is i taken r n words measured (record { held = progress .held; measured = progress .measured; taken = taken; settled = false })
+    ends-limit z l = rw (← l) (answer-is i taken r n words measured
+        (record { held = progress .held; measured = progress .measured; taken = taken; settled = false })
         (s .is) (s .counts) (rw (← s .is) (sym z ∙ settled-is)))
 
   pub steps-on : b ≡ false → (taken ≡ limit → ⊥) → (words′ measured′ : List ℕ) (progress′ : Progress) → length words′ ≡ length words

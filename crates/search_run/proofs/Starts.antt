@@ -5,6 +5,7 @@ use mathlib.Core.List.{List, []}
 use Prim.Native.Nat.{ℕ, _+_, _*_, _≤_, _<_}
 use native.Mathlib.Omega.{arith}
 use lib.ListN.{length, getD, take, set, replicate, length-set, length-replicate, getD-replicate}
+use lib.Seq.{length-take-le}
 use Rattle.tree_layout.specs.Values.{regionAt}
 use Rattle.tree_layout.specs.Decode.{decode, junctionCount, landmarkCount}
 use Rattle.tree_layout.specs.Reading.{headerOf}
@@ -14,22 +15,20 @@ use Rattle.tree.specs.Arrays.{Laid}
 use Rattle.tree.proofs.Fielding.{laid-few}
 use Rattle.search_rules.specs.Instance.{Instance, size}
 use Rattle.search_rules.specs.Books.{searchOf}
-use Rattle.search_rules.specs.Bounds.{bound}
 use Rattle.search_rules.specs.Queue.{unqueued}
 use Rattle.search_rules.specs.Run.{Outcome as Ended, run}
 use Rattle.search_rules.proofs.Steps.{start-is}
 use Rattle.search_rules.proofs.Turns.{run-start}
 use Rattle.search_held.specs.declared.Held.{Held}
 use Rattle.search_held.specs.Pairs.{heldOf}
-use Rattle.search_state.specs.State.{wordCount, firstsAt, picksIn, fsIn, boundsIn, stateOf}
+use Rattle.search_state.specs.State.{wordCount, firstsAt, stateOf}
 use Rattle.search_state.proofs.Cells.{Parts, parts-replicate, store-key, store-first, state-by, part-replicate, part-all}
 use Rattle.search_state.proofs.Newest.{newest-none}
 use Rattle.search_bounds.specs.Bounds.{rowsBound}
 use Rattle.search_bounds.proofs.Searching.{bound-of}
-use Rattle.search_leaf.specs.Ready.{Ready, Readied, Cached, unopened}
-use Rattle.search_step.specs.declared.Progress.{Progress}
+use Rattle.search_leaf.specs.Ready.{Ready, Cached, unopened}
 use Rattle.search_step.proofs.Opening.{cached-by, regions-of, junctions-are}
-use Rattle.search_step.proofs.Taking.{some-region, some-junction}
+use Rattle.search_step.proofs.Taking.{some-region}
 use Rattle.search_run.specs.Answers.{putRoot}
 use Rattle.search_run.proofs.Running.{Runs, Steps}
 
@@ -123,6 +122,10 @@ first-words tree places h m count e c k =
     let j : h .junctions ≡ junctionCount tree = ap (λ (x : Header). x .junctions) e ∙ header-junctions tree in
     let d : count ≡ wordCount (length places) (junctionCount tree) = omega arith in
     sym (part-all (replicate m unqueued) count) ∙ (part-replicate m unqueued 0 count (omega arith) ∙ ap (λ (l : ℕ). replicate l unqueued) d)
+
+-- how many words that is
+pub count-part : (m count : ℕ) → count ≤ m → count ≡ length (take count (replicate m unqueued))
+count-part m count k = sym (length-take-le count (replicate m unqueued) (omega (arith, length-replicate m unqueued)))
 
 pub most-words : (tree places : List ℕ) (h : Header) (count : ℕ) → Laid tree places → h ≡ headerOf tree → count ≡ 3 * length places + 4 * h .junctions
     → count ≤ 5629

@@ -14,4 +14,9 @@ putRoot r n key ws = set (set ws 0 key) (firstsAt r n) key
 
 -- "Both return taken and measured, and settled also the number of yards listed."
 unfoldable pub answerOf : Outcome → Answer
-answerOf o = record { settled = o .settled; listed = choose (o .settled) (heldOf (o .held)) []; taken = o .taken; measured = o .measured }
+answerOf o = record {
+  settled = o .settled;
+  listed = choose (o .settled) (heldOf (o .held)) [];
+  taken = o .taken;
+  measured = o .measured;
+}

@@ -7,7 +7,7 @@ use tree_layout::Region;
 use tree_layout::records;
 ghost use mathlib.Core.Path.{_≡_};
 ghost use mathlib.Core.List.{List};
-ghost use Prim.Native.Nat.{ℕ, _≤_, _<_};
+ghost use Prim.Native.Nat.{ℕ, _≤_};
 ghost use lib.ListN.{length, replicate};
 ghost use Rattle.tree_layout.specs.Values.{regionAt};
 ghost use Rattle.tree_layout.specs.Decode.{decode, junctionCount, landmarkCount};
@@ -78,7 +78,9 @@ fn steps(
     ensures answer { λ o. ⌜ ((road : List ℕ)
         → Ready road (now (tree .entry)) (asked .aggregate) (asked .k)
         (now (crews .entry)) (now (drives .entry)) (now (places .entry)) (now (sheet .entry))
-        → answerOf o ≡ answer (searchOf road (now (tree .entry)) (asked .aggregate) (asked .k) (now (crews .entry))) (asked .limit)) ⌝ }
+        → answerOf o
+        ≡ answer (searchOf road (now (tree .entry)) (asked .aggregate) (asked .k) (now (crews .entry)))
+        (asked .limit)) ⌝ }
     ensures room { λ o. ⌜ (o .held .count ≤ asked .k) × (o .measured ≤ 256) ⌝ }
 {
     queue_root(tree, places, sheet, crews, asked.aggregate, words);
@@ -130,7 +132,9 @@ pub fn run(
     ensures answer { λ o. ⌜ ((road : List ℕ)
         → Ready road (now (tree .entry)) (asked .aggregate) (asked .k)
         (now (crews .entry)) (now (drives .entry)) (now (places .entry)) (now (sheet .entry))
-        → answerOf o ≡ answer (searchOf road (now (tree .entry)) (asked .aggregate) (asked .k) (now (crews .entry))) (asked .limit)) ⌝ }
+        → answerOf o
+        ≡ answer (searchOf road (now (tree .entry)) (asked .aggregate) (asked .k) (now (crews .entry)))
+        (asked .limit)) ⌝ }
     ensures room { λ o. ⌜ (o .held .count ≤ asked .k) × (o .measured ≤ 256) ⌝ }
 {
     let mut words = [search_queue::UNQUEUED; MOST_WORDS];

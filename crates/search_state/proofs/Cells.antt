@@ -1,17 +1,17 @@
 -- The parts of a search's words: their lengths and words, and what a store changes. Assumes nothing.
-use mathlib.Core.Path.{_≡_, refl, sym, ap, _∙_}
+use mathlib.Core.Path.{_≡_, refl, ap, _∙_}
 use mathlib.Core.Bool.{Bool, true, false}
 use mathlib.Core.List.{List, [], _∷_}
-use Prim.Native.Nat.{ℕ, zero, suc, _+_, _-_, _*_, _≤_, _<_}
+use Prim.Native.Nat.{ℕ, zero, suc, _+_, _-_, _≤_, _<_}
 use native.Mathlib.Omega.{arith}
 use borrow.Author.Tests.{ne-eqb}
 use lib.ListN.{length, getD, take, drop, set, replicate, length-take, length-drop}
 use lib.Seq.{take-set-le, take-set-lt, drop-set-lt, drop-set-add, getD-take, getD-drop, drop-drop}
 use lib.Dec.{eqb}
-use Rattle.search_rules.specs.Step.{State}
 use Rattle.search_held.specs.declared.Held.{Held}
 use Rattle.search_held.specs.Pairs.{heldOf}
-use Rattle.search_state.specs.State.{wordCount, firstsAt, picksAt, fsAt, boundsAt, goneAt, part, zeros, regionKeysIn, yardKeysIn, firstsIn, picksIn, fsIn, boundsIn, goneIn, newest, stateOf}
+use Rattle.search_state.specs.State.{wordCount, firstsAt, picksAt, fsAt, boundsAt, goneAt, part, zeros, newest, stateOf}
+use Rattle.search_state.specs.State.{regionKeysIn, yardKeysIn, firstsIn, picksIn, fsIn, boundsIn, goneIn}
 
 -- ---- one part
 
@@ -202,7 +202,8 @@ store-gone {r} {n} {ws} p j v e h = record {
 
 -- every word is that of what is not queued
 pub parts-replicate : (r n x : ℕ) → (x ≡ 0 → ⊥)
-    → Parts r n (replicate (wordCount r n) x) (replicate r x) (replicate n x) (replicate r x) (replicate r x) (replicate n x) (replicate n x) (replicate n false)
+    → Parts r n (replicate (wordCount r n) x) (replicate r x) (replicate n x) (replicate r x)
+    (replicate r x) (replicate n x) (replicate n x) (replicate n false)
 parts-replicate r n x h = record {
   keys-are = part-replicate (wordCount r n) x 0 r (omega arith);
   yards-are = part-replicate (wordCount r n) x r n (omega arith);

@@ -16,7 +16,8 @@ use Rattle.search_state.specs.State.{wordCount, part, regionKeysIn, yard
 use Rattle.search_state.proofs.Cells.{part-length, part-at, parts-of, state-by}
 
 -- the least word, and of equal ones the first, is one
-pick-unique : (ws : List ℕ) (j p : ℕ) → 0 < j → p < j → ((v : ℕ) → v < j → wordAt ws p ≤ wordAt ws v) → ((v : ℕ) → v < p → wordAt ws p < wordAt ws v) → p ≡ pick ws j
+pick-unique : (ws : List ℕ) (j p : ℕ) → 0 < j → p < j → ((v : ℕ) → v < j → wordAt ws p ≤ wordAt ws v)
+    → ((v : ℕ) → v < p → wordAt ws p < wordAt ws v) → p ≡ pick ws j
 pick-unique ws j p s h low first = go (decLt p (pick ws j)) (decLt (pick ws j) p)
   where
     go : Dec (p < pick ws j) → Dec (pick ws j < p) → p ≡ pick ws j
@@ -38,12 +39,14 @@ module _ (r n : ℕ) (ws : List ℕ) (size-is : length ws ≡ wordCount r n) (so
   key-there : (v : ℕ) → v < r → wordAt all v ≡ wordAt keys v
   key-there v h =
       word-at all v 0 (omega (arith, part-length ws 0 (r + n) (omega arith)))
-      ∙ (part-at ws 0 (r + n) v v 0 (omega arith) (omega arith) ∙ (sym (part-at ws 0 r v v 0 (omega arith) h) ∙ sym (word-at keys v 0 (omega (arith, part-length ws 0 r (omega arith))))))
+      ∙ (part-at ws 0 (r + n) v v 0 (omega arith) (omega arith) ∙ (sym (part-at ws 0 r v v 0 (omega arith) h)
+      ∙ sym (word-at keys v 0 (omega (arith, part-length ws 0 r (omega arith))))))
 
   yard-there : (v : ℕ) → v < n → wordAt all (r + v) ≡ wordAt yards v
   yard-there v h =
       word-at all (r + v) 0 (omega (arith, part-length ws 0 (r + n) (omega arith)))
-      ∙ (part-at ws 0 (r + n) (r + v) (r + v) 0 (omega arith) (omega arith) ∙ (sym (part-at ws r n v (r + v) 0 refl h) ∙ sym (word-at yards v 0 (omega (arith, part-length ws r n (omega arith))))))
+      ∙ (part-at ws 0 (r + n) (r + v) (r + v) 0 (omega arith) (omega arith) ∙ (sym (part-at ws r n v (r + v) 0 refl h)
+      ∙ sym (word-at yards v 0 (omega (arith, part-length ws r n (omega arith))))))
 
   abbrev a : ℕ
   a = wordAt keys (pick keys r)
@@ -81,7 +84,9 @@ module _ (r n : ℕ) (ws : List ℕ) (size-is : length ws ≡ wordCount r n) (so
       first v k = go (decLt v r)
         where
           later : (u : ℕ) → v ≡ r + u → wordAt all (r + pick yards n) < wordAt all v
-          later u e = let w : wordAt all v ≡ wordAt yards u = rw e (yard-there u (omega (arith, inside))) in omega (arith, is, w, pick-first yards n u (omega arith))
+          later u e =
+              let w : wordAt all v ≡ wordAt yards u = rw e (yard-there u (omega (arith, inside))) in
+              omega (arith, is, w, pick-first yards n u (omega arith))
 
           go : Dec (v < r) → wordAt all (r + pick yards n) < wordAt all v
           go (yes l) = omega (arith, is, key-low v l)

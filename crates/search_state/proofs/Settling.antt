@@ -1,16 +1,15 @@
 -- When a search is settled, by its least key. Assumes nothing.
-use mathlib.Core.Path.{_≡_, refl, sym, ap, _∙_}
-use mathlib.Core.Bool.{Bool, true, false, not, _&&_, _||_}
+use mathlib.Core.Path.{_≡_, refl}
+use mathlib.Core.Bool.{true, false}
 use mathlib.Core.List.{List}
 use Prim.Native.Nat.{ℕ, _≤_, _<_}
 use native.Mathlib.Omega.{arith}
 use borrow.Author.Tests.{eq-eqb, ne-eqb}
-use lib.ListN.{length}
-use lib.Dec.{T, ltb, eqb}
+use lib.Dec.{ltb}
 use Rattle.search_rules.specs.Instance.{Instance}
-use Rattle.search_rules.specs.Queue.{unqueued, queued}
+use Rattle.search_rules.specs.Queue.{unqueued}
 use Rattle.search_rules.specs.Held.{greatestHeld}
-use Rattle.search_rules.specs.Step.{State, leastKey, settled}
+use Rattle.search_rules.specs.Step.{leastKey, settled}
 use Rattle.search_rules.proofs.Steps.{queued-yes, queued-no, settled-is}
 use Rattle.search_held.specs.declared.Held.{Held}
 use Rattle.search_held.specs.Pairs.{heldOf}
@@ -44,5 +43,6 @@ pub settled-of : (i : Instance) (r n : ℕ) (ws : List ℕ) (held : Held) (measu
 unfolding settledBy stateOf
 settled-of i r n ws held measured count = by (leastKey i (stateOf r n ws held measured count)) refl
   where
-    by : (least : ℕ) → least ≡ leastKey i (stateOf r n ws held measured count) → settledBy (i .k) least held ≡ settled i (stateOf r n ws held measured count)
+    by : (least : ℕ) → least ≡ leastKey i (stateOf r n ws held measured count)
+        → settledBy (i .k) least held ≡ settled i (stateOf r n ws held measured count)
     by least e = rw (settled-is, ← e, held-length) refl

@@ -1,7 +1,7 @@
 // A search's state in one array of words, and when it is settled.
 use search_held::Held;
 ghost use mathlib.Core.Path.{_≡_};
-ghost use Prim.Native.Nat.{ℕ, _≤_};
+ghost use Prim.Native.Nat.{_≤_};
 ghost use Rattle.search_state.specs.State.{settledBy};
 
 // Whether the queue is empty, or k are held and its least key is above the greatest held distance.

@@ -9,7 +9,6 @@ use lib.Dec.{T, eqb}
 use Rattle.book.proofs.Lists.{eq→eqb, ne→neqb}
 use Rattle.tree_layout.specs.Values.{regionAt}
 use Rattle.tree_layout.specs.Decode.{decode, junctionCount, landmarkCount}
-use Rattle.tree_layout.proofs.Places.{decode-junctions}
 use Rattle.tree.specs.Arrays.{fieldsOf}
 use Rattle.tree.specs.declared.Fields.{Fields}
 use Rattle.tree.specs.Yards.{childrenOf}
@@ -25,16 +24,17 @@ use Rattle.search_rules.proofs.Steps.{children-is as children-of}
 use Rattle.search_bounds.specs.Bounds.{rowsBound}
 use Rattle.search_bounds.proofs.Searching.{bound-of}
 use Rattle.search_held.specs.declared.Held.{Held}
-use Rattle.search_state.specs.State.{wordCount, regionKeysIn, yardKeysIn, firstsIn, picksIn, fsIn, boundsIn, goneIn, stateOf}
+use Rattle.search_state.specs.State.{regionKeysIn, yardKeysIn, firstsIn, picksIn, fsIn, boundsIn, goneIn, stateOf}
 use Rattle.search_state.proofs.Cells.{Parts, parts-of, store-key, state-by, counts-of}
 use Rattle.search_inner.specs.Children.{keyOf, putKeys, Slots}
 use Rattle.search_inner.proofs.Queueing.{key-of, put-parts}
 use Rattle.search_leaf.specs.Ready.{Ready, Cached, Leafed}
-use Rattle.search_leaf.proofs.Landmarks.{well, size-of}
+use Rattle.search_leaf.proofs.Landmarks.{well, size-of, tree-junctions}
 use Rattle.search_step.specs.Regions.{Queued}
 
 -- what is kept of the leaves, where no part that keeps it has changed
-pub cached-by : {i : Instance} {r n : ℕ} {words keys yards firsts picks fs bounds : List ℕ} {gone : List Bool} → Parts r n words keys yards firsts picks fs bounds gone
+pub cached-by : {i : Instance} {r n : ℕ} {words keys yards firsts picks fs bounds : List ℕ} {gone : List Bool}
+    → Parts r n words keys yards firsts picks fs bounds gone
     → Cached i picks fs bounds → Cached i (picksIn r n words) (fsIn r n words) (boundsIn r n words)
 cached-by p c = rw (p .picks-are, p .fs-are, p .bounds-are) c
 
@@ -47,7 +47,7 @@ module _ {road tree : List ℕ} {code goal : ℕ} {crews drives places sheet : L
   regions-of = size-of road tree code goal crews drives places sheet ready ∙ sym (ready .laid .count)
 
   pub junctions-are : i .tree .junctions ≡ junctionCount tree
-  junctions-are = ap (λ (z : Instance). z .tree .junctions) (search-of road tree code goal crews) ∙ decode-junctions tree
+  junctions-are = tree-junctions road tree code goal crews drives places sheet ready
 
   module _ (v : ℕ) where
     children-at : children i v ≡ childrenOf (decode tree .regions) v
@@ -113,8 +113,8 @@ module _ {road tree : List ℕ} {code goal : ℕ} {crews drives places sheet : L
 
         inner-parts : Parts r n words′ (queueChildren i a (children i v) (set (regionKeysIn r n words) v unqueued)) (yardKeysIn r n words)
             (queueChildren i a (children i v) (firstsIn r n words)) (picksIn r n words) (fsIn r n words) (boundsIn r n words) (goneIn r n words)
-        inner-parts = rw (e, children-at) (put-parts i a (keyOf tree sheet (landmarkCount tree) code crews a) r n (childrenOf (decode tree .regions) v) child-key
-            (inner-slots .children) (store-key (parts-of r n words) v unqueued v refl region-slot))
+        inner-parts = rw (e, children-at) (put-parts i a (keyOf tree sheet (landmarkCount tree) code crews a) r n
+            (childrenOf (decode tree .regions) v) child-key (inner-slots .children) (store-key (parts-of r n words) v unqueued v refl region-slot))
 
         pub inner-cached : Cached i (picksIn r n words′) (fsIn r n words′) (boundsIn r n words′)
         inner-cached = cached-by inner-parts (q .cached)

@@ -1,7 +1,7 @@
 -- A step of a search that is ready: which yard or region is taken, and the state that it leads to. Assumes nothing.
 use mathlib.Core.Path.{_≡_, refl, sym, ap, _∙_}
 use mathlib.Core.List.{List, _∷_}
-use Prim.Native.Nat.{ℕ, _+_, _-_, _*_, _≤_, _<_}
+use Prim.Native.Nat.{ℕ, _+_, _-_, _≤_, _<_}
 use native.Mathlib.Omega.{arith}
 use lib.ListN.{length, getD, set}
 use Rattle.road_layout.specs.Road.{junctions}
@@ -10,7 +10,7 @@ use Rattle.tree_layout.specs.Decode.{junctionCount}
 use Rattle.tree_layout.specs.Reading.{element}
 use Rattle.tree.specs.Yards.{treeYards}
 use Rattle.tree.proofs.Fielding.{laid-few}
-use Rattle.search_rules.specs.Instance.{Instance, size}
+use Rattle.search_rules.specs.Instance.{Instance}
 use Rattle.search_rules.specs.Books.{searchOf}
 use Rattle.search_rules.specs.Queue.{unqueued, wordAt}
 use Rattle.search_rules.specs.Held.{hold, entry}
@@ -30,7 +30,7 @@ use Rattle.search_state.proofs.Newest.{newest-length}
 use Rattle.search_yards.specs.Measures.{IsDriven, totalOf}
 use Rattle.search_yards.proofs.Searching.{total-of}
 use Rattle.search_leaf.specs.Ready.{Ready, Readied, Cached}
-use Rattle.search_leaf.proofs.Landmarks.{well, driven-of, junctions-of}
+use Rattle.search_leaf.proofs.Landmarks.{well, driven-of}
 use Rattle.search_step.specs.Regions.{Queued, Going, Least}
 use Rattle.search_step.proofs.Opening.{cached-by, regions-of, junctions-are}
 
@@ -48,7 +48,7 @@ module _ {road tree : List ℕ} {code goal : ℕ} {crews drives places sheet : L
   some-junction = ready .laid .layout .junctions .0
 
   same-junctions : junctionCount tree ≡ junctions road
-  same-junctions = sym (junctions-are ready) ∙ junctions-of road tree code goal crews drives places sheet ready
+  same-junctions = sym (ready .passed .counts)
 
   -- a yard that is picked is a junction of the road book
   pub near : (p : ℕ) → p < length places + junctionCount tree → length places ≤ p → p - length places < junctions road

@@ -11,7 +11,8 @@ use Rattle.search_rules.specs.Step.{State, nextF}
 use Rattle.search_state.specs.State.{wordCount, part, picksIn, fsIn, boundsIn, goneIn, Unsettled}
 use Rattle.search_leaf.specs.Ready.{Cached}
 
--- of a search of r regions and n junctions: region v is queued, of a leaf some yard remains, and the words keep what was taken before
+-- of a search of r regions and n junctions: region v is queued, of a leaf some yard remains, and the words keep what
+-- was taken before
 pub record Queued (i : Instance) (r n : ℕ) (words : List ℕ) (v : ℕ) : Type 0 where
   pub count : length words ≡ wordCount r n
   pub cached : Cached i (picksIn r n words) (fsIn r n words) (boundsIn r n words)

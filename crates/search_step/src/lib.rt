@@ -40,12 +40,16 @@ pub fn step(
 ) -> Progress
     requires { ⌜ Readied (now tree) (asked .aggregate) (asked .k) (now crews) (now drives) (now places) (now sheet)
         × Ended (now tree) (now ends)
-        × ((road : List ℕ) → Ready road (now tree) (asked .aggregate) (asked .k) (now crews) (now drives) (now places) (now sheet)
-        → Going (searchOf road (now tree) (asked .aggregate) (asked .k) (now crews)) (length (now places)) (junctionCount (now tree)) (now words)
-        (stateOf (length (now places)) (junctionCount (now tree)) (now words) (progress .held) (now measured) (progress .measured)))
+        × ((road : List ℕ)
+        → Ready road (now tree) (asked .aggregate) (asked .k) (now crews) (now drives) (now places) (now sheet)
+        → Going (searchOf road (now tree) (asked .aggregate) (asked .k) (now crews))
+        (length (now places)) (junctionCount (now tree)) (now words)
+        (stateOf (length (now places)) (junctionCount (now tree)) (now words)
+        (progress .held) (now measured) (progress .measured)))
         × (length (now words) ≡ wordCount (length (now places)) (junctionCount (now tree)))
         × Least (length (now places)) (junctionCount (now tree)) (now words) p
-        × (256 ≤ length (now measured)) × (progress .measured ≤ 256) × (progress .held .count ≤ asked .k) × (asked .k ≤ 64) ⌝ }
+        × (256 ≤ length (now measured)) × (progress .measured ≤ 256)
+        × (progress .held .count ≤ asked .k) × (asked .k ≤ 64) ⌝ }
     ensures cached { λ _. ⌜ ((road : List ℕ)
         → Ready road (now (tree .entry)) (asked .aggregate) (asked .k)
         (now (crews .entry)) (now (drives .entry)) (now (places .entry)) (now (sheet .entry))
@@ -56,7 +60,8 @@ pub fn step(
     ensures state { λ o. ⌜ ((road : List ℕ)
         → Ready road (now (tree .entry)) (asked .aggregate) (asked .k)
         (now (crews .entry)) (now (drives .entry)) (now (places .entry)) (now (sheet .entry))
-        → stateOf (length (now (places .entry))) (junctionCount (now (tree .entry))) (now (words .exit)) (o .held) (now (measured .exit)) (o .measured)
+        → stateOf (length (now (places .entry))) (junctionCount (now (tree .entry))) (now (words .exit))
+        (o .held) (now (measured .exit)) (o .measured)
         ≡ step (searchOf road (now (tree .entry)) (asked .aggregate) (asked .k) (now (crews .entry)))
         (stateOf (length (now (places .entry))) (junctionCount (now (tree .entry))) (now (words .entry))
         (progress .held) (now (measured .entry)) (progress .measured))) ⌝ }

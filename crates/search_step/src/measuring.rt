@@ -22,12 +22,17 @@ pub fn take(
     progress: Progress,
     y: Junction,
 ) -> Progress
-    requires { ⌜ IsDriven (now crews) (now drives) (y .number) × (progress .measured < 256) × (256 ≤ length (now measured))
+    requires { ⌜ IsDriven (now crews) (now drives) (y .number)
+        × (progress .measured < 256) × (256 ≤ length (now measured))
         × (progress .held .count ≤ asked .k) × (asked .k ≤ 64) ⌝ }
     ensures count { λ o. ⌜ o .measured ≡ progress .measured + 1 ⌝ }
-    ensures measured { λ _. ⌜ newest (now (measured .exit)) (progress .measured + 1) ≡ y .number ∷ newest (now (measured .entry)) (progress .measured) ⌝ }
-    ensures held { λ o. ⌜ ((road : List ℕ) → Driven road (now (crews .entry)) (now (drives .entry)) → y .number < junctions road
-        → heldOf (o .held) ≡ hold (asked .k) (element (totalOf road (asked .aggregate) (now (crews .entry)) (y .number)) (y .number)) (heldOf (progress .held))) ⌝ }
+    ensures measured { λ _. ⌜ newest (now (measured .exit)) (progress .measured + 1)
+        ≡ y .number ∷ newest (now (measured .entry)) (progress .measured) ⌝ }
+    ensures held { λ o. ⌜ ((road : List ℕ)
+        → Driven road (now (crews .entry)) (now (drives .entry)) → y .number < junctions road
+        → heldOf (o .held) ≡ hold (asked .k)
+        (element (totalOf road (asked .aggregate) (now (crews .entry)) (y .number)) (y .number))
+        (heldOf (progress .held))) ⌝ }
     ensures room { λ o. ⌜ o .held .count ≤ asked .k ⌝ }
 {
     let count = progress.measured;

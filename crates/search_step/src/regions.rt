@@ -29,7 +29,8 @@ pub fn take(
 )
     requires { ⌜ Readied (now tree) (asked .aggregate) (asked .k) (now crews) (now drives) (now places) (now sheet)
         × Ended (now tree) (now ends)
-        × ((road : List ℕ) → Ready road (now tree) (asked .aggregate) (asked .k) (now crews) (now drives) (now places) (now sheet)
+        × ((road : List ℕ)
+        → Ready road (now tree) (asked .aggregate) (asked .k) (now crews) (now drives) (now places) (now sheet)
         → Queued (searchOf road (now tree) (asked .aggregate) (asked .k) (now crews))
         (length (now places)) (junctionCount (now tree)) (now words) (r .number)) ⌝ }
     ensures cached { λ _. ⌜ ((road : List ℕ)
@@ -43,9 +44,11 @@ pub fn take(
         → Ready road (now (tree .entry)) (asked .aggregate) (asked .k)
         (now (crews .entry)) (now (drives .entry)) (now (places .entry)) (now (sheet .entry))
         → (held : Held) (measured : List ℕ) (count : ℕ)
-        → stateOf (length (now (places .entry))) (junctionCount (now (tree .entry))) (now (words .exit)) held measured count
+        → stateOf (length (now (places .entry))) (junctionCount (now (tree .entry))) (now (words .exit))
+        held measured count
         ≡ takeRegion (searchOf road (now (tree .entry)) (asked .aggregate) (asked .k) (now (crews .entry)))
-        (stateOf (length (now (places .entry))) (junctionCount (now (tree .entry))) (now (words .entry)) held measured count) (r .number) a) ⌝ }
+        (stateOf (length (now (places .entry))) (junctionCount (now (tree .entry))) (now (words .entry))
+        held measured count) (r .number) a) ⌝ }
 {
     let f = tree::regions::fields(tree, places, r);
     if f.children == 0 {

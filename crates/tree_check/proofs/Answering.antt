@@ -15,7 +15,7 @@ use Rattle.road_layout.specs.Road.{junctions, roadCount}
 use Rattle.road_layout.specs.Layout.{told, numberOf as road-number}
 use Rattle.road_layout.specs.declared.RoadBook.{RoadBook}
 use Rattle.road_layout.specs.declared.RoadBook.the-variants.{Sound, Refused}
-use Rattle.road_layout.proofs.Reading.{told-why, told-sound, told-number}
+use Rattle.road_layout.proofs.Reading.{told-why, told-sound, number-told}
 use Rattle.adjacency.specs.Adjacency.{countIn, Adjacency, IsAdjacency}
 use Rattle.road.specs.Dijkstra.{dist}
 use Rattle.road.specs.Refusal.{roadRefusal}
@@ -148,7 +148,7 @@ module _ (road : List ℕ) (o : RoadBook) (e : o ≡ told (roadRefusal road) (ju
   road-refused : (why r : ℕ) → o ≡ Refused why → r ≡ road-number o → (r ≡ roadRefusal road) × (1 ≤ roadRefusal road)
   road-refused why r f g =
       let q = told-why (roadRefusal road) (junctions road) (roadCount road) why (sym e ∙ f) in
-      (g ∙ ap road-number e ∙ told-number (roadRefusal road) (junctions road) (roadCount road), omega (arith, q .0, q .1))
+      (g ∙ ap road-number e ∙ number-told (roadRefusal road) (junctions road) (roadCount road), omega (arith, q .0, q .1))
 
   module _ (n m : ℕ) (f : o ≡ Sound n m) where
     road-sound : (roadRefusal road ≡ 0) × (n ≡ junctions road)

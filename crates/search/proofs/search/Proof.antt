@@ -21,7 +21,7 @@ refused-requires : tie.Need-refused-requires
 refused-requires c κs = search needs
 
 returns : tie.Need-returns
-returns c = 
+returns c =
     let tested = c .before in
     let found = tested .before .before .before .before in
     let start = found .before .before .before .before .before .before .before .before .before in
@@ -41,35 +41,35 @@ slice-aggregate-answer : tie.Need-slice-aggregate-answer
 slice-aggregate-answer c = search needs
 
 array-share-prefix-places : tie.Need-array-share-prefix-places
-array-share-prefix-places c = 
+array-share-prefix-places c =
     let headed = c .before .before in
     let found = headed .before .before .before .before .before in
     let r = found .read in
     few-regions (r .ensures .1 (headed .before .if1 .left)) _ (headed .header .ensures) _ refl _ (r .kept .1 .1 .1 .0)
 
 slice-aggregate-answer-2 : tie.Need-slice-aggregate-answer-2
-slice-aggregate-answer-2 c = 
+slice-aggregate-answer-2 c =
     let headed = c .before .before .before in
     let found = headed .before .before .before .before .before in
     let r = found .read in
     part-length (r .ensures .1 (headed .before .if1 .left)) _ (headed .header .ensures) _ refl _ (r .kept .1 .1 .1 .0)
 
 array-share-prefix-ends : tie.Need-array-share-prefix-ends
-array-share-prefix-ends c = 
+array-share-prefix-ends c =
     let headed = c .before .before .before in
     let found = headed .before .before .before .before .before in
     let r = found .read in
     few-regions (r .ensures .1 (headed .before .if1 .left)) _ (headed .header .ensures) _ refl _ (r .kept .1 .1 .1 .1 .0)
 
 slice-aggregate-answer-3 : tie.Need-slice-aggregate-answer-3
-slice-aggregate-answer-3 c = 
+slice-aggregate-answer-3 c =
     let headed = c .before .before .before .before in
     let found = headed .before .before .before .before .before in
     let r = found .read in
     part-length (r .ensures .1 (headed .before .if1 .left)) _ (headed .header .ensures) _ refl _ (r .kept .1 .1 .1 .1 .0)
 
 answer-requires : tie.Need-answer-requires
-answer-requires c κs = 
+answer-requires c κs =
     let headed = c .before .before .before .before .before .before in
     let found = headed .before .before .before .before .before in
     let d = found .read .ensures .1 (headed .before .if1 .left) in
@@ -82,7 +82,7 @@ same-length-2 : tie.Need-same-length-2
 same-length-2 c = search needs
 
 returns-2 : tie.Need-returns-2
-returns-2 c = 
+returns-2 c =
     let answered = c .before .before .before .before in
     let headed = answered .before .before .before .before .before .before .before in
     let found = headed .before .before .before .before .before in

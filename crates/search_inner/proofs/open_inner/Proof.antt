@@ -12,7 +12,9 @@ use Rattle.search_inner.proofs.open_inner.Statement.{statement}
 use Rattle.search_inner.proofs.open_inner.Tie as tie
 
 abbrev Inv-loop : tie.InvT-loop
-Inv-loop tree places ends sheet crews code words₀ a rows firsts i n c₀ k₀ words c k = Counted tree places rows firsts × Queueing (keyOf tree sheet (landmarkCount tree) code crews a) tree (length places) (junctionCount tree) i n k c words₀ words
+Inv-loop tree places ends sheet crews code words₀ a rows firsts i n c₀ k₀ words c k =
+    Counted tree places rows firsts
+    × Queueing (keyOf tree sheet (landmarkCount tree) code crews a) tree (length places) (junctionCount tree) i n k c words₀ words
 
 abbrev μ-loop : tie.MeasureT-loop
 μ-loop tree places ends sheet crews code words₀ a rows firsts i n c₀ k₀ words c k = n - k
@@ -27,7 +29,9 @@ cast-firsts : tie.Need-cast-firsts Inv-loop μ-loop
 cast-firsts c = search needs
 
 add-firsts : tie.Need-add-firsts Inv-loop μ-loop
-add-firsts c = record { fits = omega (arith, laid-few _ _ (c .before .before .before .before .before .before .before .before .before .pre .0), c .struct-known2) }
+add-firsts c =
+    let start = c .before .before .before .before .before .before .before .before .before in
+    record { fits = omega (arith, laid-few _ _ (start .pre .0), c .struct-known2) }
 
 cast-i : tie.Need-cast-i Inv-loop μ-loop
 cast-i c = search needs
@@ -39,24 +43,38 @@ slice-write-words : tie.Need-slice-write-words Inv-loop μ-loop
 slice-write-words c = let s = c .before .before .before .before .before .before .before .before .before .before .pre .4 in omega (arith, s .self, s .count)
 
 fields-requires : tie.Need-fields-requires Inv-loop μ-loop
-fields-requires c κs = (c .before .before .before .before .before .before .before .before .before .before .pre .0, c .before .before .before .before .before .before .before .before .before .before .pre .4 .self)
+fields-requires c κs =
+    let start = c .before .before .before .before .before .before .before .before .before .before in
+    (start .pre .0, start .pre .4 .self)
 
 add-c : tie.Need-add-c Inv-loop μ-loop
 add-c c = search needs
 
 loop-holds : tie.Need-loop-holds Inv-loop μ-loop
-loop-holds c = (counted _ _ _ _ _ (c .before .before .before .before .header .ensures) refl refl, queueing-none _ _ _ _ _ _ _ _ (sym (children-is _ _ _ (c .fields .ensures))) (c .before .before .before .before .before .before .before .before .before .before .before .pre .4))
+loop-holds c =
+    let start = c .before .before .before .before .before .before .before .before .before .before .before in (
+      counted _ _ _ _ _ (c .before .before .before .before .header .ensures) refl refl,
+      queueing-none _ _ _ _ _ _ _ _ (sym (children-is _ _ _ (c .fields .ensures))) (start .pre .4),
+    )
 
 -- the next child has a place in each array
-next : (c : tie.In-loop Inv-loop μ-loop) → Next (c .before .loop .c) (length (c .before .before .before .before .before .before .before .before .before .before .before .before .before .args .places .now) + c .before .before .before .before .before .before .header .result .junctions) (c .before .before .before .before .before .before .before .before .before .before .before .before .before .args .places .now) (c .before .before .before .before .before .before .before .before .before .before .before .before .before .args .ends .now) (c .before .loop .words)
-next c = let l = c .before .loop in
-    next-slot _ _ _ _ _ _ _ _ _ _ (l .inv .1) (c .loop-test .taken) _ _ _ _ refl refl (c .before .before .before .before .before .before .before .before .before .before .before .before .before .pre .0) (c .before .before .before .before .before .before .before .before .before .before .before .before .before .pre .1) (l .inv .0)
+next : (c : tie.In-loop Inv-loop μ-loop)
+    → let header = c .before .before .before .before .before .before in
+      let start = header .before .before .before .before .before .before .before in
+      Next (c .before .loop .c) (length (start .args .places .now) + header .header .result .junctions) (start .args .places .now)
+      (start .args .ends .now) (c .before .loop .words)
+next c =
+    let l = c .before .loop in
+    let start = c .before .before .before .before .before .before .before .before .before .before .before .before .before in
+    next-slot _ _ _ _ _ _ _ _ _ _ (l .inv .1) (c .loop-test .taken) _ _ _ _ refl refl (start .pre .0) (start .pre .1) (l .inv .0)
 
 cast-t24 : tie.Need-cast-t24 Inv-loop μ-loop
 cast-t24 c = record { fits = omega (arith, next c) }
 
 key-requires : tie.Need-key-requires Inv-loop μ-loop
-key-requires c κs = let s = c .before .before .before .before .before .before .before .before .before .before .before .before .before .pre in (s .0, next c .places, rw (c .before .loop .inv .0 .rows-are) (s .2), s .3)
+key-requires c κs =
+    let s = c .before .before .before .before .before .before .before .before .before .before .before .before .before .pre in
+    (s .0, next c .places, rw (c .before .loop .inv .0 .rows-are) (s .2), s .3)
 
 mul-words-2 : tie.Need-mul-words-2 Inv-loop μ-loop
 mul-words-2 c = record { fits = omega (arith, next (c .before)) }
@@ -87,11 +105,19 @@ loop-less c = search needs
 
 loop-again : tie.Need-loop-again Inv-loop μ-loop
 loop-again c =
-    let l = c .before .before .before .loop in
-    (l .inv .0, queueing-on _ _ _ _ _ _ _ _ _ _ (l .inv .1) (c .before .before .loop-test .taken) _ _ _ (key-rows _ _ _ _ _ _ _ _ _ (c .before .key .ensures) (l .inv .0 .rows-are)) (c .before .before .before .before .before .before .before .before .before .before .before .before .before .before .before .pre .1 .held (l .c) (next (c .before .before) .ends)) (l .inv .0 .firsts-are))
+    let here = c .before .before in
+    let l = here .before .loop in
+    let start = here .before .before .before .before .before .before .before .before .before .before .before .before .before in (
+      l .inv .0,
+      queueing-on _ _ _ _ _ _ _ _ _ _ (l .inv .1) (here .loop-test .taken) _ _ _
+          (key-rows _ _ _ _ _ _ _ _ _ (c .before .key .ensures) (l .inv .0 .rows-are)) (start .pre .1 .held (l .c) (next here .ends))
+          (l .inv .0 .firsts-are),
+    )
 
 same-length : tie.Need-same-length Inv-loop μ-loop
-same-length c = c .before .loop .inv .1 .count ∙ sym (c .before .before .before .before .before .before .before .before .before .before .before .before .before .pre .4 .count)
+same-length c =
+    let start = c .before .before .before .before .before .before .before .before .before .before .before .before .before in
+    c .before .loop .inv .1 .count ∙ sym (start .pre .4 .count)
 
 returns : tie.Need-returns Inv-loop μ-loop
 returns c = queueing-all _ _ _ _ _ _ _ _ _ _ (c .before .loop .inv .1) (c .loop-test .left)

@@ -28,8 +28,11 @@ eight-pass-requires : tie.Need-eight-pass-requires Inv-loop μ-loop
 eight-pass-requires c κs = search needs
 
 -- there are eight words more
-room : (c : tie.Then2 Inv-loop μ-loop) → c .before .before .before .loop .j + 8 ≤ length (c .before .before .before .before .before .before .before .args .words .now)
-room c = let l = c .before .before .before .loop in eight-room _ (l .j) (l .p) (l .least) (l .inv .1) (sym (c .before .eight-pass .ensures) ∙ c .if2 .taken)
+room : (c : tie.Then2 Inv-loop μ-loop)
+    → c .before .before .before .loop .j + 8 ≤ length (c .before .before .before .before .before .before .before .args .words .now)
+room c =
+    let l = c .before .before .before .loop in
+    eight-room _ (l .j) (l .p) (l .least) (l .inv .1) (sym (c .before .eight-pass .ensures) ∙ c .if2 .taken)
 
 add-j : tie.Need-add-j Inv-loop μ-loop
 add-j c = omega (arith, room c, c .before .before .before .before .before .before .before .good)
@@ -59,8 +62,8 @@ loop-again-2 c =
     let l = c .before .before .before .before .before .loop in
     let h = c .before .before .before .before .loop-test .taken in (
       omega arith,
-      ⊎-elim (λ w. picked-less _ (l .j) (l .p) (l .least) (l .inv .1) h _ _ (w .1) (w .2) (w .0 .taken)) (λ w. picked-same _ (l .j) (l .p) (l .least) (l .inv .1) h _ _ (w .1) (w .2) (w .0 .left))
-          (c .if3 .came),
+      ⊎-elim (λ w. picked-less _ (l .j) (l .p) (l .least) (l .inv .1) h _ _ (w .1) (w .2) (w .0 .taken))
+          (λ w. picked-same _ (l .j) (l .p) (l .least) (l .inv .1) h _ _ (w .1) (w .2) (w .0 .left)) (c .if3 .came),
     )
 
 returns-2 : tie.Need-returns-2 Inv-loop μ-loop

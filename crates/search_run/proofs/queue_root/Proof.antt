@@ -16,8 +16,10 @@ cast-rows c = search needs
 
 region-bound-requires : tie.Need-region-bound-requires
 region-bound-requires c κs =
-    let s = c .before .before .before .before .before .before .before .pre in
-    (s .0, some-place _ _ (s .0), rw (counted _ _ _ _ _ (c .before .header .ensures) refl refl .rows-are) (s .1), s .2)
+    let start = c .before .before .before .before .before .before .before in
+    let s = start .pre in
+    let k = counted (start .args .tree .now) (start .args .places .now) _ _ _ (c .before .header .ensures) refl refl in
+    (s .0, some-place _ _ (s .0), rw (k .rows-are) (s .1), s .2)
 
 slice-write-words : tie.Need-slice-write-words
 slice-write-words c = let s = c .before .before .before .before .before .before .before .before .pre in omega (arith, some-place _ _ (s .0), s .3)
@@ -26,22 +28,29 @@ cast-first : tie.Need-cast-first
 cast-first c = search needs
 
 add-first : tie.Need-add-first
-add-first c = record { fits = omega (arith, laid-few _ _ (c .before .before .before .before .before .before .before .before .before .pre .0), c .struct-known2) }
+add-first c =
+    let start = c .before .before .before .before .before .before .before .before .before in
+    record { fits = omega (arith, laid-few _ _ (start .pre .0), c .struct-known2) }
 
 mul-words : tie.Need-mul-words
-mul-words c = record { fits = omega (arith, laid-few _ _ (c .before .before .before .before .before .before .before .before .before .pre .0), c .struct-known2) }
+mul-words c =
+    let start = c .before .before .before .before .before .before .before .before .before in
+    record { fits = omega (arith, laid-few _ _ (start .pre .0), c .struct-known2) }
 
 slice-write-words-2 : tie.Need-slice-write-words-2
 slice-write-words-2 c =
-    let s = c .before .before .before .before .before .before .before .before .before .pre in
-    simp length-set (omega (arith, counted _ _ _ _ _ (c .before .before .before .header .ensures) refl refl .firsts-are, some-place _ _ (s .0), s .3))
+    let start = c .before .before .before .before .before .before .before .before .before in
+    let s = start .pre in
+    let k = counted (start .args .tree .now) (start .args .places .now) _ _ _ (c .before .before .before .header .ensures) refl refl in
+    simp length-set (omega (arith, k .firsts-are, some-place _ _ (s .0), s .3))
 
 same-length : tie.Need-same-length
 same-length c = simp (length-set, length-set)
 
 returns : tie.Need-returns
 returns c =
-    let k = counted _ _ _ _ _ (c .before .before .before .header .ensures) refl refl in
+    let start = c .before .before .before .before .before .before .before .before .before in
+    let k = counted (start .args .tree .now) (start .args .places .now) _ _ _ (c .before .before .before .header .ensures) refl refl in
     root-put _ _ _ _ _ _ _ _ _ _ (k .rows-are) (k .firsts-are) (c .before .region-bound .ensures)
 
 pub queue-root-spec : {M : Type 1} → statement M

@@ -1,5 +1,5 @@
 use borrow.Author.Needs.{needs}
-use mathlib.Core.Path.{_≡_, refl, sym, ap, _∙_}
+use mathlib.Core.Path.{_≡_, sym, ap, _∙_}
 use Prim.Native.Nat.{_+_, _-_}
 use native.Mathlib.Omega.{arith}
 use lib.ListN.{length, length-replicate}
@@ -7,13 +7,15 @@ use Rattle.tree_layout.specs.Decode.{junctionCount}
 use Rattle.tree.proofs.Fielding.{laid-header, laid-few}
 use Rattle.search_leaf.proofs.Landmarks.{sheet-crews}
 use Rattle.search_step.proofs.Taking.{picked}
-use Rattle.search_run.proofs.Running.{Steps, least-of, going, ends-settled, ends-limit, steps-on}
+use Rattle.search_run.proofs.Running.{Steps, queue-part, least-of, going, ends-settled, ends-limit, steps-on}
 use Rattle.search_run.proofs.Starts.{queue-count, steps-start}
 use Rattle.search_run.proofs.steps.Statement.{statement}
 use Rattle.search_run.proofs.steps.Tie as tie
 
 abbrev Inv-loop : tie.InvT-loop
-Inv-loop tree places ends sheet drives crews asked words₀ measured₀ queue progress₀ taken₀ words measured progress taken = (queue ≡ length places + junctionCount tree) × Steps tree (asked .aggregate) (asked .k) crews drives places sheet (asked .limit) (length measured₀) words measured progress taken
+Inv-loop tree places ends sheet drives crews asked words₀ measured₀ queue progress₀ taken₀ words measured progress taken =
+    (queue ≡ length places + junctionCount tree)
+    × Steps tree (asked .aggregate) (asked .k) crews drives places sheet (asked .limit) (length measured₀) words measured progress taken
 
 abbrev μ-loop : tie.MeasureT-loop
 μ-loop tree places ends sheet drives crews asked words₀ measured₀ queue progress₀ taken₀ words measured progress taken = asked .limit - taken
@@ -31,65 +33,89 @@ cast-queue : tie.Need-cast-queue Inv-loop μ-loop
 cast-queue c = search needs
 
 add-queue : tie.Need-add-queue Inv-loop μ-loop
-add-queue c = record { fits = omega (arith, laid-few _ _ (c .before .before .before .before .before .before .before .before .before .before .before .before .before .before .pre .0 .ready .laid), c .struct-known) }
+add-queue c =
+    let start = c .before .before .before .before .before .before .before .before .before .before .before .before .before .before in
+    record { fits = omega (arith, laid-few _ _ (start .pre .0 .ready .laid), c .struct-known) }
 
 none-requires : tie.Need-none-requires Inv-loop μ-loop
 none-requires c κs = tt
 
 loop-holds : tie.Need-loop-holds Inv-loop μ-loop
-loop-holds c = (queue-count _ _ _ (c .before .before .header .ensures), steps-start _ _ _ _ _ _ _ _ _ _ _ _ (c .before .before .before .before .before .before .before .before .before .before .before .before .before .before .before .pre .4) (c .before .before .before .before .before .queue-root .ensures) (c .none .ensures))
+loop-holds c =
+    let start = c .before .before .before .before .before .before .before .before .before .before .before .before .before .before .before in (
+      queue-count _ _ _ (c .before .before .header .ensures),
+      steps-start _ _ _ _ _ _ _ _ _ _ _ _ (start .pre .4) (c .before .before .before .before .before .queue-root .ensures) (c .none .ensures),
+    )
 
 slice-reshare-prefix-pick : tie.Need-slice-reshare-prefix-pick Inv-loop μ-loop
 slice-reshare-prefix-pick c = let l = c .loop .inv in omega (arith, l .0, l .1 .size)
 
 slice-aggregate-pick : tie.Need-slice-aggregate-pick Inv-loop μ-loop
-slice-aggregate-pick c = ?
+slice-aggregate-pick c = let l = c .before .loop .inv in queue-part _ _ _ _ (l .0) (l .1 .size)
 
 pick-requires : tie.Need-pick-requires Inv-loop μ-loop
 pick-requires c κs = tt
 
 mul-settled : tie.Need-mul-settled Inv-loop μ-loop
 mul-settled c =
-    let l = c .before .before .before .loop .inv in
-    record { fits = omega (arith, picked (c .before .before .before .before .before .before .before .before .before .before .before .before .before .before .before .before .before .before .before .pre .0) (l .1 .size) (least-of _ _ _ _ _ (l .0) (l .1 .size) (c .before .pick .ensures)) .small) }
+    let turn = c .before .before .before in
+    let start = turn .before .before .before .before .before .before .before .before .before .before .before .before .before .before .before .before in
+    let l = turn .loop .inv in
+    record { fits = omega (arith, picked (start .pre .0) (l .1 .size) (least-of _ _ _ _ _ (l .0) (l .1 .size) (c .before .pick .ensures)) .small) }
 
 slice-read-settled : tie.Need-slice-read-settled Inv-loop μ-loop
 slice-read-settled c =
-    let l = c .before .before .before .before .loop .inv in
-    picked (c .before .before .before .before .before .before .before .before .before .before .before .before .before .before .before .before .before .before .before .before .pre .0) (l .1 .size) (least-of _ _ _ _ _ (l .0) (l .1 .size) (c .before .before .pick .ensures)) .inside
+    let turn = c .before .before .before .before in
+    let start = turn .before .before .before .before .before .before .before .before .before .before .before .before .before .before .before .before in
+    let l = turn .loop .inv in
+    picked (start .pre .0) (l .1 .size) (least-of _ _ _ _ _ (l .0) (l .1 .size) (c .before .before .pick .ensures)) .inside
 
 cast-settled : tie.Need-cast-settled Inv-loop μ-loop
 cast-settled c = search needs
 
 settled-requires : tie.Need-settled-requires Inv-loop μ-loop
-settled-requires c κs = omega (arith, c .before .before .before .before .before .loop .inv .1 .few, c .before .before .before .before .before .before .before .before .before .before .before .before .before .before .before .before .before .before .before .before .before .pre .2)
+settled-requires c κs =
+    let turn = c .before .before .before .before .before in
+    let start = turn .before .before .before .before .before .before .before .before .before .before .before .before .before .before .before .before in
+    omega (arith, turn .loop .inv .1 .few, start .pre .2)
 
 same-length : tie.Need-same-length Inv-loop μ-loop
-same-length c = ?
+same-length c =
+    let turn = c .before .before .before .before .before .before .before in
+    let start = turn .before .before .before .before .before .before .before .before .before .before .before .before .before .before .before .before in
+    turn .loop .inv .1 .size ∙ sym (ap length (start .pre .4) ∙ length-replicate _ _)
 
 same-length-2 : tie.Need-same-length-2 Inv-loop μ-loop
-same-length-2 c = ?
+same-length-2 c = c .before .before .before .before .before .before .before .loop .inv .1 .same
 
 returns : tie.Need-returns Inv-loop μ-loop
 returns c =
     let l = c .before .before .before .before .before .before .before .loop .inv in
-    ((λ road ready. ends-settled (l .1) _ (least-of _ _ _ _ _ (l .0) (l .1 .size) (c .before .before .before .before .before .pick .ensures)) _ (c .before .settled .ensures) road ready (c .if1 .taken)), (l .1 .few, l .1 .most))
+    let e = least-of _ _ _ _ _ (l .0) (l .1 .size) (c .before .before .before .before .before .pick .ensures) in
+    (λ road ready. ends-settled (l .1) _ e _ (c .before .settled .ensures) road ready (c .if1 .taken), (l .1 .few, l .1 .most))
 
 same-length-3 : tie.Need-same-length-3 Inv-loop μ-loop
-same-length-3 c = ?
+same-length-3 c =
+    let turn = c .before .before .before .before .before .before .before .before .before in
+    let start = turn .before .before .before .before .before .before .before .before .before .before .before .before .before .before .before .before in
+    turn .loop .inv .1 .size ∙ sym (ap length (start .pre .4) ∙ length-replicate _ _)
 
 same-length-4 : tie.Need-same-length-4 Inv-loop μ-loop
-same-length-4 c = ?
+same-length-4 c = c .before .before .before .before .before .before .before .before .before .loop .inv .1 .same
 
 returns-2 : tie.Need-returns-2 Inv-loop μ-loop
 returns-2 c =
     let l = c .before .before .before .before .before .before .before .before .before .loop .inv in
-    ((λ road ready. ends-limit (l .1) _ (least-of _ _ _ _ _ (l .0) (l .1 .size) (c .before .before .before .before .before .before .before .pick .ensures)) _ (c .before .before .before .settled .ensures) road ready (c .before .before .if1 .left) (c .if2 .taken)), (l .1 .few, l .1 .most))
+    let e = least-of _ _ _ _ _ (l .0) (l .1 .size) (c .before .before .before .before .before .before .before .pick .ensures) in (
+      λ road ready. ends-limit (l .1) _ e _ (c .before .before .before .settled .ensures) road ready (c .before .before .if1 .left) (c .if2 .taken),
+      (l .1 .few, l .1 .most),
+    )
 
 step-requires : tie.Need-step-requires Inv-loop μ-loop
 step-requires c κs =
-    let l = c .before .before .before .before .before .before .before .before .before .before .before .loop .inv in
-    let s = c .before .before .before .before .before .before .before .before .before .before .before .before .before .before .before .before .before .before .before .before .before .before .before .before .before .before .before .pre in
+    let turn = c .before .before .before .before .before .before .before .before .before .before .before in
+    let l = turn .loop .inv in
+    let s = turn .before .before .before .before .before .before .before .before .before .before .before .before .before .before .before .before .pre in
     let e = least-of _ _ _ _ _ (l .0) (l .1 .size) (c .before .before .before .before .before .before .before .before .before .pick .ensures) in (
       s .0,
       s .1,
@@ -103,16 +129,27 @@ step-requires c κs =
     )
 
 add-taken : tie.Need-add-taken Inv-loop μ-loop
-add-taken c = record { fits = omega (arith, c .before .before .before .before .before .before .before .before .before .before .before .before .before .before .before .before .loop .inv .1 .within, c .before .before .before .before .before .before .before .if2 .left, c .before .before .before .before .before .before .before .before .struct-known3) }
+add-taken c =
+    let test = c .before .before .before .before .before .before .before in
+    let turn = test .before .before .before .before .before .before .before .before .before in
+    record { fits = omega (arith, turn .loop .inv .1 .within, test .if2 .left, test .before .struct-known3) }
 
 loop-less : tie.Need-loop-less Inv-loop μ-loop
-loop-less c = omega (arith, c .before .before .before .before .before .before .before .before .before .before .before .before .before .before .before .before .loop .inv .1 .within, c .before .before .before .before .before .before .before .if2 .left)
+loop-less c =
+    let test = c .before .before .before .before .before .before .before in
+    omega (arith, test .before .before .before .before .before .before .before .before .before .loop .inv .1 .within, test .if2 .left)
 
 loop-again : tie.Need-loop-again Inv-loop μ-loop
 loop-again c =
-    let l = c .before .before .before .before .before .before .before .before .before .before .before .before .before .before .before .before .loop .inv in
+    let test = c .before .before .before .before .before .before .before .before .before in
+    let l = test .before .before .before .before .before .before .before .loop .inv in
+    let e = least-of _ _ _ _ _ (l .0) (l .1 .size) (test .before .before .before .before .before .pick .ensures) in
     let t = c .before .before .before .before .step in
-    (l .0, steps-on (l .1) _ (least-of _ _ _ _ _ (l .0) (l .1 .size) (c .before .before .before .before .before .before .before .before .before .before .before .before .before .before .pick .ensures)) _ (c .before .before .before .before .before .before .before .before .before .before .settled .ensures) (c .before .before .before .before .before .before .before .before .before .if1 .left) (c .before .before .before .before .before .before .before .if2 .left) _ _ _ ? ? (t .ensures .0) (t .ensures .1 .0) (t .ensures .1 .1))
+    let lengths = t .kept .1 .1 .1 .1 .1 .1 .1 in (
+      l .0,
+      steps-on (l .1) _ e _ (test .before .settled .ensures) (test .if1 .left) (c .before .before .before .before .before .before .before .if2 .left) _ _ _
+          (lengths .0) (lengths .1 .0) (t .ensures .0) (t .ensures .1 .0) (t .ensures .1 .1),
+    )
 
 pub steps-spec : {M : Type 1} → statement M
 steps-spec =

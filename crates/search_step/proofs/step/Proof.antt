@@ -6,13 +6,19 @@ use Rattle.search_step.proofs.step.Statement.{statement}
 use Rattle.search_step.proofs.step.Tie as tie
 
 cast-t17 : tie.Need-cast-t17
-cast-t17 c = record { fits = omega (arith, picked (c .before .before .before .before .before .before .before .before .before .pre .0) (c .before .before .before .before .before .before .before .before .before .pre .3) (c .before .before .before .before .before .before .before .before .before .pre .4) .small) }
+cast-t17 c =
+    let s = c .before .before .before .before .before .before .before .before .before .pre in
+    record { fits = omega (arith, picked (s .0) (s .3) (s .4) .small) }
 
 mul-a : tie.Need-mul-a
-mul-a c = record { fits = omega (arith, picked (c .before .before .before .before .before .before .before .before .before .pre .0) (c .before .before .before .before .before .before .before .before .before .pre .3) (c .before .before .before .before .before .before .before .before .before .pre .4) .small) }
+mul-a c =
+    let s = c .before .before .before .before .before .before .before .before .before .pre in
+    record { fits = omega (arith, picked (s .0) (s .3) (s .4) .small) }
 
 slice-read-a : tie.Need-slice-read-a
-slice-read-a c = picked (c .before .before .before .before .before .before .before .before .before .before .pre .0) (c .before .before .before .before .before .before .before .before .before .before .pre .3) (c .before .before .before .before .before .before .before .before .before .before .pre .4) .inside
+slice-read-a c =
+    let s = c .before .before .before .before .before .before .before .before .before .before .pre in
+    picked (s .0) (s .3) (s .4) .inside
 
 take-requires : tie.Need-take-requires
 take-requires c κs =
@@ -26,22 +32,30 @@ returns : tie.Need-returns
 returns c =
     let s = c .before .before .before .before .before .before .before .before .before .before .before .before .before .before .pre in
     let o = c .before .before .take .ensures in
-    (o .0, ((λ road ready. region-is-taken ready _ _ _ _ (s .3) (s .2 road ready) _ (s .4) (c .before .before .before .before .before .if1 .taken) _ (o .1 road ready)), (s .7, s .6)))
+    let h = c .before .before .before .before .before .if1 .taken in
+    (o .0, (λ road ready. region-is-taken ready _ _ _ _ (s .3) (s .2 road ready) _ (s .4) h _ (o .1 road ready), (s .7, s .6)))
 
 mul-words : tie.Need-mul-words
-mul-words c = record { fits = omega (arith, picked (c .before .before .before .before .before .before .before .before .before .pre .0) (c .before .before .before .before .before .before .before .before .before .pre .3) (c .before .before .before .before .before .before .before .before .before .pre .4) .small) }
+mul-words c =
+    let s = c .before .before .before .before .before .before .before .before .before .pre in
+    record { fits = omega (arith, picked (s .0) (s .3) (s .4) .small) }
 
 slice-write-words : tie.Need-slice-write-words
-slice-write-words c = picked (c .before .before .before .before .before .before .before .before .before .pre .0) (c .before .before .before .before .before .before .before .before .before .pre .3) (c .before .before .before .before .before .before .before .before .before .pre .4) .inside
+slice-write-words c =
+    let s = c .before .before .before .before .before .before .before .before .before .pre in
+    picked (s .0) (s .3) (s .4) .inside
 
 cast-t26 : tie.Need-cast-t26
-cast-t26 c = record { fits = omega (arith, picked (c .before .before .before .before .before .before .before .before .before .pre .0) (c .before .before .before .before .before .before .before .before .before .pre .3) (c .before .before .before .before .before .before .before .before .before .pre .4) .small) }
+cast-t26 c =
+    let s = c .before .before .before .before .before .before .before .before .before .pre in
+    record { fits = omega (arith, picked (s .0) (s .3) (s .4) .small) }
 
 take-requires-2 : tie.Need-take-requires-2
 take-requires-2 c κs =
-    let s = c .before .before .before .before .before .before .before .before .before .before .pre in (
-      yard-driven (s .0) _ (omega (arith, picked (s .0) (s .3) (s .4) .below, c .before .if1 .left)),
-      yard-room (s .0 .ready) _ _ _ _ (s .3) (s .2 (s .0 .road) (s .0 .ready)) _ (s .4) (c .before .if1 .left) (λ j. omega (arith, c .before .before .before .slice-known .given j)),
+    let s = c .before .before .before .before .before .before .before .before .before .before .pre in
+    let h = c .before .if1 .left in (
+      yard-driven (s .0) _ (omega (arith, picked (s .0) (s .3) (s .4) .below)),
+      yard-room (s .0 .ready) _ _ _ _ (s .3) (s .2 (s .0 .road) (s .0 .ready)) _ (s .4) h (λ j. omega (arith, c .before .before .before .slice-known .given j)),
       s .5,
       s .7,
       s .8,
@@ -57,14 +71,19 @@ returns-2 : tie.Need-returns-2
 returns-2 c =
     let s = c .before .before .before .before .before .before .before .before .before .before .before .before .before .pre in
     let h = c .before .before .before .before .if1 .left in
-    let o = c .before .before .take2 .ensures in (
-      λ road ready. yard-cached ready _ _ _ _ (s .3) (s .2 road ready) _ (s .4) h (λ j. omega (arith, c .before .before .before .before .before .before .slice-known .given j)),
+    let o = c .before .before .take2 .ensures in
+    let known = c .before .before .before .before .before .before .slice-known .given in (
+      λ road ready. yard-cached ready _ _ _ _ (s .3) (s .2 road ready) _ (s .4) h (λ j. omega (arith, known j)),
       (
-        λ road ready. yard-is-taken ready _ _ _ _ (s .3) (s .2 road ready) _ (s .4) h (λ j. omega (arith, c .before .before .before .before .before .before .slice-known .given j)) _ _ _ (o .0) (o .1 .0)
+        λ road ready. yard-is-taken ready _ _ _ _ (s .3) (s .2 road ready) _ (s .4) h (λ j. omega (arith, known j)) _ _ _ (o .0) (o .1 .0)
             (o .1 .1 .0 road (driven-of _ _ _ _ _ _ _ _ ready) (near ready _ (picked (s .0) (s .3) (s .4) .below) h)),
         (
           o .1 .1 .1,
-          omega (arith, o .0, yard-room (s .0 .ready) _ _ _ _ (s .3) (s .2 (s .0 .road) (s .0 .ready)) _ (s .4) h (λ j. omega (arith, c .before .before .before .before .before .before .slice-known .given j))),
+          omega (
+            arith,
+            o .0,
+            yard-room (s .0 .ready) _ _ _ _ (s .3) (s .2 (s .0 .road) (s .0 .ready)) _ (s .4) h (λ j. omega (arith, known j)),
+          ),
         ),
       ),
     )

@@ -43,13 +43,16 @@ loop-again : tie.Need-loop-again Inv-loop μ-loop
 loop-again c =
     let t = c .before .before .before .loop-test .taken in
     λ road d h. summed-turn _ _ _ _ _ (c .before .before .before .before .loop .inv road d h) t _ _ (c .before .wide .ensures .1)
-        (c .before .wide .ensures .0 ∙ cell-from d _ h _ t _ (c .before .before .cell .ensures)) (c .combine .ensures)
+    (c .before .wide .ensures .0 ∙ cell-from d _ h _ t _ (c .before .before .cell .ensures)) (c .combine .ensures)
 
 cast-result : tie.Need-cast-result Inv-loop μ-loop
 cast-result c =
     let s = c .before .before .before .before in
-    omega (arith, measured (s .pre .driven) _ (s .pre .junction) (s .args .code) _
-        (summed-all _ _ _ _ _ (c .before .loop .inv (s .pre .road) (s .pre .driven) (s .pre .junction)) (c .loop-test .left)) .1)
+    omega (
+      arith,
+      measured (s .pre .driven) _ (s .pre .junction) (s .args .code) _
+          (summed-all _ _ _ _ _ (c .before .loop .inv (s .pre .road) (s .pre .driven) (s .pre .junction)) (c .loop-test .left)) .1,
+    )
 
 returns : tie.Need-returns Inv-loop μ-loop
 returns c =

@@ -23,7 +23,7 @@ refused-requires : tie.Need-refused-requires
 refused-requires c κs = search needs
 
 returns : tie.Need-returns
-returns c = 
+returns c =
     let s = c .before .before .before .before .before .before .before .before .before .before .before .before .before .args in
     let n = c .before .before .before .before .before .junctions .ensures in
     let e = c .before .before .before .before .read .ensures in
@@ -43,7 +43,7 @@ refused-requires-2 : tie.Need-refused-requires-2
 refused-requires-2 c κs = search needs
 
 returns-2 : tie.Need-returns-2
-returns-2 c = 
+returns-2 c =
     let s = c .before .before .before .before .before .before .before .before .before .before .before .before .before .before .before .args in
     let n = c .before .before .before .before .before .before .before .junctions .ensures in
     let e = c .before .before .before .before .before .before .read .ensures in
@@ -58,7 +58,7 @@ returns-2 c =
     )
 
 search-requires : tie.Need-search-requires
-search-requires c κs = 
+search-requires c κs =
     let s = c .before .before .before .before .before .before .before .before .before .before .before .before .before .before .before .before in
     let n = c .before .before .before .before .before .before .before .before .junctions .ensures in
     let e = c .before .before .before .before .before .before .before .read .ensures in
@@ -77,7 +77,7 @@ same-length-2 : tie.Need-same-length-2
 same-length-2 c = search needs
 
 returns-3 : tie.Need-returns-3
-returns-3 c = 
+returns-3 c =
     let far = c .before .before .before .before .before .before .before .before .before .before .before .before .before in
     let s = far .before .before .before .before .before .before .before .before .args in
     let n = far .junctions .ensures in

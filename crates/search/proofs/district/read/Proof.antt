@@ -19,13 +19,15 @@ same-length : tie.Need-same-length
 same-length c = search needs
 
 returns : tie.Need-returns
-returns c = 
+returns c =
     let b = road-back _ _ _ (c .before .before .before .before .before .read .ensures .0) _ _ (c .before .enum-told .given .1)
-      (c .number .ensures) in
+    (c .number .ensures) in
     (b .0, λ z. absurd (b .1 z))
 
 read-tree-requires : tie.Need-read-tree-requires
-read-tree-requires c κs = let s = c .before .before .before .before .before .before .before .before .before .before .before .before .before .before .pre in (s .1, s .2)
+read-tree-requires c κs =
+    let s = c .before .before .before .before .before .before .before .before .before .before .before .before .before .before .pre in
+    (s .1, s .2)
 
 same-length-2 : tie.Need-same-length-2
 same-length-2 c = search needs
@@ -37,7 +39,7 @@ same-length-4 : tie.Need-same-length-4
 same-length-4 c = search needs
 
 returns-2 : tie.Need-returns-2
-returns-2 c = 
+returns-2 c =
     let far = c .before .before .before .before .before .before .before .before .before .before .before .before in
     let s = far .before .before .before .before .before .before .before .pre in
     let r = far .read .ensures in

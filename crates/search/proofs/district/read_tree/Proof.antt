@@ -22,7 +22,7 @@ same-length-2 : tie.Need-same-length-2
 same-length-2 c = search needs
 
 returns : tie.Need-returns
-returns c = 
+returns c =
     let r = c .before .before .before .before .before .before .before .read .ensures in
     (tree-own _ _ _ (r .0) _ _ (c .before .enum-told .given .1) (c .number .ensures), r .1)
 
@@ -33,7 +33,7 @@ same-length-4 : tie.Need-same-length-4
 same-length-4 c = search needs
 
 returns-2 : tie.Need-returns-2
-returns-2 c = 
+returns-2 c =
     let r = c .before .before .before .before .before .before .before .before .before .read .ensures in
     (tree-differs _ _ _ (r .0) _ (c .before .before .before .o .given .1) (c .if1 .taken), r .1)
 
@@ -44,7 +44,7 @@ same-length-6 : tie.Need-same-length-6
 same-length-6 c = search needs
 
 returns-3 : tie.Need-returns-3
-returns-3 c = 
+returns-3 c =
     let r = c .before .before .before .before .before .before .before .before .before .read .ensures in
     (tree-agrees _ _ _ (r .0) _ (c .before .before .before .o .given .1) (c .if1 .left), r .1)
 

@@ -46,14 +46,16 @@ loop-less c = search needs
 
 loop-again : tie.Need-loop-again Inv-loop μ-loop
 loop-again c =
+    let s = c .before .before .before .before .before .before .before .before .before in
     greatest-turn _ _ _ _ (c .before .before .before .before .loop .inv)
-    (omega (arith, count-marks _ _ (c .before .before .before .before .before .before .header .ensures) _)) _ _
+    (omega (arith, count-marks _ _ (c .before .before .before .before .before .before .header .ensures) (s .args .at))) _ _
     (mark-read _ _ _ _ _ _ (c .before .before .landmark .ensures) (c .before .mark-bound .ensures)) (c .greater .ensures)
 
 returns : tie.Need-returns Inv-loop μ-loop
 returns c =
+    let s = c .before .before .before .before .before .before in
     crew-made _ _ _ _ _
-    (greatest-all _ _ _ _ (c .before .loop .inv) (omega (arith, count-marks _ _ (c .before .before .before .header .ensures) _)))
+    (greatest-all _ _ _ _ (c .before .loop .inv) (omega (arith, count-marks _ _ (c .before .before .before .header .ensures) (s .args .at))))
 
 pub crew-region-spec : {M : Type 1} → statement M
 crew-region-spec =

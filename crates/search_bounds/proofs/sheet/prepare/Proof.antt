@@ -15,28 +15,30 @@ array-borrow-prefix-places : tie.Need-array-borrow-prefix-places
 array-borrow-prefix-places c = root-few _ (c .before .before .before .before .before .before .before .pre .1) _ (c .before .header .ensures) _ refl
 
 slice-aggregate-root-places : tie.Need-slice-aggregate-root-places
-slice-aggregate-root-places c = root-part _ (c .before .before .before .before .before .before .before .before .pre .1) _ (c .before .before .header .ensures) _ refl _ refl
+slice-aggregate-root-places c =
+    let l = c .before .before .before .before .before .before .before .before .pre .1 in
+    root-part _ l _ (c .before .before .header .ensures) _ refl _ refl
 
 root-places-requires : tie.Need-root-places-requires
-root-places-requires c κs = 
+root-places-requires c κs =
     let l = c .before .before .before .before .before .before .before .before .pre .1 in
     (root-record _ l, root-size _ l _ (c .before .before .header .ensures) _ refl _ refl)
 
 array-share-prefix-places : tie.Need-array-share-prefix-places
-array-share-prefix-places c = 
+array-share-prefix-places c =
     let headed = c .before .before .before .before in
     let s = headed .before .before .before .before .before .before in
     root-inside _ (s .pre .1) _ (headed .header .ensures) _ refl _ refl _ (c .before .root-places .ensures)
 
 slice-aggregate-fill : tie.Need-slice-aggregate-fill
-slice-aggregate-fill c = 
+slice-aggregate-fill c =
     let read = c .before .before in
     let headed = read .before .before .before in
     let s = headed .before .before .before .before .before .before in
     root-taken _ (s .pre .1) _ (headed .header .ensures) _ refl _ refl _ (read .root-places .ensures)
 
 fill-requires : tie.Need-fill-requires
-fill-requires c κs = 
+fill-requires c κs =
     let found = c .before .before .before in
     let headed = found .before .before .before in
     let start = headed .before .before .before .before .before .before in
@@ -46,7 +48,7 @@ fill-requires c κs =
     (s .0, taken-within _ (s .1) _ h _ refl _ refl _ read _ (s .2), taken-room _ (s .1) _ h _ refl _ refl _ read _ (s .4))
 
 fill-requires-2 : tie.Need-fill-requires-2
-fill-requires-2 c κs = 
+fill-requires-2 c κs =
     let s = c .before .before .before .before .before .before .before .before .before .before .before .before .before .before .before .before .pre in
     (s .0, s .3, s .5)
 
@@ -57,7 +59,7 @@ same-length-2 : tie.Need-same-length-2
 same-length-2 c = search needs
 
 returns : tie.Need-returns
-returns c = 
+returns c =
     let drives = c .before .before in
     let sheet = drives .before .before .before .before in
     let found = sheet .before .before .before .before in

@@ -1,7 +1,7 @@
 use borrow.Author.Needs.{needs}
 use mathlib.Core.Path.{refl}
-use Rattle.search_state.proofs.Newest.{newest-put}
 use native.Mathlib.Omega.{arith}
+use Rattle.search_state.proofs.Newest.{newest-put}
 use Rattle.search_step.proofs.Taking.{held-by}
 use Rattle.search_step.proofs.measuring.take.Statement.{statement}
 use Rattle.search_step.proofs.measuring.take.Tie as tie
@@ -28,8 +28,14 @@ same-length : tie.Need-same-length
 same-length c = search needs
 
 returns : tie.Need-returns
-returns c = let s = c .before .before .before .before .before .before .before in
-    (refl, (newest-put (s .args .measured .now) (s .args .progress .measured) (s .args .y .number) (omega (arith, s .pre .1, s .pre .2)), ((λ road d h. held-by _ _ _ _ _ _ (c .before .before .before .measure .ensures road d h) (c .hold .ensures .0)), c .hold .ensures .1)))
+returns c =
+    let s = c .before .before .before .before .before .before .before in (
+      refl,
+      (
+        newest-put (s .args .measured .now) (s .args .progress .measured) (s .args .y .number) (omega (arith, s .pre .1, s .pre .2)),
+        (λ road d h. held-by _ _ _ _ _ _ (c .before .before .before .measure .ensures road d h) (c .hold .ensures .0), c .hold .ensures .1),
+      ),
+    )
 
 pub take-spec : {M : Type 1} → statement M
 take-spec =
