@@ -2,7 +2,7 @@
 use mathlib.Core.Path.{_≡_, refl, sym, ap, _∙_}
 use mathlib.Core.Bool.{Bool, true, false}
 use mathlib.Core.List.{List}
-use Prim.Native.Nat.{ℕ, suc, _+_, _-_, _≤_}
+use Prim.Native.Nat.{ℕ, suc, _+_, _-_, _≤_, _<_}
 use native.Mathlib.Numerals.{add-one}
 use native.Mathlib.Omega.{arith}
 use lib.ListN.{length, getD, take}
@@ -119,7 +119,7 @@ module _ {tree : List ℕ} {code goal : ℕ} {crews drives places sheet : List �
         (record { held = progress .held; measured = progress .measured; taken = taken; settled = false })
         (s .is) (s .counts) (rw (← s .is) (sym z ∙ settled-is)))
 
-  pub steps-on : b ≡ false → (taken ≡ limit → ⊥) → (words′ measured′ : List ℕ) (progress′ : Progress) → length words′ ≡ length words
+  pub steps-on : b ≡ false → taken < limit → (words′ measured′ : List ℕ) (progress′ : Progress) → length words′ ≡ length words
       → length measured′ ≡ length measured
       → ((road : List ℕ) → Ready road tree code goal crews drives places sheet
       → Cached (searchOf road tree code goal crews) (picksIn r n words′) (fsIn r n words′) (boundsIn r n words′))
@@ -133,5 +133,5 @@ module _ {tree : List ℕ} {code goal : ℕ} {crews drives places sheet : List �
     runs = λ road ready. goes-on road ready z words′ measured′ progress′ (c road ready) (t road ready);
     few = f .0;
     most = f .1;
-    within = omega (arith, steps .within, l);
+    within = omega arith;
   }

@@ -69,8 +69,13 @@ module _ {road tree : List ℕ} {code goal : ℕ} {crews drives places sheet : L
     start-state : stateOf r n words held measured 0 ≡ run i 0 .state
     start-state =
         state-by start-parts held measured 0
-        ∙ (rw (none, newest-none measured, bound-of road tree code goal crews (ready .passed) (landmarkCount tree) sheet (ready .sheeted) 0 key refl,
-        ← regions-of ready, ← junctions-are ready) refl
+        ∙ (rw (
+          none,
+          newest-none measured,
+          bound-of road tree code goal crews (ready .passed) (landmarkCount tree) sheet (ready .sheeted) 0 key refl,
+          ← regions-of ready,
+          ← junctions-are ready,
+        ) refl
         ∙ sym (ap (λ (o : Ended). o .state) (run-start i) ∙ start-is i))
 
     starts : Runs i r n words (stateOf r n words held measured 0) 0

@@ -111,7 +111,17 @@ fn steps(
             };
         }
         progress = search_step::step(
-            tree, places, ends, sheet, drives, crews, asked, words, measured, progress, p,
+            tree,
+            places,
+            ends,
+            sheet,
+            drives,
+            crews,
+            asked,
+            words,
+            measured,
+            progress,
+            p,
         );
         taken += 1;
     }

@@ -10,7 +10,7 @@ use Rattle.book.proofs.Lists.{eq→eqb, ne→neqb}
 use Rattle.tree_layout.specs.Values.{regionAt}
 use Rattle.tree_layout.specs.Decode.{decode, junctionCount, landmarkCount}
 use Rattle.tree.specs.Arrays.{fieldsOf}
-use Rattle.tree.specs.declared.Fields.{Fields}
+use Rattle.tree_layout.specs.declared.Fields.{Fields}
 use Rattle.tree.specs.Yards.{childrenOf}
 use Rattle.tree.proofs.Recursing.{children-is}
 use Rattle.search_rules.specs.Instance.{Instance, size, children, leaf}

@@ -72,7 +72,16 @@ pub fn step(
         let region = Region { number: p as u16 };
         let a = words[p];
         regions::take(
-            tree, places, ends, sheet, drives, crews, asked, words, region, a,
+            tree,
+            places,
+            ends,
+            sheet,
+            drives,
+            crews,
+            asked,
+            words,
+            region,
+            a,
         );
         return progress;
     }

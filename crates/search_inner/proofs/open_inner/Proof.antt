@@ -60,9 +60,9 @@ loop-holds c =
 -- the next child has a place in each array
 next : (c : tie.In-loop Inv-loop μ-loop)
     → let header = c .before .before .before .before .before .before in
-      let start = header .before .before .before .before .before .before .before in
-      Next (c .before .loop .c) (length (start .args .places .now) + header .header .result .junctions) (start .args .places .now)
-      (start .args .ends .now) (c .before .loop .words)
+    let start = header .before .before .before .before .before .before .before in
+    Next (c .before .loop .c) (length (start .args .places .now) + header .header .result .junctions) (start .args .places .now)
+    (start .args .ends .now) (c .before .loop .words)
 next c =
     let l = c .before .loop in
     let start = c .before .before .before .before .before .before .before .before .before .before .before .before .before in

@@ -107,7 +107,8 @@ returns-2 : tie.Need-returns-2 Inv-loop μ-loop
 returns-2 c =
     let l = c .before .before .before .before .before .before .before .before .before .loop .inv in
     let e = least-of _ _ _ _ _ (l .0) (l .1 .size) (c .before .before .before .before .before .before .before .pick .ensures) in (
-      λ road ready. ends-limit (l .1) _ e _ (c .before .before .before .settled .ensures) road ready (c .before .before .if1 .left) (c .if2 .taken),
+      λ road ready. ends-limit (l .1) _ e _ (c .before .before .before .settled .ensures) road ready (c .before .before .if1 .left)
+          (omega (arith, c .if2 .taken)),
       (l .1 .few, l .1 .most),
     )
 
@@ -147,7 +148,8 @@ loop-again c =
     let t = c .before .before .before .before .step in
     let lengths = t .kept .1 .1 .1 .1 .1 .1 .1 in (
       l .0,
-      steps-on (l .1) _ e _ (test .before .settled .ensures) (test .if1 .left) (c .before .before .before .before .before .before .before .if2 .left) _ _ _
+      steps-on (l .1) _ e _ (test .before .settled .ensures) (test .if1 .left)
+          (omega (arith, l .1 .within, c .before .before .before .before .before .before .before .if2 .left)) _ _ _
           (lengths .0) (lengths .1 .0) (t .ensures .0) (t .ensures .1 .0) (t .ensures .1 .1),
     )
 
