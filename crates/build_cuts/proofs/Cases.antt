@@ -15,7 +15,8 @@ use Rattle.yard.specs.Yards.{yardsOf, yardRefusal}
 use Rattle.tree_layout.specs.Values.{Region}
 use Rattle.tree_truth.specs.Truth.{within}
 use Rattle.cut_tree.specs.Cut.{Given, leafRegion, cutAt, part, partCount, partRegions, cut}
-use Rattle.cut_tree.proofs.Parts.{Rising, within-rising, within-none, within-split, cut-first, cut-last, cut-rise, cut-top, part-is, count-drop, count-keep, regions-drop, regions-keep, regions-none}
+use Rattle.cut_tree.proofs.Parts.{Rising, within-rising, within-none, within-split, cut-first, cut-last, cut-rise, cut-top, part-is, count-drop, count-keep}
+use Rattle.cut_tree.proofs.Parts.{regions-drop, regions-keep, regions-none}
 use Rattle.cut_tree.proofs.Steps.{within-nested, part-within, cut-none, cut-leaf, cut-one, cut-many}
 use Rattle.build_records.specs.Given.{given}
 use Rattle.build_cuts.specs.Writing.{ownRegions}

@@ -37,7 +37,8 @@ module _ (b : List ℕ) (m limit a s q : ℕ) (ys : List ℕ) where
   own-inner h k = own-one h ∙ ap (λ (r : Region). r ∷ []) (region-inner (given b m limit) a s q ys k)
 
   pub own-room : q ≢ 1 → length (encodeRegions (ownRegions b m limit a s q ys)) ≡ recordSize m q (length ys)
-  own-room h = ap (λ (l : List Region). length (encodeRegions l)) (own-one h) ∙ ap length (one-bytes (regionOf (given b m limit) a s q ys)) ∙ region-bytes b m limit a s q ys
+  own-room h = ap (λ (l : List Region). length (encodeRegions l)) (own-one h) ∙ ap length (one-bytes (regionOf (given b m limit) a s q ys)) ∙ region-bytes b m
+      limit a s q ys
 
   -- ---- one record, or none
 

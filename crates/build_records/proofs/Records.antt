@@ -1,6 +1,6 @@
 -- A region's record: its fields, then its landmarks; and how long it is. Assumes nothing.
 use mathlib.Core.Path.{_≡_, refl, sym, ap, _∙_}
-use mathlib.Core.List.{List, [], _∷_, _++_, map}
+use mathlib.Core.List.{List, _++_}
 use Prim.Native.Nat.{ℕ, _+_, _-_, _*_, _≤_, _<_}
 use native.Mathlib.Decide.{decLt}
 use native.Mathlib.Omega.{arith}
@@ -21,7 +21,7 @@ use Rattle.tree_layout.proofs.Places.{mark-size-leaf, mark-size-inner}
 use Rattle.tree_encode.specs.Encode.{encodeRegion}
 use Rattle.tree_encode.specs.Parts.{encodeFields}
 use Rattle.tree_encode.proofs.Parts.{fields-length, fields-then}
-use Rattle.cut_tree.specs.Cut.{Given, borders, landmarksOf, leafRegion, innerRegion}
+use Rattle.cut_tree.specs.Cut.{Given, borders, leafRegion, innerRegion}
 use Rattle.cut_tree.proofs.Landmarks.{landmarks-are}
 use Rattle.cut_tree.proofs.Records.{leaf-record, leaf-size, inner-record, inner-size}
 use Rattle.build_records.specs.Given.{given}
@@ -70,6 +70,7 @@ part-few l c h k = omega (arith, length-take-le c l k)
 module _ (b yb : List ℕ) (from end a s q m limit : ℕ) where
   abbrev marks : List ℕ
   marks = landmarkBytes (markBytes b yb from end q) m a s (borders (roads b) a s) m 0
+
   abbrev region : Region
   region = regionOf (given b m limit) a s q (yardsFrom yb (end - from) from)
 

@@ -7,7 +7,7 @@ use native.Mathlib.Nat.{mul-le-mul-right}
 use native.Mathlib.Numerals.{add-one}
 use native.Mathlib.Omega.{arith}
 use lib.ListN.{length, take, getD, set, length-set}
-use lib.Seq.{length-take-le, take-suc-set, append-snoc, getD-take}
+use lib.Seq.{take-suc-set, append-snoc}
 use lib.Dec.{eqb}
 use Rattle.road_layout.specs.Road.{Road, roads}
 use Rattle.adjacency.specs.Arcs.{arcs, net}
@@ -15,7 +15,8 @@ use Rattle.adjacency.specs.Adjacency.{headAt, nextAt, toAt, Adjacency}
 use Rattle.adjacency.proofs.Chains.{anyFrom, roads-none, roads-next, ChainAt, ChainStep, chain-begin}
 use Rattle.adjacency.proofs.Netting.{net-is}
 use Rattle.cut_tree.specs.Cut.{outside, isBorder, bordersFrom, borders, landmark}
-use Rattle.cut_tree.proofs.Landmarks.{border-none, border-next, borders-none, borders-yes, borders-no, borders-are, landmark-none, landmark-some, outside-low, outside-high, outside-no}
+use Rattle.cut_tree.proofs.Landmarks.{border-none, border-next, borders-none, borders-yes, borders-no, borders-are, landmark-none, landmark-some, outside-low}
+use Rattle.cut_tree.proofs.Landmarks.{outside-high, outside-no}
 
 -- ---- a junction
 
@@ -28,7 +29,8 @@ or-swap false false z = refl
 roads-border : (rs : List Road) (a s v : ℕ) → anyFrom (outside a s) v (arcs rs) ≡ isBorder rs a s v
 roads-border [] a s v = roads-none (outside a s) v ∙ sym (border-none a s v)
 roads-border (r ∷ rs) a s v =
-    roads-next (outside a s) v r rs ∙ (ap (λ (x : Bool). (eqb (r .high) v && outside a s (r .low)) || ((eqb (r .low) v && outside a s (r .high)) || x)) (roads-border rs a s v)
+    roads-next (outside a s) v r rs ∙ (ap (λ (x : Bool). (eqb (r .high) v && outside a s (r .low)) || ((eqb (r .low) v && outside a s (r .high)) || x))
+        (roads-border rs a s v)
     ∙ (or-swap (eqb (r .high) v && outside a s (r .low)) (eqb (r .low) v && outside a s (r .high)) (isBorder rs a s v) ∙ sym (border-next r rs a s v)))
 
 -- what the arcs of v lead to says whether v is a border junction
@@ -36,7 +38,8 @@ pub border-is : (b : List ℕ) (a s v : ℕ) → anyFrom (outside a s) v (net b)
 border-is b a s v = rw (net-is b) (roads-border (roads b) a s v)
 
 -- what the scan of a junction's chain of arcs answers, arc by arc
-pub border-begin : (road adj : List ℕ) (a s v x : ℕ) → Adjacency road adj → v < 1024 → x ≡ headAt adj v → ChainAt (outside a s) v adj (isBorder (roads road) a s v) x
+pub border-begin : (road adj : List ℕ) (a s v x : ℕ) → Adjacency road adj → v < 1024 → x ≡ headAt adj v → ChainAt (outside a s) v adj (isBorder (roads road) a
+    s v) x
 border-begin road adj a s v x k h e = rw (e, ← border-is road a s v) (chain-begin (outside a s) road adj v k h)
 
 pub border-low : (a s u w : ℕ) → u ≡ w → u < a → outside a s w ≡ true
@@ -45,7 +48,8 @@ border-low a s u w e h = rw (← e) (outside-low a s u h)
 pub border-high : (a s u w : ℕ) → u ≡ w → a + s ≤ u → outside a s w ≡ true
 border-high a s u w e h = rw (← e) (outside-high a s u h)
 
-pub border-on : (adj : List ℕ) (a s v x u next : ℕ) (whole : Bool) → ChainStep (outside a s) v adj whole x → u ≡ toAt adj x → a ≤ u → u < a + s → next ≡ nextAt adj x
+pub border-on : (adj : List ℕ) (a s v x u next : ℕ) (whole : Bool) → ChainStep (outside a s) v adj whole x → u ≡ toAt adj x → a ≤ u → u < a + s → next ≡ nextAt
+    adj x
     → ChainAt (outside a s) v adj whole next
 border-on adj a s v x u next whole k e low high f = rw f (k .on (rw (← e) (outside-no a s u low high)))
 
@@ -71,18 +75,21 @@ module _ (rs : List Road) (a s : ℕ) where
 
     pub bordering-yes : (next : List ℕ) (m : ℕ) → isBorder rs a s v ≡ true → next ≡ set list n v → m ≡ n + 1 → Bordering rs a s next m (v + 1)
     bordering-yes next m t e f =
-        let e1 : bordersFrom rs a s (a + s - v) v ≡ v ∷ bordersFrom rs a s (a + s - (v + 1)) (v + 1) = rw left (borders-yes rs a s (a + s - (v + 1)) v t ∙ rw (add-one v) refl) in
+        let e1 : bordersFrom rs a s (a + s - v) v ≡ v ∷ bordersFrom rs a s (a + s - (v + 1)) (v + 1) = rw left (borders-yes rs a s (a + s - (v + 1)) v t ∙ rw
+            (add-one v) refl) in
         rw (e, f) (record {
           low = omega (arith, x .low);
           high = omega arith;
           few = omega (arith, x .few);
           room = length-set list n v ∙ x .room;
-          same = rw (add-one n, take-suc-set list n v (omega (arith, x .few, x .room)), append-snoc (take n list) v (bordersFrom rs a s (a + s - (v + 1)) (v + 1)), ← e1) (x .same);
+          same = rw (add-one n, take-suc-set list n v (omega (arith, x .few, x .room)), append-snoc (take n list) v (bordersFrom rs a s (a + s - (v + 1))
+              (v + 1)), ← e1) (x .same);
         })
 
     pub bordering-no : (next : List ℕ) (m : ℕ) → isBorder rs a s v ≡ false → next ≡ list → m ≡ n → Bordering rs a s next m (v + 1)
     bordering-no next m t e f =
-        let e1 : bordersFrom rs a s (a + s - v) v ≡ bordersFrom rs a s (a + s - (v + 1)) (v + 1) = rw left (borders-no rs a s (a + s - (v + 1)) v t ∙ rw (add-one v) refl) in
+        let e1 : bordersFrom rs a s (a + s - v) v ≡ bordersFrom rs a s (a + s - (v + 1)) (v + 1) = rw left (borders-no rs a s (a + s - (v + 1)) v t ∙ rw
+            (add-one v) refl) in
         rw (e, f) (record { low = omega (arith, x .low); high = omega arith; few = omega (arith, x .few); room = x .room; same = rw (← e1) (x .same) })
 
   pub bordering-end : (list : List ℕ) (n v : ℕ) → a + s ≤ 1024 → Bordering rs a s list n v → a + s ≤ v → (n ≤ s) × (take n list ≡ borders rs a s)

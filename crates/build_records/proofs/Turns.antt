@@ -1,11 +1,11 @@
 -- One landmark written, then the others. Assumes nothing.
 use mathlib.Core.Path.{_≡_, refl, sym, ap, _∙_}
-use mathlib.Core.List.{List, [], _∷_, _++_}
-use Prim.Native.Nat.{ℕ, zero, suc, _+_, _-_, _*_, _≤_, _<_}
+use mathlib.Core.List.{List, _++_}
+use Prim.Native.Nat.{ℕ, suc, _+_, _-_, _*_, _≤_, _<_}
 use native.Mathlib.Nat.{suc-mul, mul-le-mul-right}
 use native.Mathlib.Numerals.{add-one}
 use native.Mathlib.Omega.{arith}
-use lib.ListN.{length, take}
+use lib.ListN.{length}
 use Rattle.book.specs.Writing.{write}
 use Rattle.book.proofs.Writing.{write-append, write-none}
 use Rattle.road_layout.specs.Road.{Road}
@@ -29,7 +29,8 @@ module _ (f : ℕ → List ℕ) (w m a s : ℕ) (bs tree₀ : List ℕ) (start :
   pub marking-room : (tree : List ℕ) (at j : ℕ) → Marking f w m a s bs tree₀ start tree at j → j < m → at + w ≤ length tree
   marking-room tree at j x h = let z : suc j ≤ m = omega arith in omega (arith, x .place, x .room, mul-le-mul-right w z, suc-mul j w)
 
-  pub marking-turn : (tree next : List ℕ) (at j l : ℕ) → Marking f w m a s bs tree₀ start tree at j → j < m → length (f l) ≡ w → l ≡ landmark m a s bs j → next ≡ write tree at (f l) → length next ≡ length tree
+  pub marking-turn : (tree next : List ℕ) (at j l : ℕ) → Marking f w m a s bs tree₀ start tree at j → j < m → length (f l) ≡ w → l ≡ landmark m a s bs j
+      → next ≡ write tree at (f l) → length next ≡ length tree
       → Marking f w m a s bs tree₀ start next (at + w) (j + 1)
   unfolding landmarkBytes
   marking-turn tree next at j l x h len e g k =
@@ -51,7 +52,8 @@ module _ (f : ℕ → List ℕ) (w m a s : ℕ) (bs tree₀ : List ℕ) (start :
       sym (write-none tree at) ∙ (rw z at (x .same))
 
 -- where the landmarks end
-pub marking-place : (f : ℕ → List ℕ) (w m a s : ℕ) (bs tree₀ : List ℕ) (start : ℕ) (tree : List ℕ) (at j size : ℕ) → Marking f w m a s bs tree₀ start tree at j → m ≤ j → w ≡ size
+pub marking-place : (f : ℕ → List ℕ) (w m a s : ℕ) (bs tree₀ : List ℕ) (start : ℕ) (tree : List ℕ) (at j size : ℕ) → Marking f w m a s bs tree₀ start tree at j
+    → m ≤ j → w ≡ size
     → at ≡ start + m * size
 marking-place f w m a s bs tree₀ start tree at j size x h e =
     let k : j ≡ m = omega (arith, x .high) in

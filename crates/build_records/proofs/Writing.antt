@@ -75,7 +75,8 @@ leaf-length : (b yb : List ℕ) (from to l : ℕ) → length (leafBytes b yb fro
 unfolding leafBytes
 leaf-length b yb from to l =
     let zs = yardsFrom yb (to - from) from in
-    omega (arith, length-append (u16Bytes l) (encodeList (ranked (dist b) l zs)), u16-length l, list-length (ranked (dist b) l zs), ranked-length (dist b) l zs, from-length yb (to - from) from)
+    omega (arith, length-append (u16Bytes l) (encodeList (ranked (dist b) l zs)), u16-length l, list-length (ranked (dist b) l zs), ranked-length (dist b) l
+        zs, from-length yb (to - from) from)
 
 inner-length : (b yb : List ℕ) (from to l : ℕ) → length (innerBytes b yb from to l) ≡ 10
 unfolding innerBytes
@@ -83,7 +84,8 @@ inner-length b yb from to l =
     let zs = yardsFrom yb (to - from) from in
     let lo = u32Bytes (least (dist b l) zs) in
     let hi = u32Bytes (greatest (dist b l) zs) in
-    omega (arith, length-append (u16Bytes l) (lo ++ hi), length-append lo hi, u16-length l, u32-length (least (dist b l) zs), u32-length (greatest (dist b l) zs))
+    omega (arith, length-append (u16Bytes l) (lo ++ hi), length-append lo hi, u16-length l, u32-length (least (dist b l) zs), u32-length
+        (greatest (dist b l) zs))
 
 -- they are what `encode` writes of the landmark
 leaf-encoded : (b yb : List ℕ) (from to l : ℕ) → encodeMark 0 (leafMark l (ranked (dist b) l (yardsFrom yb (to - from) from))) ≡ leafBytes b yb from to l
@@ -93,7 +95,8 @@ leaf-encoded b yb from to l =
     mark-leaf 0 (leafMark l list) refl ∙ rw (leaf-place l list, leaf-pairs l list) refl
 
 inner-encoded : (b yb : List ℕ) (from to l q : ℕ) → 0 < q
-    → encodeMark q (innerMark l (least (dist b l) (yardsFrom yb (to - from) from)) (greatest (dist b l) (yardsFrom yb (to - from) from))) ≡ innerBytes b yb from to l
+    → encodeMark q (innerMark l (least (dist b l) (yardsFrom yb (to - from) from)) (greatest (dist b l) (yardsFrom yb (to - from) from))) ≡ innerBytes b yb
+        from to l
 unfolding innerBytes
 inner-encoded b yb from to l q h =
     let lo = least (dist b l) (yardsFrom yb (to - from) from) in
@@ -120,15 +123,18 @@ module _ (b yb : List ℕ) (from to q l : ℕ) where
           let e : q ≡ 0 = omega (arith, n) in
           ap length (leaf-is e) ∙ leaf-length b yb from to l ∙ sym (mark-size-leaf q (to - from) e)
 
-  pub mark-leaf-written : (tree out : List ℕ) (at : ℕ) → q ≡ 0 → out ≡ write tree at (leafBytes b yb from to l) → out ≡ write tree at (markBytes b yb from to q l)
+  pub mark-leaf-written : (tree out : List ℕ) (at : ℕ) → q ≡ 0 → out ≡ write tree at (leafBytes b yb from to l) → out ≡ write tree at (markBytes b yb from to q
+      l)
   mark-leaf-written tree out at e f = f ∙ ap (write tree at) (sym (leaf-is e))
 
-  pub mark-inner-written : (tree out : List ℕ) (at : ℕ) → 0 < q → out ≡ write tree at (innerBytes b yb from to l) → out ≡ write tree at (markBytes b yb from to q l)
+  pub mark-inner-written : (tree out : List ℕ) (at : ℕ) → 0 < q → out ≡ write tree at (innerBytes b yb from to l) → out ≡ write tree at (markBytes b yb from to
+      q l)
   mark-inner-written tree out at h f = f ∙ ap (write tree at) (sym (inner-is h))
 
   pub mark-leaf-encoded : q ≡ 0 → encodeMark 0 (leafMark l (ranked (dist b) l (yardsFrom yb (to - from) from))) ≡ markBytes b yb from to q l
   mark-leaf-encoded e = leaf-encoded b yb from to l ∙ sym (leaf-is e)
 
   pub mark-inner-encoded : 0 < q
-      → encodeMark q (innerMark l (least (dist b l) (yardsFrom yb (to - from) from)) (greatest (dist b l) (yardsFrom yb (to - from) from))) ≡ markBytes b yb from to q l
+      → encodeMark q (innerMark l (least (dist b l) (yardsFrom yb (to - from) from)) (greatest (dist b l) (yardsFrom yb (to - from) from))) ≡ markBytes b yb
+          from to q l
   mark-inner-encoded h = inner-encoded b yb from to l q h ∙ sym (inner-is h)

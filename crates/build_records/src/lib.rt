@@ -57,7 +57,7 @@ fn put_marks(
     ensures place { λ r. ⌜ r ≡ start + m * markSize children (p .end - p .from) ⌝ }
     ensures tree { λ _. ⌜ ((road : List ℕ) → Adjacency road (now (adj .entry)) → now (tree .exit) ≡ write (now (tree .entry)) start
         (landmarkBytes (markBytes road (now (yb .entry)) (p .from) (p .end) children) m (p .start) (p .size)
-            (borders (roads road) (p .start) (p .size)) m 0)) ⌝ }
+        (borders (roads road) (p .start) (p .size)) m 0)) ⌝ }
 {
     let size = mark_size(children, p.end - p.from);
     let mut at = start;
@@ -86,7 +86,7 @@ pub fn put_record(
     ensures place { λ r. ⌜ r ≡ at + recordSize m children (p .end - p .from) ⌝ }
     ensures tree { λ _. ⌜ ((road : List ℕ) (limit : ℕ) → Adjacency road (now (adj .entry)) → now (tree .exit) ≡ write (now (tree .entry)) at
         (encodeRegion (regionOf (given road m limit) (p .start) (p .size) children
-            (yardsFrom (now (yb .entry)) (p .end - p .from) (p .from))))) ⌝ }
+        (yardsFrom (now (yb .entry)) (p .end - p .from) (p .from))))) ⌝ }
 {
     let mut list = [0u16; 1024];
     let c = borders::border_list(adj, p.start, p.size, &mut list);

@@ -55,15 +55,7 @@ fn put_inner_mark(
 }
 
 // Writes landmark l of a region with so many children over a range.
-pub fn put_mark(
-    adj: &[u16],
-    yb: &[u8],
-    p: Part,
-    children: u8,
-    l: u16,
-    tree: &mut [u8],
-    at: usize,
-)
+pub fn put_mark(adj: &[u16], yb: &[u8], p: Part, children: u8, l: u16, tree: &mut [u8], at: usize)
     requires { ⌜ Ready (now adj) (now yb) p × (0 < children → p .from < p .end) × (l < countIn (now adj))
         × (at + markSize children (p .end - p .from) ≤ length (now tree)) ⌝ }
     ensures { λ _. ⌜ ((road : List ℕ) → Adjacency road (now (adj .entry)) → now (tree .exit) ≡ write (now (tree .entry)) at

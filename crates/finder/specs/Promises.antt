@@ -22,7 +22,7 @@ use Rattle.tree_encode.specs.Encode.{encode}
 use Rattle.cut_tree.specs.Facts.{Rule}
 use Rattle.tree_check.specs.Check.{checkAnswer}
 use Rattle.tree_check.specs.Facts.{HoldsEach, TrueTotals}
-use Rattle.tree_records.specs.Given.{given}
+use Rattle.build_records.specs.Given.{given}
 use Rattle.tree_build.specs.Build.{treeBytes, buildAnswer, builtTree, builtLength, treeAfter}
 use Rattle.tree_build.specs.Facts.{InRange, Areas, writtenBook}
 use Rattle.query.specs.Query.{kOf, queryRefusal, QueryLayout}

@@ -10,7 +10,7 @@ use Rattle.road_layout.specs.Road.{junctions, roadCount}
 use Rattle.road_layout.specs.Layout.{told, numberOf}
 use Rattle.road_layout.specs.declared.RoadBook.{RoadBook}
 use Rattle.road_layout.specs.declared.RoadBook.the-variants.{Sound, Refused}
-use Rattle.road_layout.proofs.Reading.{told-number}
+use Rattle.road_layout.proofs.Reading.{number-told}
 use Rattle.adjacency.specs.Adjacency.{Adjacency}
 use Rattle.road.specs.Refusal.{roadRefusal}
 use Rattle.road.proofs.Answering.{read-sound, read-refused}
@@ -60,7 +60,7 @@ module _ (road tree : List ℕ) (o : RoadBook) (e : o ≡ told (roadRefusal road
   unfolding districtRefusal
   road-back why s f g =
       let q = read-refused road o why e f in
-      let n : s ≡ roadRefusal road = g ∙ ap numberOf e ∙ told-number (roadRefusal road) (junctions road) (roadCount road) in
+      let n : s ≡ roadRefusal road = g ∙ ap numberOf e ∙ number-told (roadRefusal road) (junctions road) (roadCount road) in
       (n ∙ sym (first-earlier (roadRefusal road) _ (omega (arith, q .0, q .1))), λ z. omega (arith, n, q .0, q .1))
 
   -- the tree book's tests are left

@@ -14,10 +14,10 @@ use Rattle.book.proofs.Lists.{eq→eqb, ne→neqb}
 use Rattle.work_area.specs.Work.{workWords, workRefusal, zeroed, workAfter}
 use Rattle.work_area.proofs.Zeroing.{work-short, work-enough, enough-work, accepted-zeroed, refused-kept}
 use Rattle.road_layout.specs.Road.{junctions, roadCount}
-use Rattle.road_layout.specs.Layout.{told}
+use Rattle.road_layout.specs.Layout.{told, numberOf as road-number}
 use Rattle.road_layout.specs.declared.RoadBook.{RoadBook}
 use Rattle.road_layout.specs.declared.RoadBook.the-variants.{Sound, Refused}
-use Rattle.road_layout.proofs.Reading.{told-why, told-sound}
+use Rattle.road_layout.proofs.Reading.{told-why, told-sound, number-told}
 use Rattle.road.specs.Refusal.{roadRefusal}
 use Rattle.yard.specs.Yards.{yardCount, yardRefusalIn, yardBook, numberOf}
 use Rattle.yard.specs.declared.YardBook.{YardBook}
@@ -123,10 +123,11 @@ module _ (road yard : List ℕ) (m limit words room : ℕ) where
 
   -- what reading the road book found
   module _ (o : RoadBook) (e : o ≡ told (roadRefusal road) (junctions road) (roadCount road)) where
-    pub build-road : (why : ℕ) → o ≡ Refused why → why ≡ buildAnswer road yard m limit words room
-    build-road why f =
+    pub build-road : (why r : ℕ) → o ≡ Refused why → r ≡ road-number o → r ≡ buildAnswer road yard m limit words room
+    build-road why r f p =
         let q = told-why (roadRefusal road) (junctions road) (roadCount road) why (sym e ∙ f) in
-        sym (q .0) ∙ sym (road-turned (omega (arith, q .0, q .1)))
+        let z : r ≡ roadRefusal road = p ∙ ap road-number e ∙ number-told (roadRefusal road) (junctions road) (roadCount road) in
+        z ∙ sym (road-turned (omega (arith, q .0, q .1)))
 
     module _ (n k : ℕ) (f : o ≡ Sound n k) where
       road-sound : (roadRefusal road ≡ 0) × (n ≡ junctions road)

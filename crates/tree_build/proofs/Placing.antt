@@ -15,11 +15,12 @@ use Rattle.tree_encode.proofs.Parts.{header-length, book-is}
 use Rattle.build_records.specs.declared.Part.{Part}
 use Rattle.build_cuts.specs.declared.Plan.{Plan}
 use Rattle.build_cuts.specs.Writing.{Written}
-use Rattle.build_cuts.specs.Cutting.{rangeRegions, regionsOf, Numbered, Range, Room}
+use Rattle.build_cuts.specs.Cutting.{regionsOf, Numbered, Range, Room}
 use Rattle.tree_build.specs.Build.{builtTree}
-use Rattle.tree_build.specs.Facts.{Accepted, AcceptedBy}
+use Rattle.tree_build.specs.Facts.{AcceptedBy}
 use Rattle.tree_build.proofs.Heading.{write-before}
-use Rattle.tree_build.proofs.Limits.{yards-alone, few-junctions, some-junction, its-junctions, its-yards, its-landmarks, its-regions, its-length, short, few-regions, regions-fit}
+use Rattle.tree_build.proofs.Limits.{yards-alone, few-junctions, some-junction, its-junctions, its-yards, its-landmarks, its-regions, its-length, short}
+use Rattle.tree_build.proofs.Limits.{few-regions, regions-fit}
 
 module _ (adj yard : List ℕ) (plan : Plan) (words : ℕ) (tree : List ℕ)
     (by : AcceptedBy adj yard (plan .landmarks) (plan .limit) words (length tree)) (n : ℕ) (en : n ≡ countIn adj) where
@@ -76,7 +77,8 @@ module _ (adj yard : List ℕ) (plan : Plan) (words : ℕ) (tree : List ℕ)
       end-some = omega (arith, w (by .book) (by .adjacent) .end)
 
       pub count-low : c ≤ 511
-      count-low = omega (arith, count-is (by .book) (by .adjacent), few-regions (by .book) yard (plan .landmarks) (plan .limit) words (length tree) (by .accepted))
+      count-low = omega (arith, count-is (by .book) (by .adjacent), few-regions (by .book) yard (plan .landmarks) (plan .limit) words (length tree)
+          (by .accepted))
 
       pub header-room : (l : ℕ) → l ≡ length tree → 12 ≤ l
       header-room l e = omega (arith, by .accepted .areas .tree)

@@ -33,7 +33,8 @@ use Rattle.tree_build.specs.Build.{rangeRefusal, roomRefusal, buildAnswe
 use Rattle.tree_build.specs.Facts.{InRange, Areas, Accepted, Refusals, Kept, writtenBook, Writes, BuildExact}
 use Rattle.tree_build.proofs.Heading.{written-front, written-rest, written-whole}
 use Rattle.tree_build.proofs.Limits.{built-tree, its-junctions, short}
-use Rattle.tree_build.proofs.Answering.{range-facts, facts-range, room-facts, long-enough, accepted-facts, facts-accepted, call-tests, area-tests, road-turned, yard-turned, turned-length, turned-work, turned-tree, taken-length, taken-tree}
+use Rattle.tree_build.proofs.Answering.{range-facts, facts-range, room-facts, long-enough, accepted-facts, facts-accepted, call-tests, area-tests}
+use Rattle.tree_build.proofs.Answering.{road-turned, yard-turned, turned-length, turned-work, turned-tree, taken-length, taken-tree}
 
 -- ---- which calls are turned back
 
@@ -155,11 +156,12 @@ module _ (road yard : List ℕ) (m limit : ℕ) (work tree : List ℕ) where
 
     counts : junctionCount (encode (builtTree road yard m limit)) ≡ junctions road
     counts =
-        sym (decode-junctions (encode t)) ∙ (ap (λ (x : Tree). x .junctions) back ∙ its-junctions road yard m limit (length work) (length tree) acc)
+        sym (decode-junctions (encode t)) ∙ (ap (λ (x : Tree). x .junctions) back ∙ its-junctions road yard m limit (acc .yards))
 
     passes : (words : ℕ) → workWords ≤ words → checkAnswer road yard (encode (builtTree road yard m limit)) words ≡ 0
     passes words h =
-        true-passes road yard (encode t) words (record { roads = acc .roads; yards = acc .yards; shape = shape; counts = counts; full = h }) yards-same numbers-true
+        true-passes road yard (encode t) words (record { roads = acc .roads; yards = acc .yards; shape = shape; counts = counts; full = h }) yards-same
+            numbers-true
 
     bytes : Bytes (encode (builtTree road yard m limit))
     unfolding builtTree

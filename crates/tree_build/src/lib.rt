@@ -132,15 +132,7 @@ pub fn build(
         (length (now (work .entry))) (now (tree .entry)) ⌝ }
 {
     let mut adj = [0u16; adjacency::WORDS];
-    let why = refusal(
-        road,
-        yard,
-        m,
-        limit,
-        work.len(),
-        tree.len(),
-        &mut adj,
-    );
+    let why = refusal(road, yard, m, limit, work.len(), tree.len(), &mut adj);
     if why != 0 {
         return Built {
             refusal: why as u32,

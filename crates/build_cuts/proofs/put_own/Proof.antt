@@ -14,7 +14,7 @@ same-length : tie.Need-same-length
 same-length c = search needs
 
 returns-2 : tie.Need-returns-2
-returns-2 c =     let w = c .before .before .put-record .ensures in
+returns-2 c = let w = c .before .before .put-record .ensures in
     λ road limit a. own-written _ _ _ _ _ _ _ _ _ _ _ _ (c .before .before .before .before .if1 .left) (from-length _ _ _) (w .0) (w .1 road limit a)
 
 pub put-own-spec : {M : Type 1} → statement M

@@ -1,4 +1,3 @@
-use borrow.Author.Needs.{needs}
 use borrow.Author.Tests.{eq-eqb, ne-eqb}
 use Rattle.build_cuts.proofs.stays.Statement.{statement}
 use Rattle.build_cuts.proofs.stays.Tie as tie

@@ -1,7 +1,6 @@
-use borrow.Author.Needs.{needs}
-use mathlib.Core.Path.{_≡_, refl, sym, _∙_}
+use mathlib.Core.Path.{sym, _∙_}
 use mathlib.Core.List.{List}
-use Prim.Native.Nat.{ℕ, _+_, _-_, _*_, _≤_, _<_}
+use Prim.Native.Nat.{ℕ, _+_, _-_, _≤_}
 use native.Mathlib.Omega.{arith}
 use lib.ListN.{length}
 use Rattle.road_layout.specs.Road.{roads}
@@ -16,18 +15,34 @@ use Rattle.build_records.proofs.put_marks.Statement.{statement}
 use Rattle.build_records.proofs.put_marks.Tie as tie
 
 abbrev Inv-loop : tie.InvT-loop
-Inv-loop adj yb list p m children tree₀ start size at₀ j₀ tree at j = (road : List ℕ) → Adjacency road adj → Marking (markBytes road yb (p .from) (p .end) children) size m (p .start) (p .size) (borders (roads road) (p .start) (p .size)) tree₀ start tree at j
+Inv-loop adj yb list p m children tree₀ start size at₀ j₀ tree at j =
+    (road : List ℕ) → Adjacency road adj → Marking (markBytes road yb (p .from) (p .end) children) size m (p .start) (p .size) (borders (roads road) (p .start)
+    (p .size)) tree₀ start tree at j
 
 abbrev μ-loop : tie.MeasureT-loop
 μ-loop adj yb list p m children tree₀ start size at₀ j₀ tree at j = m - j
 
 -- what is known for the book that there is
-known : (c : tie.In-loop Inv-loop μ-loop) → Marking (markBytes (c .before .before .before .before .before .before .before .before .pre .0 .adjacency .book) (c .before .before .before .before .before .before .before .before .args .yb .now) (c .before .before .before .before .before .before .before .before .args .p .from) (c .before .before .before .before .before .before .before .before .args .p .end) (c .before .before .before .before .before .before .before .before .args .children)) (c .before .before .mark-size .result) (c .before .before .before .before .before .before .before .before .args .m) (c .before .before .before .before .before .before .before .before .args .p .start) (c .before .before .before .before .before .before .before .before .args .p .size)
-    (borders (roads (c .before .before .before .before .before .before .before .before .pre .0 .adjacency .book)) (c .before .before .before .before .before .before .before .before .args .p .start) (c .before .before .before .before .before .before .before .before .args .p .size)) (c .before .before .before .before .before .before .before .before .args .tree .now) (c .before .before .before .before .before .before .before .before .args .start) (c .before .loop .tree) (c .before .loop .at) (c .before .loop .j)
-known c = c .before .loop .inv (c .before .before .before .before .before .before .before .before .pre .0 .adjacency .book) (c .before .before .before .before .before .before .before .before .pre .0 .adjacency .adjacent)
+known : (c : tie.In-loop Inv-loop μ-loop) → Marking (markBytes (c .before .before .before .before .before .before .before .before .pre .0 .adjacency .book)
+    (c .before .before .before .before .before .before .before .before .args .yb .now)
+    (c .before .before .before .before .before .before .before .before .args .p .from)
+    (c .before .before .before .before .before .before .before .before .args .p .end)
+    (c .before .before .before .before .before .before .before .before .args .children)) (c .before .before .mark-size .result)
+    (c .before .before .before .before .before .before .before .before .args .m)
+    (c .before .before .before .before .before .before .before .before .args .p .start)
+    (c .before .before .before .before .before .before .before .before .args .p .size)
+    (borders (roads (c .before .before .before .before .before .before .before .before .pre .0 .adjacency .book))
+        (c .before .before .before .before .before .before .before .before .args .p .start)
+        (c .before .before .before .before .before .before .before .before .args .p .size))
+        (c .before .before .before .before .before .before .before .before .args .tree .now)
+        (c .before .before .before .before .before .before .before .before .args .start) (c .before .loop .tree) (c .before .loop .at) (c .before .loop .j)
+known c =
+    c .before .loop .inv (c .before .before .before .before .before .before .before .before .pre .0 .adjacency .book)
+    (c .before .before .before .before .before .before .before .before .pre .0 .adjacency .adjacent)
 
 -- the next landmark has its place
-fits : (c : tie.In-loop Inv-loop μ-loop) → c .before .loop .at + c .before .before .mark-size .result ≤ length (c .before .before .before .before .before .before .before .before .args .tree .now)
+fits : (c : tie.In-loop Inv-loop μ-loop) → c .before .loop .at + c .before .before .mark-size .result ≤ length
+    (c .before .before .before .before .before .before .before .before .args .tree .now)
 fits c = omega (arith, marking-room _ _ _ _ _ _ _ _ _ _ _ (known c) (c .loop-test .taken), known c .kept)
 
 sub-mark-size : tie.Need-sub-mark-size Inv-loop μ-loop
@@ -40,39 +55,53 @@ loop-holds : tie.Need-loop-holds Inv-loop μ-loop
 loop-holds c = let p = c .before .before .before .before .before .before .pre in λ road b. marking-start _ _ _ _ _ _ _ _ (rw (c .mark-size .ensures) (p .5))
 
 landmark-of-requires : tie.Need-landmark-of-requires Inv-loop μ-loop
-landmark-of-requires c κs =     let p = c .before .before .before .before .before .before .before .before .pre in
+landmark-of-requires c κs = let p = c .before .before .before .before .before .before .before .before .pre in
     let n = few-junctions (p .0 .adjacency .adjacent) in
     (p .2, c .loop-test .taken, p .3, omega (arith, p .0 .inside, n), p .0 .some)
 
 put-mark-requires : tie.Need-put-mark-requires Inv-loop μ-loop
-put-mark-requires c κs =     let p = c .before .before .before .before .before .before .before .before .before .before .pre in
-    (p .0, p .4, landmark-low _ _ _ _ _ _ _ _ (p .1 (p .0 .adjacency .book) (p .0 .adjacency .adjacent)) (p .0 .some) (c .before .before .loop-test .taken) (p .0 .inside) (c .before .landmark-of .ensures),
-      omega (arith, marking-room _ _ _ _ _ _ _ _ _ _ _ (known (c .before .before)) (c .before .before .loop-test .taken), c .before .before .before .before .mark-size .ensures))
+put-mark-requires c κs = let p = c .before .before .before .before .before .before .before .before .before .before .pre in (
+  p .0,
+  p .4,
+  landmark-low _ _ _ _ _ _ _ _ (p .1 (p .0 .adjacency .book) (p .0 .adjacency .adjacent)) (p .0 .some) (c .before .before .loop-test .taken) (p .0 .inside)
+      (c .before .landmark-of .ensures),
+  omega (arith, marking-room _ _ _ _ _ _ _ _ _ _ _ (known (c .before .before)) (c .before .before .loop-test .taken),
+      c .before .before .before .before .mark-size .ensures),
+)
 
 add-at : tie.Need-add-at Inv-loop μ-loop
-add-at c = let s = c .before .before .before .before .before .before .before .before .before .before .before .before .before in omega (arith, fits (c .before .before .before .before .before), s .good, s .fits)
+add-at c =
+    let s = c .before .before .before .before .before .before .before .before .before .before .before .before .before in omega (arith, fits
+    (c .before .before .before .before .before), s .good, s .fits)
 
 add-j : tie.Need-add-j Inv-loop μ-loop
-add-j c = omega (arith, c .before .before .before .before .before .before .before .before .before .before .before .before .before .pre .3, c .before .before .before .before .before .loop-test .taken)
+add-j c =
+    omega (arith, c .before .before .before .before .before .before .before .before .before .before .before .before .before .pre .3,
+    c .before .before .before .before .before .loop-test .taken)
 
 loop-less : tie.Need-loop-less Inv-loop μ-loop
 loop-less c = omega (arith, c .before .before .before .before .before .loop-test .taken)
 
 loop-again : tie.Need-loop-again Inv-loop μ-loop
-loop-again c =     let s = c .before .before .before .before .before .before .before .before .before .before .before .before .before in
+loop-again c = let s = c .before .before .before .before .before .before .before .before .before .before .before .before .before in
     let x = c .before .before .put-mark in
     λ road b.
-    marking-turn _ _ _ _ _ _ _ _ _ _ _ _ _ (c .before .before .before .before .before .before .loop .inv road b) (c .before .before .before .before .before .loop-test .taken) (mark-length _ _ _ _ _ _ ∙ sym (c .before .before .before .before .before .before .before .mark-size .ensures))
+    marking-turn _ _ _ _ _ _ _ _ _ _ _ _ _ (c .before .before .before .before .before .before .loop .inv road b)
+        (c .before .before .before .before .before .loop-test .taken) (mark-length _ _ _ _ _ _ ∙ sym
+        (c .before .before .before .before .before .before .before .mark-size .ensures))
     (landmark-same _ _ _ _ _ _ _ (s .pre .1 road b) (c .before .before .before .before .landmark-of .ensures)) (x .ensures road b) (omega (arith, x .kept))
 
 same-length : tie.Need-same-length Inv-loop μ-loop
-same-length c = let p = c .before .before .before .before .before .before .before .before .pre in c .before .loop .inv (p .0 .adjacency .book) (p .0 .adjacency .adjacent) .kept
+same-length c =
+    let p = c .before .before .before .before .before .before .before .before .pre in c .before .loop .inv (p .0 .adjacency .book)
+    (p .0 .adjacency .adjacent) .kept
 
 returns : tie.Need-returns Inv-loop μ-loop
-returns c =     let p = c .before .before .before .before .before .before .before .before .pre in
+returns c = let p = c .before .before .before .before .before .before .before .before .pre in
     let l = c .before .loop in
     let k = l .inv (p .0 .adjacency .book) (p .0 .adjacency .adjacent) in
-    (marking-place _ _ _ _ _ _ _ _ _ _ _ _ k (c .loop-test .left) (c .before .before .mark-size .ensures), λ road b. marking-end _ _ _ _ _ _ _ _ _ _ _ (l .inv road b) (c .loop-test .left))
+    (marking-place _ _ _ _ _ _ _ _ _ _ _ _ k (c .loop-test .left) (c .before .before .mark-size .ensures), λ road b. marking-end _ _ _ _ _ _ _ _ _ _ _
+        (l .inv road b) (c .loop-test .left))
 
 pub put-marks-spec : {M : Type 1} → statement M
 put-marks-spec =

@@ -1,7 +1,6 @@
 use borrow.Author.Needs.{needs}
-use mathlib.Core.Path.{_≡_, refl, sym, ap, _∙_}
+use mathlib.Core.Path.{refl, sym}
 use Prim.Native.Nat.{_-_, _≤_}
-use lib.ListN.{length}
 use native.Mathlib.Omega.{arith}
 use lib.Seq.{length-take-le}
 use Rattle.tree_layout.proofs.Decoding.{record-size}
@@ -15,16 +14,22 @@ slice-aggregate-border-list : tie.Need-slice-aggregate-border-list
 slice-aggregate-border-list c = search needs
 
 border-list-requires : tie.Need-border-list-requires
-border-list-requires c κs = let p = c .before .before .before .before .pre in (p .0 .adjacency, omega (arith, p .0 .inside, few-junctions (p .0 .adjacency .adjacent)), refl)
+border-list-requires c κs =
+    let p = c .before .before .before .before .pre in (p .0 .adjacency, omega (arith, p .0 .inside, few-junctions (p .0 .adjacency .adjacent)), refl)
 
 cast-t16 : tie.Need-cast-t16
-cast-t16 c = let p = c .before .before .before .before .before .before .before .before .pre in omega (arith, p .0 .inside, few-junctions (p .0 .adjacency .adjacent))
+cast-t16 c =
+    let p = c .before .before .before .before .before .before .before .before .pre in omega (arith, p .0 .inside, few-junctions (p .0 .adjacency .adjacent))
 
 add-t17 : tie.Need-add-t17
-add-t17 c = let p = c .before .before .before .before .before .before .before .before .before .pre in omega (arith, p .0 .inside, few-junctions (p .0 .adjacency .adjacent))
+add-t17 c =
+    let p = c .before .before .before .before .before .before .before .before .before .pre in omega (arith, p .0 .inside, few-junctions
+    (p .0 .adjacency .adjacent))
 
 cast-t18 : tie.Need-cast-t18
-cast-t18 c = let p = c .before .before .before .before .before .before .before .before .before .pre in omega (arith, p .0 .inside, few-junctions (p .0 .adjacency .adjacent))
+cast-t18 c =
+    let p = c .before .before .before .before .before .before .before .before .before .pre in omega (arith, p .0 .inside, few-junctions
+    (p .0 .adjacency .adjacent))
 
 sub-t19 : tie.Need-sub-t19
 sub-t19 c = omega (arith, c .before .before .before .before .before .before .before .before .before .before .pre .0 .yards .order)
@@ -33,30 +38,43 @@ cast-t20 : tie.Need-cast-t20
 cast-t20 c = omega (arith, yards-few _ _ _ (c .before .before .before .before .before .before .before .before .before .before .pre .0 .yards))
 
 put-fields-requires : tie.Need-put-fields-requires
-put-fields-requires c κs = let s = c .before .before .before .before .before .before .before .before .before .before in omega (arith, s .pre .3, record-size (s .args .m) (s .args .children) (s .args .p .end - s .args .p .from))
+put-fields-requires c κs =
+    let s = c .before .before .before .before .before .before .before .before .before .before in omega (arith, s .pre .3, record-size (s .args .m)
+    (s .args .children) (s .args .p .end - s .args .p .from))
 
 marks-at-requires : tie.Need-marks-at-requires
-marks-at-requires c κs = let s = c .before .before .before .before .before .before .before .before .before .before .before .before .before in omega (arith, s .pre .3, record-size (s .args .m) (s .args .children) (s .args .p .end - s .args .p .from), s .good, s .fits)
+marks-at-requires c κs =
+    let s = c .before .before .before .before .before .before .before .before .before .before .before .before .before in omega (arith, s .pre .3, record-size
+    (s .args .m) (s .args .children) (s .args .p .end - s .args .p .from), s .good, s .fits)
 
 array-share-prefix-list : tie.Need-array-share-prefix-list
-array-share-prefix-list c = let p = c .before .before .before .before .before .before .before .before .before .before .before .before .before .before .pre in let l = c .before .before .before .before .before .before .before .before .before .border-list in omega (arith, l .ensures .0, l .kept, p .0 .inside, few-junctions (p .0 .adjacency .adjacent))
+array-share-prefix-list c =
+    let p = c .before .before .before .before .before .before .before .before .before .before .before .before .before .before .pre in let l =
+    c .before .before .before .before .before .before .before .before .before .border-list in omega (arith, l .ensures .0, l .kept, p .0 .inside, few-junctions
+    (p .0 .adjacency .adjacent))
 
 slice-aggregate-put-marks : tie.Need-slice-aggregate-put-marks
-slice-aggregate-put-marks c = let p = c .before .before .before .before .before .before .before .before .before .before .before .before .before .before .before .pre in let l = c .before .before .before .before .before .before .before .before .before .before .border-list in sym (length-take-le _ _ (omega (arith, l .ensures .0, l .kept, p .0 .inside, few-junctions (p .0 .adjacency .adjacent))))
+slice-aggregate-put-marks c =
+    let p = c .before .before .before .before .before .before .before .before .before .before .before .before .before .before .before .pre in let l =
+    c .before .before .before .before .before .before .before .before .before .before .border-list in sym (length-take-le _ _
+    (omega (arith, l .ensures .0, l .kept, p .0 .inside, few-junctions (p .0 .adjacency .adjacent))))
 
 put-marks-requires : tie.Need-put-marks-requires
-put-marks-requires c κs =     let p = c .before .before .before .before .before .before .before .before .before .before .before .before .before .before .before .before .pre in
+put-marks-requires c κs =
+    let p = c .before .before .before .before .before .before .before .before .before .before .before .before .before .before .before .before .pre in
     let l = c .before .before .before .before .before .before .before .before .before .before .before .border-list in
     let few : l .result ≤ 1024 = omega (arith, l .ensures .0, p .0 .inside, few-junctions (p .0 .adjacency .adjacent)) in
-    (p .0, l .ensures .1, part-few _ _ few (omega (arith, few, l .kept)), p .1, p .2, room _ _ _ _ _ _ _ (c .before .before .marks-at .ensures) (p .3) (omega (arith, c .before .before .before .before .before .put-fields .kept)))
+    (p .0, l .ensures .1, part-few _ _ few (omega (arith, few, l .kept)), p .1, p .2, room _ _ _ _ _ _ _ (c .before .before .marks-at .ensures) (p .3)
+        (omega (arith, c .before .before .before .before .before .put-fields .kept)))
 
 same-length : tie.Need-same-length
 same-length c = search needs
 
 returns : tie.Need-returns
-returns c =     let w = c .before .before .put-marks in
+returns c = let w = c .before .before .put-marks in
     let s = c .before .before .before .before .before .marks-at .ensures in
-    (ends _ _ _ _ _ _ s (w .ensures .0), λ road limit b. record-written _ _ _ _ _ _ _ _ _ _ _ _ _ _ s (c .before .before .before .before .before .before .before .before .put-fields .ensures) (w .ensures .1 road b))
+    (ends _ _ _ _ _ _ s (w .ensures .0), λ road limit b. record-written _ _ _ _ _ _ _ _ _ _ _ _ _ _ s
+        (c .before .before .before .before .before .before .before .before .put-fields .ensures) (w .ensures .1 road b))
 
 pub put-record-spec : {M : Type 1} → statement M
 put-record-spec =

@@ -27,7 +27,9 @@ cast-y : tie.Need-cast-y Inv-loop μ-loop
 cast-y c = search needs
 
 returns : tie.Need-returns Inv-loop μ-loop
-returns c = below-stop _ _ _ _ _ (c .before .before .before .before .loop .inv) (c .before .before .before .loop-test .taken) (c .before .before .yard-at .ensures) (omega (arith, c .if1 .taken))
+returns c =
+    below-stop _ _ _ _ _ (c .before .before .before .before .loop .inv) (c .before .before .before .loop-test .taken) (c .before .before .yard-at .ensures)
+    (omega (arith, c .if1 .taken))
 
 add-n : tie.Need-add-n Inv-loop μ-loop
 add-n c = search needs
@@ -36,7 +38,9 @@ loop-less : tie.Need-loop-less Inv-loop μ-loop
 loop-less c = search needs
 
 loop-again : tie.Need-loop-again Inv-loop μ-loop
-loop-again c = below-turn _ _ _ _ _ (c .before .before .before .before .loop .inv) (c .before .before .before .loop-test .taken) (c .before .before .yard-at .ensures) (omega (arith, c .if1 .left))
+loop-again c =
+    below-turn _ _ _ _ _ (c .before .before .before .before .loop .inv) (c .before .before .before .loop-test .taken) (c .before .before .yard-at .ensures)
+    (omega (arith, c .if1 .left))
 
 returns-2 : tie.Need-returns-2 Inv-loop μ-loop
 returns-2 c = below-end _ _ _ _ (c .before .loop .inv) (c .loop-test .left)

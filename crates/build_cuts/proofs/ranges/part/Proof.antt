@@ -1,6 +1,4 @@
-use borrow.Author.Needs.{needs}
-use mathlib.Core.Path.{_≡_, _∙_}
-use Prim.Native.Nat.{_+_, _-_, _≤_}
+use mathlib.Core.Path.{_∙_}
 use native.Mathlib.Omega.{arith}
 use Rattle.build_cuts.proofs.Turns.{cuts-rise, cuts-top}
 use Rattle.build_cuts.proofs.ranges.part.Statement.{statement}
@@ -19,12 +17,12 @@ sub-range : tie.Need-sub-range
 sub-range c = cuts-rise _ _ _ _ _ (c .before .cut-at .ensures) (c .cut-at2 .ensures)
 
 range-requires : tie.Need-range-requires
-range-requires c κs =     let p = c .before .before .before .pre in
+range-requires c κs = let p = c .before .before .before .pre in
     let l = cuts-rise _ _ _ _ _ (c .before .cut-at .ensures) (c .cut-at2 .ensures) in
     (p .0, omega (arith, l, cuts-top _ _ _ (p .2) _ (c .cut-at2 .ensures), p .1))
 
 returns : tie.Need-returns
-returns c =     let r = c .range .ensures in
+returns c = let r = c .range .ensures in
     let l = cuts-rise _ _ _ _ _ (c .before .before .cut-at .ensures) (c .before .cut-at2 .ensures) in
     (r .0 ∙ c .before .before .cut-at .ensures, omega (arith, r .0, r .1, l, c .before .cut-at2 .ensures), r .2)
 

@@ -1,5 +1,4 @@
-use borrow.Author.Needs.{needs}
-use mathlib.Core.Path.{_≡_, sym, _∙_}
+use mathlib.Core.Path.{sym, _∙_}
 use mathlib.Core.Logic.{⊎-elim}
 use mathlib.Core.List.{List}
 use Prim.Native.Nat.{ℕ, _+_, _-_}
@@ -17,7 +16,8 @@ abbrev μ-loop : tie.MeasureT-loop
 μ-loop adj a s list₀ n₀ v₀ list n v = a + s - v
 
 -- what is known for the book that there is
-known : (c : tie.In-loop Inv-loop μ-loop) → Bordering (roads (c .before .before .before .before .pre .0 .book)) (c .before .before .before .before .args .a) (c .before .before .before .before .args .s) (c .before .loop .list) (c .before .loop .n) (c .before .loop .v)
+known : (c : tie.In-loop Inv-loop μ-loop) → Bordering (roads (c .before .before .before .before .pre .0 .book)) (c .before .before .before .before .args .a)
+    (c .before .before .before .before .args .s) (c .before .loop .list) (c .before .loop .n) (c .before .loop .v)
 known c = c .before .loop .inv (c .before .before .before .before .pre .0 .book) (c .before .before .before .before .pre .0 .adjacent)
 
 loop-holds : tie.Need-loop-holds Inv-loop μ-loop
@@ -36,7 +36,9 @@ mul-list : tie.Need-mul-list Inv-loop μ-loop
 mul-list c = omega (arith, known (c .before .before) .few, c .before .before .loop-test .taken, c .before .before .before .before .before .before .pre .1)
 
 slice-write-list : tie.Need-slice-write-list Inv-loop μ-loop
-slice-write-list c = omega (arith, known (c .before .before) .few, known (c .before .before) .room, c .before .before .loop-test .taken, c .before .before .before .before .before .before .pre .1)
+slice-write-list c =
+    omega (arith, known (c .before .before) .few, known (c .before .before) .room, c .before .before .loop-test .taken,
+    c .before .before .before .before .before .before .pre .1)
 
 add-n : tie.Need-add-n Inv-loop μ-loop
 add-n c = omega (arith, known (c .before .before) .few, c .before .before .loop-test .taken, c .before .before .before .before .before .before .pre .1)
@@ -48,20 +50,22 @@ loop-less : tie.Need-loop-less Inv-loop μ-loop
 loop-less c = omega (arith, c .before .before .loop-test .taken)
 
 loop-again : tie.Need-loop-again Inv-loop μ-loop
-loop-again c =     λ road b.
+loop-again c = λ road b.
     let i = c .before .before .before .loop .inv road b in
     let f = c .before .before .before .before .before .before .pre .1 in
     let h = c .before .before .loop-test .taken in
     let e = c .before .is-border .ensures road b in
-    ⊎-elim (λ w. bordering-yes _ _ _ _ _ _ f i h _ _ (sym e ∙ w .0 .taken) (w .1) (w .2)) (λ w. bordering-no _ _ _ _ _ _ f i h _ _ (sym e ∙ w .0 .left) (w .1) (w .2)) (c .if1 .came)
+    ⊎-elim (λ w. bordering-yes _ _ _ _ _ _ f i h _ _ (sym e ∙ w .0 .taken) (w .1) (w .2)) (λ w. bordering-no _ _ _ _ _ _ f i h _ _ (sym e ∙ w .0 .left) (w .1)
+        (w .2)) (c .if1 .came)
 
 same-length : tie.Need-same-length Inv-loop μ-loop
 same-length c = let p = c .before .before .before .before .pre in c .before .loop .inv (p .0 .book) (p .0 .adjacent) .room ∙ sym (p .2)
 
 returns : tie.Need-returns Inv-loop μ-loop
-returns c =     let p = c .before .before .before .before .pre in
+returns c = let p = c .before .before .before .before .pre in
     let l = c .before .loop in
-    (bordering-end _ _ _ _ _ _ (p .1) (l .inv (p .0 .book) (p .0 .adjacent)) (c .loop-test .left) .0, λ road b. bordering-end _ _ _ _ _ _ (p .1) (l .inv road b) (c .loop-test .left) .1)
+    (bordering-end _ _ _ _ _ _ (p .1) (l .inv (p .0 .book) (p .0 .adjacent)) (c .loop-test .left) .0, λ road b. bordering-end _ _ _ _ _ _ (p .1)
+        (l .inv road b) (c .loop-test .left) .1)
 
 pub border-list-spec : {M : Type 1} → statement M
 border-list-spec =

@@ -29,10 +29,13 @@ div-k : tie.Need-div-k
 div-k c = search needs
 
 mul-result-2 : tie.Need-mul-result-2
-mul-result-2 c = let p = c .before .pre in let a = c .before .args in omega (arith, share (a .j) (a .m) (length (a .list .now)) (p .1) (omega (arith, c .if1 .left)), p .0)
+mul-result-2 c =
+    let p = c .before .pre in let a = c .before .args in omega (arith, share (a .j) (a .m) (length (a .list .now)) (p .1) (omega (arith, c .if1 .left)), p .0)
 
 shared-slice-read-result : tie.Need-shared-slice-read-result
-shared-slice-read-result c = let p = c .before .before .pre in let a = c .before .before .args in omega (arith, share (a .j) (a .m) (length (a .list .now)) (p .1) (omega (arith, c .before .if1 .left)))
+shared-slice-read-result c =
+    let p = c .before .before .pre in let a = c .before .before .args in omega (arith, share (a .j) (a .m) (length (a .list .now)) (p .1)
+    (omega (arith, c .before .if1 .left)))
 
 returns-2 : tie.Need-returns-2
 returns-2 c = landmark-at _ _ _ _ _ _ (c .before .if1 .left) refl

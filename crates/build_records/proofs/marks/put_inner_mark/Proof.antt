@@ -13,7 +13,7 @@ same-length : tie.Need-same-length
 same-length c = search needs
 
 returns : tie.Need-returns
-returns c =     let s = c .before .before .before .before .before .before .before .before in
+returns c = let s = c .before .before .before .before .before .before .before .before in
     let m = c .before .before .before .before .measure .ensures in
     λ road e. inner-written _ _ _ _ _ _ e (s .pre .2) (s .pre .0) _ _ _ _ _ (s .pre .1) (m .0) (m .1) (c .before .before .put-span .ensures)
 

@@ -10,7 +10,7 @@ slice-aggregate-rank : tie.Need-slice-aggregate-rank
 slice-aggregate-rank c = search needs
 
 rank-requires : tie.Need-rank-requires
-rank-requires c κs =     let s = c .before .before .before .before in
+rank-requires c κs = let s = c .before .before .before .before in
     let few : s .args .end - s .args .from ≤ 256 = omega (arith, yards-few _ _ _ (s .pre .0)) in
     (s .pre .0, few, s .pre .1)
 
@@ -27,16 +27,19 @@ sub-put-list : tie.Need-sub-put-list
 sub-put-list c = omega (arith, c .before .before .before .before .before .before .before .before .before .before .before .before .pre .0 .order)
 
 put-list-requires : tie.Need-put-list-requires
-put-list-requires c κs =     let s = c .before .before .before .before .before .before .before .before .before .before .before .before in
+put-list-requires c κs = let s = c .before .before .before .before .before .before .before .before .before .before .before .before in
     let r = c .before .before .before .before .before .before .before .rank in
-    (omega (arith, yards-few _ _ _ (s .pre .0), r .kept), omega (arith, s .pre .2, c .before .before .before .before .put-leaf-mark-junction .kept), r .ensures .small)
+    (omega (arith, yards-few _ _ _ (s .pre .0), r .kept), omega (arith, s .pre .2, c .before .before .before .before .put-leaf-mark-junction .kept),
+        r .ensures .small)
 
 same-length : tie.Need-same-length
 same-length c = search needs
 
 returns : tie.Need-returns
-returns c =     let s = c .before .before .before .before .before .before .before .before .before .before .before .before .before .before .before in
-    λ road e. leaf-written _ _ _ _ _ _ e (s .pre .1) (s .pre .0) _ _ _ _ _ (c .before .before .before .before .before .before .before .before .before .before .rank .ensures) (c .before .before .before .before .before .before .before .put-leaf-mark-junction .ensures) (c .before .before .put-list .ensures)
+returns c = let s = c .before .before .before .before .before .before .before .before .before .before .before .before .before .before .before in
+    λ road e. leaf-written _ _ _ _ _ _ e (s .pre .1) (s .pre .0) _ _ _ _ _
+        (c .before .before .before .before .before .before .before .before .before .before .rank .ensures)
+        (c .before .before .before .before .before .before .before .put-leaf-mark-junction .ensures) (c .before .before .put-list .ensures)
 
 pub put-leaf-mark-spec : {M : Type 1} → statement M
 put-leaf-mark-spec =

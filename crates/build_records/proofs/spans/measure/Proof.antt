@@ -1,5 +1,5 @@
 use borrow.Author.Needs.{needs}
-use mathlib.Core.Path.{_≡_, refl}
+use mathlib.Core.Path.{refl}
 use Prim.Native.Nat.{_-_}
 use native.Mathlib.Omega.{arith}
 use Rattle.build_records.proofs.Numbered.{yard-read, yard-fits, yards-few}
@@ -23,13 +23,17 @@ mul-low : tie.Need-mul-low Inv-loop μ-loop
 mul-low c = search needs
 
 shared-slice-read-low : tie.Need-shared-slice-read-low Inv-loop μ-loop
-shared-slice-read-low c = let s = c .before .before .before .before .before in omega (arith, yard-fits _ _ _ (s .pre .0) _ _ (s .pre .1) (c .before .before .yard-at .ensures), s .pre .2)
+shared-slice-read-low c =
+    let s = c .before .before .before .before .before in omega (arith, yard-fits _ _ _ (s .pre .0) _ _ (s .pre .1) (c .before .before .yard-at .ensures),
+    s .pre .2)
 
 add-k : tie.Need-add-k Inv-loop μ-loop
 add-k c = let s = c .before .before .before .before .before in omega (arith, s .pre .1, yards-few _ _ _ (s .pre .0))
 
 loop-holds : tie.Need-loop-holds Inv-loop μ-loop
-loop-holds c = let s = c .before .before .before .before .before in measuring-start _ _ _ _ _ _ (s .pre .1) (yard-read _ _ _ (s .pre .0) _ _ (s .pre .1) (c .before .before .yard-at .ensures)) refl
+loop-holds c =
+    let s = c .before .before .before .before .before in measuring-start _ _ _ _ _ _ (s .pre .1) (yard-read _ _ _ (s .pre .0) _ _ (s .pre .1)
+    (c .before .before .yard-at .ensures)) refl
 
 yard-at-requires-2 : tie.Need-yard-at-requires-2 Inv-loop μ-loop
 yard-at-requires-2 c κs = let u = c .before .before .before .before .before .before .before .pre .0 in (u .passes, omega (arith, c .loop-test .taken, u .most))
@@ -41,7 +45,9 @@ mul-d : tie.Need-mul-d Inv-loop μ-loop
 mul-d c = search needs
 
 shared-slice-read-d : tie.Need-shared-slice-read-d Inv-loop μ-loop
-shared-slice-read-d c = let s = c .before .before .before .before .before .before .before .before .before .before in omega (arith, yard-fits _ _ _ (s .pre .0) _ _ (c .before .before .before .loop-test .taken) (c .before .before .yard-at2 .ensures), s .pre .2)
+shared-slice-read-d c =
+    let s = c .before .before .before .before .before .before .before .before .before .before in omega (arith, yard-fits _ _ _ (s .pre .0) _ _
+    (c .before .before .before .loop-test .taken) (c .before .before .yard-at2 .ensures), s .pre .2)
 
 lesser-requires : tie.Need-lesser-requires Inv-loop μ-loop
 lesser-requires c κs = search needs
@@ -50,14 +56,18 @@ greater-requires : tie.Need-greater-requires Inv-loop μ-loop
 greater-requires c κs = search needs
 
 add-k-2 : tie.Need-add-k-2 Inv-loop μ-loop
-add-k-2 c = omega (arith, c .before .before .before .before .before .loop-test .taken, yards-few _ _ _ (c .before .before .before .before .before .before .before .before .before .before .before .before .pre .0))
+add-k-2 c =
+    omega (arith, c .before .before .before .before .before .loop-test .taken, yards-few _ _ _
+    (c .before .before .before .before .before .before .before .before .before .before .before .before .pre .0))
 
 loop-less : tie.Need-loop-less Inv-loop μ-loop
 loop-less c = omega (arith, c .before .before .before .before .before .loop-test .taken)
 
 loop-again : tie.Need-loop-again Inv-loop μ-loop
-loop-again c =     let h = c .before .before .before .before .before .loop-test .taken in
-    measuring-turn _ _ _ _ _ _ _ _ _ _ _ (c .before .before .before .before .before .before .loop .inv) h (yard-read _ _ _ (c .before .before .before .before .before .before .before .before .before .before .before .before .pre .0) _ _ h (c .before .before .before .before .yard-at2 .ensures)) refl (c .before .lesser .ensures) (c .greater .ensures)
+loop-again c = let h = c .before .before .before .before .before .loop-test .taken in
+    measuring-turn _ _ _ _ _ _ _ _ _ _ _ (c .before .before .before .before .before .before .loop .inv) h (yard-read _ _ _
+        (c .before .before .before .before .before .before .before .before .before .before .before .before .pre .0) _ _ h
+        (c .before .before .before .before .yard-at2 .ensures)) refl (c .before .lesser .ensures) (c .greater .ensures)
 
 returns : tie.Need-returns Inv-loop μ-loop
 returns c = measuring-end _ _ _ _ _ _ _ (c .before .loop .inv) (c .loop-test .left)
