@@ -57,7 +57,8 @@ pub rest-all : (b : List ℕ) → Rest b 0 b
 rest-all b = record { same = refl; whole = omega arith }
 
 byte-here : (b : List ℕ) (at x : ℕ) (s : List ℕ) → Rest b at (x ∷ s) → getD b at 0 ≡ x
-byte-here b at x s h = ap (λ (n : ℕ). getD b n 0) (let e : at ≡ at + 0 = omega arith in e) ∙ (sym (getD-drop at b 0 0) ∙ ap (λ (l : List ℕ). getD l 0 0) (h .same))
+byte-here b at x s h = ap (λ (n : ℕ). getD b n 0) (let e : at ≡ at + 0 = omega arith in
+    e) ∙ (sym (getD-drop at b 0 0) ∙ ap (λ (l : List ℕ). getD l 0 0) (h .same))
 
 pub read-u8 : (b : List ℕ) (at x : ℕ) (s : List ℕ) → Rest b at (x ∷ s) → u8At b at ≡ x
 unfolding u8At
@@ -82,7 +83,12 @@ pub read-u32 : (b : List ℕ) (at x : ℕ) (s : List ℕ) → Rest b at (u32Byte
 unfolding u32At
 read-u32 b at x s h =
     let g = rw (halves x s) at h in
-    omega (arith, read-u16 b at (x / 65536) (u16Bytes (x % 65536) ++ s) g, read-u16 b (at + 2) (x % 65536) s (next-u16 b at (x / 65536) (u16Bytes (x % 65536) ++ s) g))
+    omega (
+      arith,
+      read-u16 b at (x / 65536) (u16Bytes (x % 65536) ++ s) g,
+      read-u16 b (at + 2) (x % 65536) s (next-u16 b at (x / 65536) (u16Bytes (x % 65536)
+          ++ s) g),
+    )
 
 pub next-u32 : (b : List ℕ) (at x : ℕ) (s : List ℕ) → Rest b at (u32Bytes x ++ s) → Rest b (at + 4) s
 next-u32 b at x s h =
@@ -114,7 +120,8 @@ write-length (x ∷ w) b i = write-length w (set b i x) (i + 1) ∙ length-set b
 pub write-append : (v w b : List ℕ) (i : ℕ) → write b i (v ++ w) ≡ write (write b i v) (i + length v) w
 unfolding write
 write-append [] w b i = rw (let e : i + 0 ≡ i = omega arith in e) refl
-write-append (x ∷ v) w b i = write-append v w (set b i x) (i + 1) ∙ ap (λ (n : ℕ). write (write (set b i x) (i + 1) v) n w) (let e : i + 1 + length v ≡ i + suc (length v) = omega arith in e)
+write-append (x ∷ v) w b i = write-append v w (set b i x) (i + 1)
+    ∙ ap (λ (n : ℕ). write (write (set b i x) (i + 1) v) n w) (let e : i + 1 + length v ≡ i + suc (length v) = omega arith in e)
 
 pub write-u32 : (b : List ℕ) (i x : ℕ) → putU32 b i x ≡ write b i (u32Bytes x)
 unfolding putU32 u32Bytes

@@ -1,4 +1,5 @@
--- Numbers in bytes: "Everything is unsigned and big-endian; u8, u16 and u32 have 1, 2 and 4 bytes." Assumes nothing: these are definitions.
+-- Numbers in bytes: "Everything is unsigned and big-endian; u8, u16 and u32 have 1, 2 and 4 bytes." Assumes nothing:
+-- these are definitions.
 use Prim.Native.Nat.{ℕ, _+_, _*_, _/_, _%_, _<_}
 use mathlib.Core.List.{List, [], _∷_, _++_}
 use lib.ListN.{getD, set}

@@ -1,4 +1,5 @@
--- A choice by a test, and a list of tests of which the first that fails gives its number. Assumes nothing: these are definitions.
+-- A choice by a test, and a list of tests of which the first that fails gives its number. Assumes nothing: these are
+-- definitions.
 use mathlib.Core.Bool.{Bool, true, false}
 use Prim.Native.Nat.{ℕ, zero, suc}
 

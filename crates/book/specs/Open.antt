@@ -1,4 +1,5 @@
--- The opening that every book shares: "a 4-byte count of the bytes after it, a version byte (1), then fields". Assumes nothing: these are definitions.
+-- The opening that every book shares: "a 4-byte count of the bytes after it, a version byte (1), then fields". Assumes
+-- nothing: these are definitions.
 use mathlib.Core.Path.{_≡_}
 use Prim.Native.Nat.{ℕ, zero, suc, _+_, _≤_}
 use mathlib.Core.List.{List}

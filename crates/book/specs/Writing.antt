@@ -1,4 +1,5 @@
--- A number's bytes as a list, and a list of bytes written over a part of another. Assumes nothing: these are definitions.
+-- A number's bytes as a list, and a list of bytes written over a part of another. Assumes nothing: these are
+-- definitions.
 use Prim.Native.Nat.{ℕ, suc, _+_, _/_, _%_}
 use mathlib.Core.List.{List, [], _∷_, _++_}
 use lib.ListN.{set}

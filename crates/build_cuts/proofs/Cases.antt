@@ -13,11 +13,11 @@ use Rattle.book.proofs.Choosing.{true-T, false-T}
 use Rattle.book.proofs.Lists.{or-left, or-right, or-cases, eq→eqb}
 use Rattle.yard.specs.Yards.{yardsOf, yardRefusal}
 use Rattle.tree_layout.specs.Values.{Region}
-use Rattle.tree_truth.specs.Truth.{within}
-use Rattle.cut_tree.specs.Cut.{Given, leafRegion, cutAt, part, partCount, partRegions, cut}
-use Rattle.cut_tree.proofs.Parts.{Rising, within-rising, within-none, within-split, cut-first, cut-last, cut-rise, cut-top, part-is, count-drop, count-keep}
-use Rattle.cut_tree.proofs.Parts.{regions-drop, regions-keep, regions-none}
-use Rattle.cut_tree.proofs.Steps.{within-nested, part-within, cut-none, cut-leaf, cut-one, cut-many}
+use Rattle.check_rules.specs.Truth.{within}
+use Rattle.build_rules.specs.Cut.{Given, leafRegion, cutAt, part, partCount, partRegions, cut}
+use Rattle.build_rules.proofs.Parts.{Rising, within-rising, within-none, within-split, cut-first, cut-last, cut-rise, cut-top, part-is, count-drop, count-keep}
+use Rattle.build_rules.proofs.Parts.{regions-drop, regions-keep, regions-none}
+use Rattle.build_rules.proofs.Steps.{within-nested, part-within, cut-none, cut-leaf, cut-one, cut-many}
 use Rattle.build_records.specs.Given.{given}
 use Rattle.build_cuts.specs.Writing.{ownRegions}
 use Rattle.build_cuts.proofs.Records.{own-none, own-leaf, own-inner}

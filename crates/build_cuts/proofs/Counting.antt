@@ -9,11 +9,11 @@ use Rattle.yard.specs.Yards.{yardCount, yardsFrom, yardsOf, yardRefusal}
 use Rattle.yard.proofs.YardLayout.{yards-at}
 use Rattle.yard.proofs.Turns.{yards-none, yards-all}
 use Rattle.build_records.proofs.Numbered.{yards-turn}
-use Rattle.tree_truth.specs.Truth.{within}
-use Rattle.cut_tree.specs.Cut.{cutAt, part, partCount}
-use Rattle.cut_tree.specs.Facts.{countBelow}
-use Rattle.cut_tree.proofs.Parts.{cut-first, count-none, count-drop, count-keep}
-use Rattle.cut_tree.proofs.Steps.{count-empty, count-yes, count-no}
+use Rattle.check_rules.specs.Truth.{within}
+use Rattle.build_rules.specs.Cut.{cutAt, part, partCount}
+use Rattle.build_rules.specs.Facts.{countBelow}
+use Rattle.build_rules.proofs.Parts.{cut-first, count-none, count-drop, count-keep}
+use Rattle.build_rules.proofs.Steps.{count-empty, count-yes, count-no}
 use Rattle.build_cuts.proofs.Slices.{part-length}
 
 -- ---- yards below a junction

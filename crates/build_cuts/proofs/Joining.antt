@@ -13,13 +13,13 @@ use Rattle.build_cuts.specs.Writing.{Written}
 
 -- ---- lengths
 
-pub none-length : length (encodeRegions []) ≡ 0
+none-length : length (encodeRegions []) ≡ 0
 none-length = rw encode-none refl
 
 pub one-bytes : (r : Region) → encodeRegions (r ∷ []) ≡ encodeRegion r
 one-bytes r = encode-cons r [] ∙ rw encode-none (append-nil (encodeRegion r))
 
-pub joined-length : (rs ss : List Region) → length (encodeRegions (rs ++ ss)) ≡ length (encodeRegions rs) + length (encodeRegions ss)
+joined-length : (rs ss : List Region) → length (encodeRegions (rs ++ ss)) ≡ length (encodeRegions rs) + length (encodeRegions ss)
 joined-length rs ss = rw (encode-append rs ss) (length-append (encodeRegions rs) (encodeRegions ss))
 
 region-some : (r : Region) → 1 ≤ length (encodeRegion r)

@@ -12,7 +12,7 @@ use Rattle.book.proofs.Lists.{eq→eqb, ne→neqb}
 use Rattle.tree_layout.specs.Values.{Region}
 use Rattle.tree_layout.specs.Decode.{recordSize}
 use Rattle.tree_encode.specs.Encode.{encodeRegion, encodeRegions}
-use Rattle.cut_tree.specs.Cut.{leafRegion, innerRegion}
+use Rattle.build_rules.specs.Cut.{leafRegion, innerRegion}
 use Rattle.build_records.specs.Given.{given}
 use Rattle.build_records.specs.Parts.{regionOf}
 use Rattle.build_records.proofs.Records.{region-leaf, region-inner, region-bytes}

@@ -8,11 +8,11 @@ use Rattle.yard.specs.Yards.{yardCount, yardsFrom, yardsOf, yardRefusal}
 use Rattle.yard.proofs.Listing.{from-length}
 use Rattle.yard.proofs.YardLayout.{rising-yards}
 use Rattle.yard.proofs.Turns.{yards-slice}
-use Rattle.tree_truth.specs.Truth.{within}
-use Rattle.cut_tree.specs.Cut.{cutAt, part}
-use Rattle.cut_tree.specs.Facts.{countBelow}
-use Rattle.cut_tree.proofs.Parts.{Rising, rising-places, cut-rise}
-use Rattle.cut_tree.proofs.Steps.{count-most, count-rise, within-slice, part-within}
+use Rattle.check_rules.specs.Truth.{within}
+use Rattle.build_rules.specs.Cut.{cutAt, part}
+use Rattle.build_rules.specs.Facts.{countBelow}
+use Rattle.build_rules.proofs.Parts.{Rising, rising-places, cut-rise}
+use Rattle.build_rules.proofs.Steps.{count-most, count-rise, within-slice, part-within}
 
 module _ (yb : List ℕ) (ok : yardRefusal yb ≡ 0) where
   pub yards-rising : Rising (yardsOf yb)
@@ -32,7 +32,7 @@ module _ (yb : List ℕ) (ok : yardRefusal yb ≡ 0) where
       within-slice low high (yardsOf yb) yards-rising h
       ∙ yards-slice yb (countBelow low (yardsOf yb)) (countBelow high (yardsOf yb)) (below-rise low high h) (below-most high)
 
-  pub within-length : (low high : ℕ) → low ≤ high → length (within low high (yardsOf yb)) ≡ countBelow high (yardsOf yb) - countBelow low (yardsOf yb)
+  within-length : (low high : ℕ) → low ≤ high → length (within low high (yardsOf yb)) ≡ countBelow high (yardsOf yb) - countBelow low (yardsOf yb)
   within-length low high h =
       ap length (within-yards low high h)
       ∙ from-length yb (countBelow high (yardsOf yb) - countBelow low (yardsOf yb)) (countBelow low (yardsOf yb))

@@ -8,11 +8,11 @@ use native.Mathlib.Omega.{arith}
 use lib.ListN.{length}
 use Rattle.book.proofs.Choosing.{lt-or-ge}
 use Rattle.yard.specs.Yards.{yardsOf, yardRefusal}
-use Rattle.tree_truth.specs.Truth.{within}
+use Rattle.check_rules.specs.Truth.{within}
 use Rattle.tree_encode.specs.Encode.{encodeRegions}
-use Rattle.cut_tree.specs.Cut.{cutAt, part}
-use Rattle.cut_tree.specs.Facts.{countBelow}
-use Rattle.cut_tree.proofs.Parts.{cut-rise, cut-top}
+use Rattle.build_rules.specs.Cut.{cutAt, part}
+use Rattle.build_rules.specs.Facts.{countBelow}
+use Rattle.build_rules.proofs.Parts.{cut-rise, cut-top}
 use Rattle.build_cuts.specs.Writing.{Written}
 use Rattle.build_cuts.specs.Cutting.{rangeRegions, partsFrom}
 use Rattle.build_cuts.proofs.Slices.{part-yards}

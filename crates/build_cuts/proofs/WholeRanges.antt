@@ -11,10 +11,10 @@ use Rattle.adjacency.specs.Adjacency.{Adjacency}
 use Rattle.yard.specs.Yards.{yardsFrom, yardsOf, yardRefusal}
 use Rattle.yard.proofs.Listing.{from-length}
 use Rattle.tree_layout.specs.Decode.{recordSize}
-use Rattle.tree_truth.specs.Truth.{within}
+use Rattle.check_rules.specs.Truth.{within}
 use Rattle.tree_encode.specs.Encode.{encodeRegions}
-use Rattle.cut_tree.specs.Cut.{partCount}
-use Rattle.cut_tree.specs.Facts.{countBelow}
+use Rattle.build_rules.specs.Cut.{partCount}
+use Rattle.build_rules.specs.Facts.{countBelow}
 use Rattle.build_records.specs.declared.Part.{Part}
 use Rattle.build_records.specs.Parts.{YardsUpTo, Ready}
 use Rattle.build_cuts.specs.Writing.{ownRegions, Written}

@@ -1,4 +1,4 @@
--- The regions that cutting writes, by a road book and a yard book, and what it asks. Assumes nothing: these are definitions.
+-- The regions that cutting writes, by a road book and a yard book. Assumes nothing: these are definitions.
 use mathlib.Core.Path.{_≡_}
 use mathlib.Core.List.{List}
 use Prim.Native.Nat.{ℕ, _+_, _-_, _≤_}
@@ -6,10 +6,10 @@ use lib.ListN.{length}
 use Rattle.adjacency.specs.Adjacency.{countIn, Adjacency}
 use Rattle.yard.specs.Yards.{yardsOf, yardRefusal}
 use Rattle.tree_layout.specs.Values.{Region}
-use Rattle.tree_truth.specs.Truth.{within}
+use Rattle.check_rules.specs.Truth.{within}
 use Rattle.tree_encode.specs.Encode.{encodeRegions}
-use Rattle.cut_tree.specs.Cut.{cut, partRegions}
-use Rattle.cut_tree.specs.Facts.{countBelow}
+use Rattle.build_rules.specs.Cut.{cut, partRegions}
+use Rattle.build_rules.specs.Facts.{countBelow}
 use Rattle.build_records.specs.Given.{given}
 use Rattle.build_records.specs.declared.Part.{Part}
 use Rattle.build_cuts.specs.declared.Plan.{Plan}
@@ -20,7 +20,8 @@ rangeRegions b yb m limit levels a s = cut (given b m limit) levels a s (within 
 
 -- those of its parts of number i and after, each cut with so many cuts left
 unfoldable pub partsFrom : List ℕ → List ℕ → ℕ → ℕ → ℕ → ℕ → ℕ → ℕ → List Region
-partsFrom b yb m limit levels a s i = partRegions (cut (given b m limit) levels) a s (within a (a + s) (yardsOf yb)) (4 - i) i
+partsFrom b yb m limit levels a s i =
+    partRegions (cut (given b m limit) levels) a s (within a (a + s) (yardsOf yb)) (4 - i) i
 
 -- both by a plan, a range and a road book
 abbrev pub regionsOf : List ℕ → Plan → ℕ → Part → List ℕ → List Region

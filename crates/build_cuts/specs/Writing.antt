@@ -11,7 +11,8 @@ use Rattle.tree_encode.specs.Encode.{encodeRegions}
 use Rattle.build_records.specs.Given.{given}
 use Rattle.build_records.specs.Parts.{regionOf}
 
--- the region over a range with q children, a leaf if q is 0; or nothing, since "a region with one child is replaced by the child"
+-- the region over a range with q children, a leaf if q is 0; or nothing:
+-- "a region with one child is replaced by the child"
 unfoldable pub ownRegions : List ℕ → ℕ → ℕ → ℕ → ℕ → ℕ → List ℕ → List Region
 ownRegions b m limit a s q ys = choose (eqb q 1) [] (regionOf (given b m limit) a s q ys ∷ [])
 

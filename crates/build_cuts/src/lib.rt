@@ -1,4 +1,4 @@
-// Cutting a range into regions, each region's record written where the one before it ends: a recursion, the cuts that are left falling.
+// Cutting a range into regions, each record written where the one before it ends: the cuts that are left fall.
 pub mod ranges; // ranges.rt: a range's yards, and the parts that it is cut into
 
 use build_records::Part;
@@ -37,7 +37,7 @@ fn stays(levels: usize, count: usize, limit: usize) -> bool
     count <= limit
 }
 
-// Writes the record of a range itself, which has so many children: with none it is a leaf, and with one it has no record.
+// Writes the record of a range itself, with so many children: with none it is a leaf; with one it has no record.
 fn put_own(
     adj: &[u16],
     yb: &[u8],
@@ -50,7 +50,8 @@ fn put_own(
     requires { ⌜ Ready (now adj) (now yb) p × (m ≤ 4) × (0 < children → p .from < p .end)
         × ((children ≡ 1 → ⊥) → at + recordSize m children (p .end - p .from) ≤ length (now tree)) ⌝ }
     ensures { λ r. ⌜ ((road : List ℕ) (limit : ℕ) → Adjacency road (now (adj .entry)) → Written (now (tree .entry)) at
-        (ownRegions road m limit (p .start) (p .size) children (yardsFrom (now (yb .entry)) (p .end - p .from) (p .from)))
+        (ownRegions road m limit (p .start) (p .size) children
+        (yardsFrom (now (yb .entry)) (p .end - p .from) (p .from)))
         (now (tree .exit)) (r .at) (r .regions)) ⌝ }
 {
     if children == 1 {
@@ -90,7 +91,7 @@ pub fn cut(
     }
 }
 
-// Writes the regions of the parts of number i and after of a range; each part that has yards is cut with so many cuts left.
+// Writes the regions of a range's parts of number i and after; each that has yards is cut with so many cuts left.
 fn parts(
     levels: usize,
     i: usize,

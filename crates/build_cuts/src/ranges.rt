@@ -3,9 +3,9 @@ use build_records::Part;
 ghost use mathlib.Core.Path.{_≡_};
 ghost use Prim.Native.Nat.{_+_, _≤_, _<_};
 ghost use Rattle.yard.specs.Yards.{yardsOf, yardRefusal};
-ghost use Rattle.tree_truth.specs.Truth.{within};
-ghost use Rattle.cut_tree.specs.Cut.{cutAt, partCount};
-ghost use Rattle.cut_tree.specs.Facts.{countBelow};
+ghost use Rattle.check_rules.specs.Truth.{within};
+ghost use Rattle.build_rules.specs.Cut.{cutAt, partCount};
+ghost use Rattle.build_rules.specs.Facts.{countBelow};
 ghost use Rattle.build_cuts.specs.Cutting.{Numbered};
 
 // A range is cut into so many parts.
@@ -54,8 +54,8 @@ fn cut_at(a: usize, s: usize, i: usize) -> usize
 // Part i of a range.
 pub fn part(yb: &[u8], p: Part, i: usize) -> Part
     requires { ⌜ (yardRefusal (now yb) ≡ 0) × (p .start + p .size ≤ 1024) × (i < 4) ⌝ }
-    ensures { λ r. ⌜ (r .start ≡ cutAt (p .start) (p .size) i) × (r .start + r .size ≡ cutAt (p .start) (p .size) (i + 1))
-        × Numbered (now (yb .entry)) r ⌝ }
+    ensures { λ r. ⌜ (r .start ≡ cutAt (p .start) (p .size) i)
+        × (r .start + r .size ≡ cutAt (p .start) (p .size) (i + 1)) × Numbered (now (yb .entry)) r ⌝ }
 {
     let low = cut_at(p.start, p.size, i);
     let high = cut_at(p.start, p.size, i + 1);

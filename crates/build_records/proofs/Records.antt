@@ -21,9 +21,9 @@ use Rattle.tree_layout.proofs.Places.{mark-size-leaf, mark-size-inner}
 use Rattle.tree_encode.specs.Encode.{encodeRegion}
 use Rattle.tree_encode.specs.Parts.{encodeFields}
 use Rattle.tree_encode.proofs.Parts.{fields-length, fields-then}
-use Rattle.cut_tree.specs.Cut.{Given, borders, leafRegion, innerRegion}
-use Rattle.cut_tree.proofs.Landmarks.{landmarks-are}
-use Rattle.cut_tree.proofs.Records.{leaf-record, leaf-size, inner-record, inner-size}
+use Rattle.build_rules.specs.Cut.{Given, borders, leafRegion, innerRegion}
+use Rattle.build_rules.proofs.Landmarks.{landmarks-are}
+use Rattle.build_rules.proofs.Records.{leaf-record, leaf-size, inner-record, inner-size}
 use Rattle.build_records.specs.Given.{given}
 use Rattle.build_records.specs.Marks.{markBytes, landmarkBytes}
 use Rattle.build_records.specs.Parts.{regionOf}

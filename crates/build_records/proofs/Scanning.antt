@@ -14,9 +14,10 @@ use Rattle.adjacency.specs.Arcs.{arcs, net}
 use Rattle.adjacency.specs.Adjacency.{headAt, nextAt, toAt, Adjacency}
 use Rattle.adjacency.proofs.Chains.{anyFrom, roads-none, roads-next, ChainAt, ChainStep, chain-begin}
 use Rattle.adjacency.proofs.Netting.{net-is}
-use Rattle.cut_tree.specs.Cut.{outside, isBorder, bordersFrom, borders, landmark}
-use Rattle.cut_tree.proofs.Landmarks.{border-none, border-next, borders-none, borders-yes, borders-no, borders-are, landmark-none, landmark-some, outside-low}
-use Rattle.cut_tree.proofs.Landmarks.{outside-high, outside-no}
+use Rattle.build_rules.specs.Cut.{outside, isBorder, bordersFrom, borders, landmark}
+use Rattle.build_rules.proofs.Landmarks.{border-none, border-next, borders-none, borders-yes, borders-no, borders-are, landmark-none, landmark-some}
+use Rattle.build_rules.proofs.Landmarks.{outside-low}
+use Rattle.build_rules.proofs.Landmarks.{outside-high, outside-no}
 
 -- ---- a junction
 
@@ -30,11 +31,11 @@ roads-border : (rs : List Road) (a s v : ℕ) → anyFrom (outside a s) v (arcs 
 roads-border [] a s v = roads-none (outside a s) v ∙ sym (border-none a s v)
 roads-border (r ∷ rs) a s v =
     roads-next (outside a s) v r rs ∙ (ap (λ (x : Bool). (eqb (r .high) v && outside a s (r .low)) || ((eqb (r .low) v && outside a s (r .high)) || x))
-        (roads-border rs a s v)
+    (roads-border rs a s v)
     ∙ (or-swap (eqb (r .high) v && outside a s (r .low)) (eqb (r .low) v && outside a s (r .high)) (isBorder rs a s v) ∙ sym (border-next r rs a s v)))
 
 -- what the arcs of v lead to says whether v is a border junction
-pub border-is : (b : List ℕ) (a s v : ℕ) → anyFrom (outside a s) v (net b) ≡ isBorder (roads b) a s v
+border-is : (b : List ℕ) (a s v : ℕ) → anyFrom (outside a s) v (net b) ≡ isBorder (roads b) a s v
 border-is b a s v = rw (net-is b) (roads-border (roads b) a s v)
 
 -- what the scan of a junction's chain of arcs answers, arc by arc
@@ -76,20 +77,25 @@ module _ (rs : List Road) (a s : ℕ) where
     pub bordering-yes : (next : List ℕ) (m : ℕ) → isBorder rs a s v ≡ true → next ≡ set list n v → m ≡ n + 1 → Bordering rs a s next m (v + 1)
     bordering-yes next m t e f =
         let e1 : bordersFrom rs a s (a + s - v) v ≡ v ∷ bordersFrom rs a s (a + s - (v + 1)) (v + 1) = rw left (borders-yes rs a s (a + s - (v + 1)) v t ∙ rw
-            (add-one v) refl) in
+        (add-one v) refl) in
         rw (e, f) (record {
           low = omega (arith, x .low);
           high = omega arith;
           few = omega (arith, x .few);
           room = length-set list n v ∙ x .room;
-          same = rw (add-one n, take-suc-set list n v (omega (arith, x .few, x .room)), append-snoc (take n list) v (bordersFrom rs a s (a + s - (v + 1))
-              (v + 1)), ← e1) (x .same);
+          same = rw (
+            add-one n,
+            take-suc-set list n v (omega (arith, x .few, x .room)),
+            append-snoc (take n list) v (bordersFrom rs a s (a + s - (v + 1))
+                (v + 1)),
+            ← e1,
+          ) (x .same);
         })
 
     pub bordering-no : (next : List ℕ) (m : ℕ) → isBorder rs a s v ≡ false → next ≡ list → m ≡ n → Bordering rs a s next m (v + 1)
     bordering-no next m t e f =
         let e1 : bordersFrom rs a s (a + s - v) v ≡ bordersFrom rs a s (a + s - (v + 1)) (v + 1) = rw left (borders-no rs a s (a + s - (v + 1)) v t ∙ rw
-            (add-one v) refl) in
+        (add-one v) refl) in
         rw (e, f) (record { low = omega (arith, x .low); high = omega arith; few = omega (arith, x .few); room = x .room; same = rw (← e1) (x .same) })
 
   pub bordering-end : (list : List ℕ) (n v : ℕ) → a + s ≤ 1024 → Bordering rs a s list n v → a + s ≤ v → (n ≤ s) × (take n list ≡ borders rs a s)

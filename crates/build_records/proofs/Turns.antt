@@ -9,8 +9,8 @@ use lib.ListN.{length}
 use Rattle.book.specs.Writing.{write}
 use Rattle.book.proofs.Writing.{write-append, write-none}
 use Rattle.road_layout.specs.Road.{Road}
-use Rattle.cut_tree.specs.Cut.{borders, landmark}
-use Rattle.cut_tree.proofs.Landmarks.{landmark-in}
+use Rattle.build_rules.specs.Cut.{borders, landmark}
+use Rattle.build_rules.proofs.Landmarks.{landmark-in}
 use Rattle.build_records.specs.Marks.{landmarkBytes}
 
 -- the tree so far, where the next landmark goes, and the landmarks that are left; each takes w bytes

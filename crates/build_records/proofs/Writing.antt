@@ -16,8 +16,8 @@ use Rattle.road.specs.Dijkstra.{distances, dist}
 use Rattle.road.proofs.Reading.{dist-read}
 use Rattle.yard.specs.Yards.{yardsFrom}
 use Rattle.yard.proofs.Listing.{from-length, from-at}
-use Rattle.tree_truth.specs.Truth.{least, greatest}
-use Rattle.tree_truth.proofs.Extremes.{least-by, greatest-by}
+use Rattle.check_rules.specs.Truth.{least, greatest}
+use Rattle.check_rules.proofs.Extremes.{least-by, greatest-by}
 use Rattle.tree_encode.specs.Encode.{encodeList, encodeInnerMark, encodeMark}
 use Rattle.tree_encode.proofs.Sizes.{list-length, mark-leaf, mark-inner}
 use Rattle.tree_encode.proofs.Parts.{span-bytes}
@@ -25,8 +25,8 @@ use Rattle.tree_layout.specs.Values.{leafMark, innerMark}
 use Rattle.tree_layout.specs.Decode.{markSize}
 use Rattle.tree_layout.proofs.MarkFields.{leaf-place, leaf-pairs, inner-place, inner-least, inner-greatest}
 use Rattle.tree_layout.proofs.Places.{mark-size-leaf, mark-size-inner}
-use Rattle.cut_tree.specs.Cut.{ranked}
-use Rattle.cut_tree.proofs.Ranked.{ranked-length}
+use Rattle.build_rules.specs.Cut.{ranked}
+use Rattle.build_rules.proofs.Ranked.{ranked-length}
 use Rattle.build_records.specs.Keys.{ranksOf, keyBytes, distanceIn, Keyed}
 use Rattle.build_records.specs.Marks.{leafBytes, innerBytes, markBytes}
 use Rattle.build_records.specs.Parts.{YardsUpTo}
@@ -75,8 +75,15 @@ leaf-length : (b yb : List ℕ) (from to l : ℕ) → length (leafBytes b yb fro
 unfolding leafBytes
 leaf-length b yb from to l =
     let zs = yardsFrom yb (to - from) from in
-    omega (arith, length-append (u16Bytes l) (encodeList (ranked (dist b) l zs)), u16-length l, list-length (ranked (dist b) l zs), ranked-length (dist b) l
-        zs, from-length yb (to - from) from)
+    omega (
+      arith,
+      length-append (u16Bytes l) (encodeList (ranked (dist b) l zs)),
+      u16-length l,
+      list-length (ranked (dist b) l zs),
+      ranked-length (dist b) l
+          zs,
+      from-length yb (to - from) from,
+    )
 
 inner-length : (b yb : List ℕ) (from to l : ℕ) → length (innerBytes b yb from to l) ≡ 10
 unfolding innerBytes
@@ -84,8 +91,15 @@ inner-length b yb from to l =
     let zs = yardsFrom yb (to - from) from in
     let lo = u32Bytes (least (dist b l) zs) in
     let hi = u32Bytes (greatest (dist b l) zs) in
-    omega (arith, length-append (u16Bytes l) (lo ++ hi), length-append lo hi, u16-length l, u32-length (least (dist b l) zs), u32-length
-        (greatest (dist b l) zs))
+    omega (
+      arith,
+      length-append (u16Bytes l) (lo ++ hi),
+      length-append lo hi,
+      u16-length l,
+      u32-length (least (dist b l) zs),
+      u32-length
+          (greatest (dist b l) zs),
+    )
 
 -- they are what `encode` writes of the landmark
 leaf-encoded : (b yb : List ℕ) (from to l : ℕ) → encodeMark 0 (leafMark l (ranked (dist b) l (yardsFrom yb (to - from) from))) ≡ leafBytes b yb from to l
@@ -96,7 +110,7 @@ leaf-encoded b yb from to l =
 
 inner-encoded : (b yb : List ℕ) (from to l q : ℕ) → 0 < q
     → encodeMark q (innerMark l (least (dist b l) (yardsFrom yb (to - from) from)) (greatest (dist b l) (yardsFrom yb (to - from) from))) ≡ innerBytes b yb
-        from to l
+    from to l
 unfolding innerBytes
 inner-encoded b yb from to l q h =
     let lo = least (dist b l) (yardsFrom yb (to - from) from) in
@@ -136,5 +150,5 @@ module _ (b yb : List ℕ) (from to q l : ℕ) where
 
   pub mark-inner-encoded : 0 < q
       → encodeMark q (innerMark l (least (dist b l) (yardsFrom yb (to - from) from)) (greatest (dist b l) (yardsFrom yb (to - from) from))) ≡ markBytes b yb
-          from to q l
+      from to q l
   mark-inner-encoded h = inner-encoded b yb from to l q h ∙ sym (inner-is h)

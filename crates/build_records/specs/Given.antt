@@ -3,7 +3,7 @@ use mathlib.Core.List.{List}
 use Prim.Native.Nat.{ℕ}
 use Rattle.road_layout.specs.Road.{roads}
 use Rattle.road.specs.Dijkstra.{dist}
-use Rattle.cut_tree.specs.Cut.{Given}
+use Rattle.build_rules.specs.Cut.{Given}
 
 -- "Given m (1 to 4) and a leaf limit (1 to 256).", with the book's roads and distances
 unfoldable pub given : List ℕ → ℕ → ℕ → Given

@@ -1,4 +1,4 @@
--- What a landmark's record holds, by a road book's distances and the yards of a yard book. Assumes nothing: these are definitions.
+-- What a landmark's record holds, by a road book's distances and a yard book. Assumes nothing: these are definitions.
 use mathlib.Core.List.{List, [], _++_}
 use Prim.Native.Nat.{ℕ, zero, suc, _-_}
 use lib.Dec.{eqb}
@@ -6,9 +6,9 @@ use Rattle.book.specs.Choose.{choose}
 use Rattle.book.specs.Writing.{u16Bytes, u32Bytes}
 use Rattle.road.specs.Dijkstra.{dist}
 use Rattle.yard.specs.Yards.{yardsFrom}
-use Rattle.tree_truth.specs.Truth.{least, greatest}
+use Rattle.check_rules.specs.Truth.{least, greatest}
 use Rattle.tree_encode.specs.Encode.{encodeList}
-use Rattle.cut_tree.specs.Cut.{landmark, ranked}
+use Rattle.build_rules.specs.Cut.{landmark, ranked}
 
 -- the bytes of landmark l of a leaf with the yards of number `from` up to `to`
 unfoldable pub leafBytes : List ℕ → List ℕ → ℕ → ℕ → ℕ → List ℕ
@@ -18,7 +18,8 @@ leafBytes b yb from to l = u16Bytes l ++ encodeList (ranked (dist b) l (yardsFro
 unfoldable pub innerBytes : List ℕ → List ℕ → ℕ → ℕ → ℕ → List ℕ
 innerBytes b yb from to l =
     u16Bytes l
-    ++ (u32Bytes (least (dist b l) (yardsFrom yb (to - from) from)) ++ u32Bytes (greatest (dist b l) (yardsFrom yb (to - from) from)))
+    ++ (u32Bytes (least (dist b l) (yardsFrom yb (to - from) from))
+    ++ u32Bytes (greatest (dist b l) (yardsFrom yb (to - from) from)))
 
 -- the bytes of landmark l of a region with so many children
 unfoldable pub markBytes : List ℕ → List ℕ → ℕ → ℕ → ℕ → ℕ → List ℕ

@@ -7,7 +7,7 @@ use Rattle.book.specs.Choose.{choose}
 use Rattle.adjacency.specs.Adjacency.{countIn, IsAdjacency}
 use Rattle.yard.specs.Yards.{yardCount, yardRefusal}
 use Rattle.tree_layout.specs.Values.{Region}
-use Rattle.cut_tree.specs.Cut.{Given, leafRegion, innerRegion}
+use Rattle.build_rules.specs.Cut.{Given, leafRegion, innerRegion}
 use Rattle.build_records.specs.declared.Part.{Part}
 
 -- numbers `from` up to `to` of yards of a book that passes

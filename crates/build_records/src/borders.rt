@@ -5,7 +5,7 @@ ghost use Prim.Native.Nat.{ℕ, _+_, _≤_, _<_};
 ghost use lib.ListN.{length, take};
 ghost use Rattle.road_layout.specs.Road.{roads};
 ghost use Rattle.adjacency.specs.Adjacency.{Adjacency, IsAdjacency};
-ghost use Rattle.cut_tree.specs.Cut.{isBorder, borders, landmark};
+ghost use Rattle.build_rules.specs.Cut.{isBorder, borders, landmark};
 
 // Whether a road leads from junction v out of the range from a with s junctions.
 fn is_border(adj: &[u16], a: usize, s: usize, v: usize) -> bool

@@ -15,7 +15,7 @@ ghost use Rattle.adjacency.specs.Adjacency.{Adjacency};
 ghost use Rattle.yard.specs.Yards.{yardsFrom};
 ghost use Rattle.tree_layout.specs.Decode.{markSize, recordSize};
 ghost use Rattle.tree_encode.specs.Encode.{encodeRegion};
-ghost use Rattle.cut_tree.specs.Cut.{borders};
+ghost use Rattle.build_rules.specs.Cut.{borders};
 ghost use Rattle.build_records.specs.Given.{given};
 ghost use Rattle.build_records.specs.Marks.{markBytes, landmarkBytes};
 ghost use Rattle.build_records.specs.Parts.{Ready, regionOf};
@@ -55,7 +55,8 @@ fn put_marks(
         × (length (now list) ≤ 1024) × (m ≤ 4) × (0 < children → p .from < p .end)
         × (start + m * markSize children (p .end - p .from) ≤ length (now tree)) ⌝ }
     ensures place { λ r. ⌜ r ≡ start + m * markSize children (p .end - p .from) ⌝ }
-    ensures tree { λ _. ⌜ ((road : List ℕ) → Adjacency road (now (adj .entry)) → now (tree .exit) ≡ write (now (tree .entry)) start
+    ensures tree { λ _. ⌜ ((road : List ℕ) → Adjacency road (now (adj .entry))
+        → now (tree .exit) ≡ write (now (tree .entry)) start
         (landmarkBytes (markBytes road (now (yb .entry)) (p .from) (p .end) children) m (p .start) (p .size)
         (borders (roads road) (p .start) (p .size)) m 0)) ⌝ }
 {
@@ -71,7 +72,7 @@ fn put_marks(
     at
 }
 
-// Writes the record of a region over a range, with m landmarks and so many children, and returns the place after it. With no child it is a leaf.
+// Writes the record of a region over a range, with m landmarks and so many children, 0 in a leaf; returns its end.
 pub fn put_record(
     adj: &[u16],
     yb: &[u8],
@@ -84,7 +85,8 @@ pub fn put_record(
     requires { ⌜ Ready (now adj) (now yb) p × (m ≤ 4) × (0 < children → p .from < p .end)
         × (at + recordSize m children (p .end - p .from) ≤ length (now tree)) ⌝ }
     ensures place { λ r. ⌜ r ≡ at + recordSize m children (p .end - p .from) ⌝ }
-    ensures tree { λ _. ⌜ ((road : List ℕ) (limit : ℕ) → Adjacency road (now (adj .entry)) → now (tree .exit) ≡ write (now (tree .entry)) at
+    ensures tree { λ _. ⌜ ((road : List ℕ) (limit : ℕ) → Adjacency road (now (adj .entry))
+        → now (tree .exit) ≡ write (now (tree .entry)) at
         (encodeRegion (regionOf (given road m limit) (p .start) (p .size) children
         (yardsFrom (now (yb .entry)) (p .end - p .from) (p .from))))) ⌝ }
 {

@@ -15,7 +15,7 @@ ghost use Rattle.tree_layout.specs.Decode.{markSize};
 ghost use Rattle.build_records.specs.Marks.{leafBytes, innerBytes, markBytes};
 ghost use Rattle.build_records.specs.Parts.{YardsUpTo, Ready};
 
-// Writes landmark l of a leaf that has the yards of number `from` up to `end`: its junction and its list, by the distances from l.
+// Writes landmark l of a leaf that has the yards of number `from` up to `end`: its junction and its list.
 fn put_leaf_mark(
     row: &[u32],
     yb: &[u8],
@@ -25,7 +25,8 @@ fn put_leaf_mark(
     tree: &mut [u8],
     at: usize,
 )
-    requires { ⌜ YardsUpTo (now yb) from end × (length (now row) ≡ 1024) × (at + leafMarkSize (end - from) ≤ length (now tree)) ⌝ }
+    requires { ⌜ YardsUpTo (now yb) from end × (length (now row) ≡ 1024)
+        × (at + leafMarkSize (end - from) ≤ length (now tree)) ⌝ }
     ensures { λ _. ⌜ ((road : List ℕ) → now (row .entry) ≡ distances (net road) (junctions road) l
         → now (tree .exit) ≡ write (now (tree .entry)) at (leafBytes road (now (yb .entry)) from end l)) ⌝ }
 {
@@ -36,7 +37,7 @@ fn put_leaf_mark(
     crate::lists::put_list(tree, start, &keys, end - from);
 }
 
-// Writes landmark l of an inner region that has the yards of number `from` up to `end`: its junction, the least and the greatest distance from l.
+// Writes landmark l of an inner region that has those yards: its junction, the least and the greatest distance.
 fn put_inner_mark(
     row: &[u32],
     yb: &[u8],
@@ -46,7 +47,8 @@ fn put_inner_mark(
     tree: &mut [u8],
     at: usize,
 )
-    requires { ⌜ YardsUpTo (now yb) from end × (from < end) × (length (now row) ≡ 1024) × (at + innerMarkSize ≤ length (now tree)) ⌝ }
+    requires { ⌜ YardsUpTo (now yb) from end × (from < end) × (length (now row) ≡ 1024)
+        × (at + innerMarkSize ≤ length (now tree)) ⌝ }
     ensures { λ _. ⌜ ((road : List ℕ) → now (row .entry) ≡ distances (net road) (junctions road) l
         → now (tree .exit) ≡ write (now (tree .entry)) at (innerBytes road (now (yb .entry)) from end l)) ⌝ }
 {
@@ -58,7 +60,8 @@ fn put_inner_mark(
 pub fn put_mark(adj: &[u16], yb: &[u8], p: Part, children: u8, l: u16, tree: &mut [u8], at: usize)
     requires { ⌜ Ready (now adj) (now yb) p × (0 < children → p .from < p .end) × (l < countIn (now adj))
         × (at + markSize children (p .end - p .from) ≤ length (now tree)) ⌝ }
-    ensures { λ _. ⌜ ((road : List ℕ) → Adjacency road (now (adj .entry)) → now (tree .exit) ≡ write (now (tree .entry)) at
+    ensures { λ _. ⌜ ((road : List ℕ) → Adjacency road (now (adj .entry))
+        → now (tree .exit) ≡ write (now (tree .entry)) at
         (markBytes road (now (yb .entry)) (p .from) (p .end) children l)) ⌝ }
 {
     let mut row = [0u32; 1024];

@@ -4,7 +4,7 @@ ghost use mathlib.Core.Path.{_≡_};
 ghost use Prim.Native.Nat.{_-_, _<_, min, max};
 ghost use lib.ListN.{length};
 ghost use Rattle.yard.specs.Yards.{yardsFrom};
-ghost use Rattle.tree_truth.specs.Truth.{least, greatest};
+ghost use Rattle.check_rules.specs.Truth.{least, greatest};
 ghost use Rattle.build_records.specs.Keys.{distanceIn};
 ghost use Rattle.build_records.specs.Parts.{YardsUpTo};
 

@@ -22,8 +22,8 @@ use Rattle.tree_layout.proofs.Reading.{all-none, all-next, list-turn, list-none
 use Rattle.tree_layout.proofs.Turns.{all-same}
 use Rattle.tree_layout.proofs.RecordFields.{list-inside}
 use Rattle.tree_layout.proofs.MarkPlaces.{listMark}
-use Rattle.tree_truth.specs.Truth.{trueElement, trueList}
-use Rattle.tree_truth.proofs.Testing.{element-test, list-test}
+use Rattle.check_rules.specs.Truth.{trueElement, trueList}
+use Rattle.check_rules.proofs.Testing.{element-test, list-test}
 use Rattle.check_distances.specs.Row.{distancesFrom, elementIn, listIn}
 use Rattle.check_distances.specs.Beside.{Marked}
 use Rattle.check_distances.proofs.Turns.{all-goes, all-stops}

@@ -17,8 +17,8 @@ use Rattle.tree_layout.specs.Marks.{marksAt}
 use Rattle.tree_layout.specs.Refusal.{all}
 use Rattle.tree_layout.specs.declared.Fields.{Fields}
 use Rattle.tree_layout.proofs.Reading.{region-first, region-after, region-children}
-use Rattle.tree_truth.specs.Truth.{trueList, trueSpan, within, trueBesideRegion, trueBeside}
-use Rattle.tree_truth.proofs.Testing.{beside-region-test, beside-test}
+use Rattle.check_rules.specs.Truth.{trueList, trueSpan, within, trueBesideRegion, trueBeside}
+use Rattle.check_rules.proofs.Testing.{beside-region-test, beside-test}
 use Rattle.check_distances.specs.Beside.{Marked, Beside}
 use Rattle.check_distances.proofs.Records.{marks-read, region-here, region-mem, record-placed, record-here}
 

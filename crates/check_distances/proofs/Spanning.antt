@@ -17,10 +17,10 @@ use Rattle.tree_layout.specs.Decode.{landmarkCount}
 use Rattle.tree_layout.specs.Marks.{marksAt, landmarkOf}
 use Rattle.tree_layout.specs.Refusal.{all}
 use Rattle.tree_layout.specs.declared.Landmark.{Landmark}
-use Rattle.tree_truth.specs.Truth.{leastFrom, greatestFrom, trueSpan, within}
-use Rattle.tree_truth.proofs.Extremes.{least-none, least-next, least-from, greatest-none, greatest-next, greatest-from}
-use Rattle.tree_truth.proofs.Testing.{span-test}
-use Rattle.tree_truth.proofs.Within.{within-yes, within-no, within-empty}
+use Rattle.check_rules.specs.Truth.{leastFrom, greatestFrom, trueSpan, within}
+use Rattle.check_rules.proofs.Extremes.{least-none, least-next, least-from, greatest-none, greatest-next, greatest-from}
+use Rattle.check_rules.proofs.Testing.{span-test}
+use Rattle.check_rules.proofs.Within.{within-yes, within-no, within-empty}
 use Rattle.check_distances.specs.Row.{distancesFrom, spanIn}
 use Rattle.check_distances.specs.Beside.{Marked}
 use Rattle.check_distances.proofs.Turns.{drop-next, all-goes, all-stops}

@@ -14,10 +14,10 @@ use Rattle.tree.specs.Yards.{yardsBelow, treeYards}
 use Rattle.tree.specs.Theorems.{Whole}
 use Rattle.tree.proofs.Ranges.{below-tree}
 use Rattle.tree.proofs.Theorems.{tree-facts, accepted-whole}
-use Rattle.tree_truth.specs.Truth.{trueTree, within, trueBeside}
-use Rattle.tree_truth.specs.Facts.{Same}
-use Rattle.tree_truth.proofs.Within.{mem-within}
-use Rattle.tree_truth.proofs.Theorems.{tested}
+use Rattle.check_rules.specs.Truth.{trueTree, within, trueBeside}
+use Rattle.check_rules.specs.Facts.{Same}
+use Rattle.check_rules.proofs.Within.{mem-within}
+use Rattle.check_rules.proofs.Theorems.{tested}
 
 some-member : (l : List ℕ) (y : ℕ) → Mem y l → 0 < length l
 some-member [] y k = absurd (not-nil k)

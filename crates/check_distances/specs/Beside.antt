@@ -9,7 +9,7 @@ use Rattle.tree_layout.specs.Values.{Mark, Region}
 use Rattle.tree_layout.specs.Decode.{junctionCount, decode}
 use Rattle.tree_layout.specs.Marks.{marksAt, RecordAt}
 use Rattle.tree_layout.specs.Refusal.{layoutRefusal}
-use Rattle.tree_truth.specs.Truth.{within}
+use Rattle.check_rules.specs.Truth.{within}
 
 -- the record at a place of a tree book is whole, and its landmarks are junctions of the adjacency's road book
 pub record Marked (adj tree : List ℕ) (at : ℕ) : Type 0 where

@@ -10,7 +10,7 @@ use Rattle.adjacency.specs.Adjacency.{Adjacency}
 use Rattle.road.specs.Dijkstra.{far, at, distances}
 use Rattle.tree_layout.specs.Values.{Element}
 use Rattle.tree_layout.specs.Refusal.{all}
-use Rattle.tree_truth.specs.Truth.{leastFrom, greatestFrom}
+use Rattle.check_rules.specs.Truth.{leastFrom, greatestFrom}
 
 -- the distances from junction u, by junction
 unfoldable pub distancesFrom : List ℕ → ℕ → List ℕ

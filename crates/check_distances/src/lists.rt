@@ -13,7 +13,7 @@ ghost use Rattle.tree_layout.specs.Decode.{readList, landmarkCount};
 ghost use Rattle.tree_layout.specs.Accessors.{fieldsAt};
 ghost use Rattle.tree_layout.specs.Marks.{marksAt};
 ghost use Rattle.tree_layout.specs.Refusal.{all};
-ghost use Rattle.tree_truth.specs.Truth.{trueList};
+ghost use Rattle.check_rules.specs.Truth.{trueList};
 ghost use Rattle.check_distances.specs.Row.{listIn};
 ghost use Rattle.check_distances.specs.Beside.{Marked};
 

@@ -13,7 +13,7 @@ ghost use Rattle.yard.specs.Yards.{yardsOf, yardRefusal};
 ghost use Rattle.tree_layout.specs.Decode.{landmarkCount};
 ghost use Rattle.tree_layout.specs.Marks.{marksAt};
 ghost use Rattle.tree_layout.specs.Refusal.{all};
-ghost use Rattle.tree_truth.specs.Truth.{leastFrom, greatestFrom, trueSpan, within};
+ghost use Rattle.check_rules.specs.Truth.{leastFrom, greatestFrom, trueSpan, within};
 ghost use Rattle.check_distances.specs.Row.{spanIn};
 ghost use Rattle.check_distances.specs.Beside.{Marked};
 

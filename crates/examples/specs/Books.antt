@@ -1,4 +1,5 @@
--- The books of the paper's examples, byte by byte, and what a search on them gives. Assumes nothing: these are definitions.
+-- The books of the paper's examples, byte by byte, and what a search on them gives. Assumes nothing: these are
+-- definitions.
 use mathlib.Core.List.{List, [], _∷_, _++_}
 use Prim.Native.Nat.{ℕ, _+_, _*_, _/_}
 use lib.ListN.{length, drop, replicate}
@@ -15,7 +16,8 @@ roadN =
     ∷ 0 ∷ 2 ∷ 0 ∷ 3 ∷ 0 ∷ 4
     ∷ 0 ∷ 3 ∷ 0 ∷ 4 ∷ 0 ∷ 1 ∷ []
 
--- "Its tree in hexadecimal: 00000023 01 0005 0001 0003 01 0000 0005 00 0003 0000 00000002 0001 00000009 0003 0000000a 0004"
+-- "Its tree in hexadecimal: 00000023 01 0005 0001 0003 01 0000 0005 00 0003 0000 00000002 0001 00000009 0003 0000000a
+-- 0004"
 unfoldable pub treeN : List ℕ
 treeN =
     0 ∷ 0 ∷ 0 ∷ 35 ∷ 1 ∷ 0 ∷ 5 ∷ 0 ∷ 1 ∷ 0 ∷ 3 ∷ 1
@@ -59,7 +61,8 @@ crewBytes (q ∷ qs) = 0 ∷ q ∷ crewBytes qs
 
 -- a query book: the aggregate's code, k, the step limit (below 256) and the crews
 unfoldable pub asking : (code k limit : ℕ) → List ℕ → List ℕ
-asking code k limit crews = 0 ∷ 0 ∷ 0 ∷ (8 + 2 * length crews) ∷ 1 ∷ code ∷ k ∷ 0 ∷ 0 ∷ 0 ∷ limit ∷ length crews ∷ crewBytes crews
+asking code k limit crews = 0 ∷ 0 ∷ 0 ∷ (8 + 2 * length crews) ∷ 1 ∷ code ∷ k ∷ 0 ∷ 0 ∷ 0 ∷ limit ∷ length crews ∷
+    crewBytes crews
 
 unfoldable pub onN : List ℕ → Call
 onN query = record { road = roadN; tree = treeN; query = query }

@@ -1,12 +1,14 @@
--- The examples' trees pass beside their roads, and searches on the same two areas in turn: so that demand 3 says something of them. Assumes nothing: these are statements.
+-- The examples' trees pass beside their roads, and searches on the same two areas in turn: so that demand 3 says
+-- something of them. Assumes nothing: these are statements.
 use mathlib.Core.Path.{_≡_}
 use mathlib.Core.List.{List, [], _∷_, _++_}
 use Prim.Native.Nat.{ℕ}
 use lib.ListN.{drop, replicate}
-use Rattle.tree_check.specs.Check.{checkAnswer}
+use Rattle.check_tree.specs.Check.{checkAnswer}
 use Rattle.search_call.specs.Call.{Call, areasAfter}
 use Rattle.search_call.specs.Demand.{Promised}
-use Rattle.examples.specs.Books.{roadN, treeN, roadOne, treeOne, roadThree, treeThree, asking, onN, onThree, lent, refusedRow, row}
+use Rattle.examples.specs.Books.{roadN, treeN, roadOne, treeOne, roadThree, treeThree, asking, onN, onThree, lent}
+use Rattle.examples.specs.Books.{refusedRow, row}
 
 -- a yard book of "yards 1, 3, 4", of "yard 0" and of "yards 0 and 2"
 unfoldable pub yardN : List ℕ
@@ -20,7 +22,8 @@ yardThree = 0 ∷ 0 ∷ 0 ∷ 7 ∷ 1 ∷ 0 ∷ 2 ∷ 0 ∷ 0 ∷ 0 ∷ 2 ∷ []
 
 -- the listing; a crew at no junction; limit 3; the chain of three
 unfoldable pub four : List Call
-four = onN (asking 0 2 4 (0 ∷ 2 ∷ [])) ∷ onN (asking 0 2 4 (0 ∷ 5 ∷ [])) ∷ onN (asking 0 2 3 (0 ∷ 2 ∷ [])) ∷ onThree (asking 0 1 6 (1 ∷ [])) ∷ []
+four = onN (asking 0 2 4 (0 ∷ 2 ∷ [])) ∷ onN (asking 0 2 4 (0 ∷ 5 ∷ [])) ∷ onN (asking 0 2 3 (0 ∷ 2 ∷ [])) ∷ onThree
+    (asking 0 1 6 (1 ∷ [])) ∷ []
 
 pub record InTurn : Type 0 where
   pub passes-N : checkAnswer roadN yardN treeN 16384 ≡ 0

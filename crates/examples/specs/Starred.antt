@@ -10,7 +10,18 @@ use Rattle.examples.specs.Books.{asking, onN, onOne, onThree, row, settl
 
 -- crews whose distance from a landmark is their own number
 unfoldable pub valued : List ℕ → Instance
-valued crews = record { code = 0; k = 1; crews = crews; tree = record { junctions = 0; yards = 0; landmarks = 0; regions = [] }; d = λ l q. q }
+valued crews = record {
+  code = 0;
+  k = 1;
+  crews = crews;
+  tree = record {
+    junctions = 0;
+    yards = 0;
+    landmarks = 0;
+    regions = [];
+  };
+  d = λ l q. q;
+}
 
 -- a list's element at a distance
 unfoldable pub listAt : ℕ → Element
@@ -37,6 +48,7 @@ pub record Starred : Type 0 where
   -- "LB 5, UB 20, A 9, B 12: bound 0."
   pub no-bound : crewBound 5 20 9 12 ≡ 0
   -- "Crew values 5, 5, 10 and list 4, 7: f is 8 and 7."
-  pub far-side : (f (valued (5 ∷ 5 ∷ 10 ∷ [])) noMark (listAt 4) ≡ 8) × (f (valued (5 ∷ 5 ∷ 10 ∷ [])) noMark (listAt 7) ≡ 7)
+  pub far-side : (f (valued (5 ∷ 5 ∷ 10 ∷ [])) noMark (listAt 4) ≡ 8)
+      × (f (valued (5 ∷ 5 ∷ 10 ∷ [])) noMark (listAt 7) ≡ 7)
   -- "Chain of three, seconds 1 and 1, yards 0 and 2, crew 1, k 1: yard 0."
   pub tied : row (onThree (asking 0 1 6 (1 ∷ []))) ≡ settledRow 2 4 (0 ∷ 1 ∷ [])

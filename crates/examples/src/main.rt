@@ -1,5 +1,5 @@
-// The paper's examples that are not starred, executed: a line for each, with what a search by its books answers. The starred ones are proved, as the rows of
-// one result (specs/Starred.antt).
+// The paper's examples that are not starred, executed: a line for each, with what a search by its books answers. The
+// starred ones are proved, as the rows of one result (specs/Starred.antt).
 use libc::STDOUT_FILENO;
 ghost use mathlib.Core.Path.{_≡_};
 ghost use mathlib.Core.List.{_∷_, []};
@@ -32,7 +32,7 @@ fn query_n() -> [u8; 16]
 fn answer(name: &[u8], road: &[u8], tree: &[u8], query: &[u8]) {
     let mut work = [0u32; work_area::WORDS];
     let mut results = [0u32; 128];
-    let found = search::search(road, tree, query, &mut work, &mut results);
+    let found = search_tree::search(road, tree, query, &mut work, &mut results);
     io::write_all(STDOUT_FILENO, name);
     if found.refusal == 0 {
         io::write_all(STDOUT_FILENO, b": accepted\n");

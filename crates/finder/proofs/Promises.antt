@@ -15,20 +15,22 @@ use Rattle.yard.specs.Yards.{yardRefusalIn}
 use Rattle.yard.proofs.YardLayout.{yard-layout-in}
 use Rattle.tree.specs.Shape.{treeRefusal}
 use Rattle.tree.proofs.Theorems.{accepted-iff}
-use Rattle.tree_check.specs.Check.{checkAnswer}
-use Rattle.tree_check.specs.Facts.{Laid}
-use Rattle.tree_check.proofs.Theorems.{check-exact}
-use Rattle.tree_check.proofs.Turning.{road-first, yard-next, tree-next, counts-next, yards-next, numbers-next, work-next, none-turned}
-use Rattle.tree_build.specs.Build.{buildAnswer}
-use Rattle.tree_build.proofs.Theorems.{build-refusals, build-exact}
+use Rattle.check_tree.specs.Check.{checkAnswer}
+use Rattle.check_tree.specs.Facts.{Laid}
+use Rattle.check_tree.proofs.Theorems.{check-exact}
+use Rattle.check_tree.proofs.Turning.{road-first, yard-next, tree-next, counts-next, yards-next, numbers-next, work-next, none-turned}
+use Rattle.build_tree.specs.Build.{buildAnswer}
+use Rattle.build_tree.proofs.Theorems.{build-refusals, build-exact}
 use Rattle.query.specs.Query.{kOf, queryRefusal, QueryLayout}
 use Rattle.query.proofs.Reading.{query-exact}
 use Rattle.search_call.specs.Call.{Call, Areas, treeRefusalIn, areasRefusal, foundOn}
-use Rattle.search_call.proofs.Refusing.{tree-turned-back, counts-differ, counts-agree, short-work, short-results, long-enough, by-road, by-tree, by-query, by-areas}
+use Rattle.search_call.proofs.Refusing.{tree-turned-back, counts-differ, counts-agree, short-work, short-results, long-enough, by-road, by-tree, by-query}
+use Rattle.search_call.proofs.Refusing.{by-areas}
 use Rattle.search_call.proofs.Calls.{on-number, on-refused, on-tests, work-zeroed, areas-kept}
 use Rattle.search_call.proofs.Demand.{demand-3, any-tree}
 use Rattle.search_call.proofs.Lists.{work-unread}
-use Rattle.finder.specs.Promises.{SoundBooks, SoundTree, FirstRefusal, Accepted, CheckSafe, CheckTrue, FirstBuildRefusal, BuildAccepted, BuildSafe, BuildTrue, SearchAreas, FirstSearchRefusal, SearchAccepted, SearchSafe, SearchesTrue, SearchesDecided}
+use Rattle.finder.specs.Promises.{SoundBooks, SoundTree, FirstRefusal, Accepted, CheckSafe, CheckTrue, FirstBuildRefusal, BuildAccepted, BuildSafe}
+use Rattle.finder.specs.Promises.{BuildTrue, SearchAreas, FirstSearchRefusal, SearchAccepted, SearchSafe, SearchesTrue, SearchesDecided}
 
 -- ---- sound books are those that no test turns back
 
@@ -75,7 +77,13 @@ module _ (road yard tree : List ℕ) (words : ℕ) where
       there e =
           let l = none-turned road yard tree words e in
           let x = check-exact road yard tree words l .0 e in
-          record { books = books-sound road yard (l .roads) (l .yards); tree-sound = record { facts = accepted-iff tree .0 (l .shape); counts = l .counts }; yards = x .0; numbers = x .1; full = l .full }
+          record {
+            books = books-sound road yard (l .roads) (l .yards);
+            tree-sound = record { facts = accepted-iff tree .0 (l .shape); counts = l .counts };
+            yards = x .0;
+            numbers = x .1;
+            full = l .full;
+          }
 
 pub check-safe : CheckSafe
 check-safe road yard tree work = record {
@@ -191,7 +199,8 @@ module _ (c : Call) (a : Areas) where
 
       back : SearchAccepted road tree query words room → foundOn c a .refusal ≡ 0
       back s =
-          on-number c a ∙ (by-areas road tree query words room (passing-exact road .1 (s .roads)) (agree (s .tree-sound)) (query-exact query (junctions road) .1 (s .asked))
+          on-number c a ∙ (by-areas road tree query words room (passing-exact road .1 (s .roads)) (agree (s .tree-sound)) (query-exact query (junctions road)
+          .1 (s .asked))
           ∙ long-enough (kOf query) words room (s .areas .work) (s .areas .results))
 
 pub search-safe : SearchSafe

@@ -1,8 +1,12 @@
--- What the calls promise, to be held against the mission's words and the paper's. Assumes nothing: these are statements.
+-- What the calls promise, to be held against the mission's words and the paper's. Assumes nothing: these are
+-- statements.
 --
--- A call is lent books, lists of bytes, and a work area, a list of words; a build also the area of its tree, and a search a result area of words. The contracts in
--- src/lib.rt say that a check answers `checkAnswer` of them, that a build answers `buildAnswer` and `builtLength` and leaves `treeAfter` in the tree's area, that a
--- search answers `searchFound` and leaves `resultsAfter` in the result area, and that each leaves `workAfter` in the work area; the statements here are about these,
+-- A call is lent books, lists of bytes, and a work area, a list of words; a build also the area of its tree, and a
+-- search a result area of words. The contracts in
+-- src/lib.rt say that a check answers `checkAnswer` of them, that a build answers `buildAnswer` and `builtLength` and
+-- leaves `treeAfter` in the tree's area, that a
+-- search answers `searchFound` and leaves `resultsAfter` in the result area, and that each leaves `workAfter` in the
+-- work area; the statements here are about these,
 -- for all lists.
 use mathlib.Core.Path.{_≡_}
 use mathlib.Core.Logic.{_≢_, _↔_}
@@ -19,12 +23,12 @@ use Rattle.tree_layout.specs.Decode.{junctionCount, decode}
 use Rattle.tree.specs.Shape.{treeRefusal}
 use Rattle.tree.specs.Theorems.{TreeFacts}
 use Rattle.tree_encode.specs.Encode.{encode}
-use Rattle.cut_tree.specs.Facts.{Rule}
-use Rattle.tree_check.specs.Check.{checkAnswer}
-use Rattle.tree_check.specs.Facts.{HoldsEach, TrueTotals}
+use Rattle.build_rules.specs.Facts.{Rule}
+use Rattle.check_tree.specs.Check.{checkAnswer}
+use Rattle.check_tree.specs.Facts.{HoldsEach, TrueTotals}
 use Rattle.build_records.specs.Given.{given}
-use Rattle.tree_build.specs.Build.{treeBytes, buildAnswer, builtTree, builtLength, treeAfter}
-use Rattle.tree_build.specs.Facts.{InRange, Areas, writtenBook}
+use Rattle.build_tree.specs.Build.{treeBytes, buildAnswer, builtTree, builtLength, treeAfter}
+use Rattle.build_tree.specs.Facts.{InRange, Areas, writtenBook}
 use Rattle.query.specs.Query.{kOf, queryRefusal, QueryLayout}
 use Rattle.search_call.specs.Call.{Call, Found, foundOn, callOn, Areas as Lent, refused as refusedWith}
 use Rattle.search_call.specs.Demand.{Promised, OfBytes, AnyTree, WorkUnread}
@@ -50,14 +54,17 @@ pub record SoundTree (road tree : List ℕ) : Type 0 where
 abbrev pub YardsHeld : (yard tree : List ℕ) → Type 0
 YardsHeld yard tree = HoldsEach (decode tree .regions) (yardsOf yard)
 
--- "each stored distance is the least total of any walk through the roads, as the COLT paper defines it, with each least and greatest true of its region's yards"
+-- "each stored distance is the least total of any walk through the roads, as the COLT paper defines it, with each least
+-- and greatest true of its region's yards"
 abbrev pub NumbersTrue : (road tree : List ℕ) → Type 0
 NumbersTrue road tree = TrueTotals (net road) (decode tree .regions)
 
 -- ---- demand 1, of check
 --
--- Nothing handed in can make a call read or write outside what is lent, wrap, or fail to end. That is no statement here: the prover shows it of every function,
--- for every input that meets its `requires`, before it looks at a contract, and the calls have no `requires`. Books are lent as `&[u8]`, which no code can write.
+-- Nothing handed in can make a call read or write outside what is lent, wrap, or fail to end. That is no statement
+-- here: the prover shows it of every function,
+-- for every input that meets its `requires`, before it looks at a contract, and the calls have no `requires`. Books are
+-- lent as `&[u8]`, which no code can write.
 --
 -- The rest of the demand: "input outside the layouts gets exactly the refusal listed", and the areas.
 
@@ -73,9 +80,11 @@ pub record FirstRefusal (road yard tree : List ℕ) (words answer : ℕ) : Type 
   pub by-counts : SoundBooks road yard → TreeFacts tree → junctionCount tree ≢ junctions road → answer ≡ 8
   pub by-yards : SoundBooks road yard → SoundTree road tree → (YardsHeld yard tree → ⊥) → answer ≡ 8
   -- 9: "In a check only: a stored distance, least or greatest isn't the true one."
-  pub by-numbers : SoundBooks road yard → SoundTree road tree → YardsHeld yard tree → (NumbersTrue road tree → ⊥) → answer ≡ 9
+  pub by-numbers : SoundBooks road yard → SoundTree road tree → YardsHeld yard tree → (NumbersTrue road tree → ⊥)
+      → answer ≡ 9
   -- 12: "A lent area is too short: work below 16,384 words"
-  pub by-work : SoundBooks road yard → SoundTree road tree → YardsHeld yard tree → NumbersTrue road tree → words < workWords → answer ≡ 12
+  pub by-work : SoundBooks road yard → SoundTree road tree → YardsHeld yard tree → NumbersTrue road tree
+      → words < workWords → answer ≡ 12
 
 -- "The number of an accepted call is 0": what holds whenever the answer is 0
 pub record Accepted (road yard tree : List ℕ) (words : ℕ) : Type 0 where
@@ -96,12 +105,16 @@ pub record CheckKept (road yard tree work : List ℕ) (answer : ℕ) (after : Li
   pub emptied : answer ≡ 0 → after ≡ zeroed workWords work
 
 abbrev pub CheckSafe : Type 0
-CheckSafe = (road yard tree work : List ℕ) → CheckKept road yard tree work (checkAnswer road yard tree (length work)) (workAfter (checkAnswer road yard tree (length work)) work)
+CheckSafe = (road yard tree work : List ℕ)
+    → CheckKept road yard tree work (checkAnswer road yard tree (length work)) (workAfter (checkAnswer road yard tree
+    (length work)) work)
 
 -- ---- demand 2, of check
 --
--- "Beside a sound road book and yard book, with full areas, a tree of sound layout and shape and of the road book's junction count passes the check if and only if
--- its leaves hold each yard of the yard book once and no other, and each stored distance is the least total of any walk through the roads, as the COLT paper
+-- "Beside a sound road book and yard book, with full areas, a tree of sound layout and shape and of the road book's
+-- junction count passes the check if and only if
+-- its leaves hold each yard of the yard book once and no other, and each stored distance is the least total of any walk
+-- through the roads, as the COLT paper
 -- defines it, with each least and greatest true of its region's yards."
 abbrev pub CheckTrue : Type 0
 CheckTrue = (road yard tree : List ℕ) (words : ℕ) → SoundBooks road yard → workWords ≤ words → SoundTree road tree
@@ -127,7 +140,8 @@ pub record BuildAccepted (road yard : List ℕ) (m limit words room : ℕ) : Typ
   pub areas : Areas words room
 
 -- a build's answer and length, and its work area and its tree's area before and after
-pub record BuildKept (road yard : List ℕ) (m limit : ℕ) (work tree : List ℕ) (answer size : ℕ) (workLater treeLater : List ℕ) : Type 0 where
+pub record BuildKept (road yard : List ℕ) (m limit : ℕ) (work tree : List ℕ) (answer size : ℕ) (workLater treeLater :
+    List ℕ) : Type 0 where
   pub refused : FirstBuildRefusal road yard m limit (length work) (length tree) answer
   pub accepted : (answer ≡ 0) ↔ BuildAccepted road yard m limit (length work) (length tree)
   -- "A refusal returns its number, with every other returned field 0, and changes no lent byte or word."
@@ -137,26 +151,33 @@ pub record BuildKept (road yard : List ℕ) (m limit : ℕ) (work tree : List �
 
 abbrev pub BuildSafe : Type 0
 BuildSafe = (road yard : List ℕ) (m limit : ℕ) (work tree : List ℕ)
-    → BuildKept road yard m limit work tree (buildAnswer road yard m limit (length work) (length tree)) (builtLength road yard m limit (length work) (length tree))
-    (workAfter (buildAnswer road yard m limit (length work) (length tree)) work) (treeAfter road yard m limit (length work) tree)
+    → BuildKept road yard m limit work tree (buildAnswer road yard m limit (length work) (length tree)) (builtLength
+    road yard m limit (length work) (length tree))
+    (workAfter (buildAnswer road yard m limit (length work) (length tree)) work) (treeAfter road yard m limit (length
+    work) tree)
 
 -- ---- demand 2, of build
 --
--- "Building writes the one tree that the stated cuts give; it passes, and reading it back gives the regions and numbers that were written."
+-- "Building writes the one tree that the stated cuts give; it passes, and reading it back gives the regions and numbers
+-- that were written."
 pub record BuildWrites (road yard : List ℕ) (m limit : ℕ) (work tree : List ℕ) : Type 0 where
-  -- "the one tree", and "Bytes after a built tree stay."; `builtTree` is a value, and its ranges are cut as the paper's "Building" says
-  pub one : treeAfter road yard m limit (length work) tree ≡ encode (builtTree road yard m limit) ++ drop (length (encode (builtTree road yard m limit))) tree
+  -- "the one tree", and "Bytes after a built tree stay."; `builtTree` is a value, and its ranges are cut as the paper's
+  -- "Building" says
+  pub one : treeAfter road yard m limit (length work) tree
+      ≡ encode (builtTree road yard m limit) ++ drop (length (encode (builtTree road yard m limit))) tree
   pub cuts : Rule (given road m limit)
   -- "Build returns the tree's length.", and no tree is longer than the area that is asked for
   pub size : builtLength road yard m limit (length work) (length tree) ≡ length (encode (builtTree road yard m limit))
   pub short : length (encode (builtTree road yard m limit)) ≤ treeBytes
   -- "it passes": the bytes that were written, so many as are returned, beside the two books, with any full work area
-  pub passes : (words : ℕ) → workWords ≤ words → checkAnswer road yard (writtenBook road yard m limit (length work) tree) words ≡ 0
+  pub passes : (words : ℕ) → workWords ≤ words
+      → checkAnswer road yard (writtenBook road yard m limit (length work) tree) words ≡ 0
   -- "reading it back gives the regions and numbers that were written"
   pub back : decode (writtenBook road yard m limit (length work) tree) ≡ builtTree road yard m limit
 
 abbrev pub BuildTrue : Type 0
-BuildTrue = (road yard : List ℕ) (m limit : ℕ) (work tree : List ℕ) → SoundBooks road yard → InRange m limit → Areas (length work) (length tree)
+BuildTrue = (road yard : List ℕ) (m limit : ℕ) (work tree : List ℕ) → SoundBooks road yard → InRange m limit
+    → Areas (length work) (length tree)
     → BuildWrites road yard m limit work tree
 
 -- ---- demand 1, of search
@@ -175,9 +196,11 @@ pub record FirstSearchRefusal (road tree query : List ℕ) (words room answer : 
   -- 8: "Junction counts .. disagree between books"
   pub by-counts : Passing road → TreeFacts tree → junctionCount tree ≢ junctions road → answer ≡ 8
   -- of the query book 1 to 4, 10 and 11
-  pub by-query : Passing road → SoundTree road tree → queryRefusal query (junctions road) ≢ 0 → answer ≡ queryRefusal query (junctions road)
+  pub by-query : Passing road → SoundTree road tree → queryRefusal query (junctions road) ≢ 0
+      → answer ≡ queryRefusal query (junctions road)
   -- 12: "A lent area is too short"
-  pub by-areas : Passing road → SoundTree road tree → QueryLayout query (junctions road) → (SearchAreas query words room → ⊥) → answer ≡ 12
+  pub by-areas : Passing road → SoundTree road tree → QueryLayout query (junctions road)
+      → (SearchAreas query words room → ⊥) → answer ≡ 12
 
 -- what holds whenever a search's refusal is 0
 pub record SearchAccepted (road tree query : List ℕ) (words room : ℕ) : Type 0 where
@@ -188,8 +211,10 @@ pub record SearchAccepted (road tree query : List ℕ) (words room : ℕ) : Type
 
 -- a search's answer, and both areas before and after
 pub record SearchKept (c : Call) (a : Lent) (found : Found) (after : Lent) : Type 0 where
-  pub refused : FirstSearchRefusal (c .road) (c .tree) (c .query) (length (a .work)) (length (a .results)) (found .refusal)
-  pub accepted : (found .refusal ≡ 0) ↔ SearchAccepted (c .road) (c .tree) (c .query) (length (a .work)) (length (a .results))
+  pub refused : FirstSearchRefusal (c .road) (c .tree) (c .query) (length (a .work)) (length (a .results)) (found
+      .refusal)
+  pub accepted : (found .refusal ≡ 0) ↔ SearchAccepted (c .road) (c .tree) (c .query) (length (a .work)) (length (a
+      .results))
   -- "A refusal returns its number, with every other returned field 0, and changes no lent byte or word."
   pub kept : found .refusal ≢ 0 → (found ≡ refusedWith (found .refusal)) × (after ≡ a)
   -- "zero the first 16,384 words of the work area and leave any after them"
@@ -200,13 +225,18 @@ SearchSafe = (c : Call) (a : Lent) → SearchKept c a (foundOn c a) (callOn c a)
 
 -- ---- demand 3
 --
--- Any list of searches on one work area and one result area, which hold anything at first: each is given both areas as the one before left them, and brings its own
--- books. `Promised` (crates/search_call/specs/Demand.antt) has the demand's four sentences: a settled search on a tree that passes lists exactly the first k yards;
--- none of these measured a yard whose bound exceeds the last listed distance of a full list; enough steps always settle; at the end the result area is what it held
--- at first with all the settled lists written over its start in turn. A tree book is asked to be of bytes, which a lent book is.
+-- Any list of searches on one work area and one result area, which hold anything at first: each is given both areas as
+-- the one before left them, and brings its own
+-- books. `Promised` (crates/search_call/specs/Demand.antt) has the demand's four sentences: a settled search on a tree
+-- that passes lists exactly the first k yards;
+-- none of these measured a yard whose bound exceeds the last listed distance of a full list; enough steps always
+-- settle; at the end the result area is what it held
+-- at first with all the settled lists written over its start in turn. A tree book is asked to be of bytes, which a lent
+-- book is.
 abbrev pub SearchesTrue : Type 0
 SearchesTrue = (calls : List Call) → OfBytes calls → (first : Lent) → Promised calls first
 
--- Beside it: what holds of every search, on a tree that "check would refuse by 9" too, and that the work area's contents never matter.
+-- Beside it: what holds of every search, on a tree that "check would refuse by 9" too, and that the work area's
+-- contents never matter.
 abbrev pub SearchesDecided : Type 0
 SearchesDecided = AnyTree × WorkUnread

@@ -1,26 +1,31 @@
-// The calls of the planner, which is in C. A slice is a pointer and a count there; include/finder.h declares them and says what is lent.
-use search::Found;
-use tree_build::Built;
+// The calls of the planner, which is in C. A slice is a pointer and a count there; include/finder.h declares them and
+// says what is lent.
+use build_tree::Built;
+use search_tree::Found;
 ghost use mathlib.Core.Path.{_≡_};
 ghost use lib.ListN.{length};
 ghost use Rattle.work_area.specs.Work.{workAfter};
-ghost use Rattle.tree_check.specs.Check.{checkAnswer};
-ghost use Rattle.tree_build.specs.Build.{buildAnswer, builtLength, treeAfter};
+ghost use Rattle.check_tree.specs.Check.{checkAnswer};
+ghost use Rattle.build_tree.specs.Build.{buildAnswer, builtLength, treeAfter};
 ghost use Rattle.search_call.specs.Call.{searchRefusal, searchFound, resultsAfter};
-ghost use Rattle.search.specs.Found.{foundOf};
+ghost use Rattle.search_tree.specs.Found.{foundOf};
 
-// Checks a tree book beside a road book and a yard book: 0, or the number of the first test that fails. An accepted call zeroes the first 16,384 work words.
+// Checks a tree book beside a road book and a yard book: 0, or the number of the first test that fails. An accepted
+// call zeroes the first 16,384 work words.
 #[no_mangle]
 pub extern "C" fn finder_check(road: &[u8], yard: &[u8], tree: &[u8], work: &mut [u32]) -> u32
-    ensures answer { λ r. ⌜ r ≡ checkAnswer (now (road .entry)) (now (yard .entry)) (now (tree .entry)) (length (now (work .entry))) ⌝ }
+    ensures answer { λ r. ⌜ r ≡ checkAnswer (now (road .entry)) (now (yard .entry)) (now (tree .entry)) (length (now
+        (work .entry))) ⌝ }
     ensures work { λ _. ⌜ now (work .exit)
-        ≡ workAfter (checkAnswer (now (road .entry)) (now (yard .entry)) (now (tree .entry)) (length (now (work .entry)))) (now (work .entry)) ⌝ }
+        ≡ workAfter (checkAnswer (now (road .entry)) (now (yard .entry)) (now (tree .entry)) (length (now (work
+        .entry)))) (now (work .entry)) ⌝ }
 {
-    tree_check::check(road, yard, tree, work) as u32
+    check_tree::check(road, yard, tree, work) as u32
 }
 
-// Builds the tree of a road book and a yard book, with m landmarks for each region, into a lent area: 0 and the tree's length, or the number of the first test
-// that fails. An accepted call zeroes the first 16,384 work words and leaves the bytes after the tree.
+// Builds the tree of a road book and a yard book, with m landmarks for each region, into a lent area: 0 and the tree's
+// length, or the number of the first test that fails. An accepted call zeroes the first 16,384 work words and leaves
+// the bytes after the tree.
 #[no_mangle]
 pub extern "C" fn finder_build(
     road: &[u8],
@@ -39,11 +44,12 @@ pub extern "C" fn finder_build(
     ensures tree { λ _. ⌜ now (tree .exit) ≡ treeAfter (now (road .entry)) (now (yard .entry)) m limit
         (length (now (work .entry))) (now (tree .entry)) ⌝ }
 {
-    tree_build::build(road, yard, m, limit, work, tree)
+    build_tree::build(road, yard, m, limit, work, tree)
 }
 
-// Searches a tree book beside a road book for what a query book asks, by steps up to its limit: settled, with the list written over the start of the result area, or
-// spent; or the number of the first test that fails. An accepted call zeroes the first 16,384 work words.
+// Searches a tree book beside a road book for what a query book asks, by steps up to its limit: settled, with the list
+// written over the start of the result area, or spent; or the number of the first test that fails. An accepted call
+// zeroes the first 16,384 work words.
 #[no_mangle]
 pub extern "C" fn finder_search(
     road: &[u8],
@@ -54,10 +60,12 @@ pub extern "C" fn finder_search(
 ) -> Found
     ensures found { λ r. ⌜ foundOf r ≡ searchFound (now (road .entry)) (now (tree .entry)) (now (query .entry))
         (length (now (work .entry))) (length (now (results .entry))) ⌝ }
-    ensures work { λ _. ⌜ now (work .exit) ≡ workAfter (searchRefusal (now (road .entry)) (now (tree .entry)) (now (query .entry))
+    ensures work { λ _. ⌜ now (work .exit) ≡ workAfter (searchRefusal (now (road .entry)) (now (tree .entry)) (now
+        (query .entry))
         (length (now (work .entry))) (length (now (results .entry)))) (now (work .entry)) ⌝ }
-    ensures results { λ _. ⌜ now (results .exit) ≡ resultsAfter (now (road .entry)) (now (tree .entry)) (now (query .entry))
+    ensures results { λ _. ⌜ now (results .exit)
+        ≡ resultsAfter (now (road .entry)) (now (tree .entry)) (now (query .entry))
         (length (now (work .entry))) (now (results .entry)) ⌝ }
 {
-    search::search(road, tree, query, work, results)
+    search_tree::search(road, tree, query, work, results)
 }

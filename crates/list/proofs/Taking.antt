@@ -8,9 +8,9 @@ use lib.Seq.{length-take-le, take-all}
 use Rattle.work_area.specs.Work.{workWords}
 use Rattle.search_call.specs.Call.{searchFound, resultsAfter}
 use Rattle.search_call.proofs.Room.{listed-fits}
-use Rattle.search.specs.declared.Found.{Found as Returned}
-use Rattle.search.specs.Found.{foundOf}
-use Rattle.search.proofs.Fields.{listed-is}
+use Rattle.search_tree.specs.declared.Found.{Found as Returned}
+use Rattle.search_tree.specs.Found.{foundOf}
+use Rattle.search_tree.proofs.Fields.{listed-is}
 use Rattle.list.specs.Input.{bookEnd, firstBook, afterBook, roadIn, treeIn, queryIn, foundIn, resultsIn}
 
 -- a book ends inside the bytes

@@ -1,4 +1,5 @@
--- "The list program reads road, tree and query books from standard input.": how the input is taken apart, and the search that it asks for. Assumes
+-- "The list program reads road, tree and query books from standard input.": how the input is taken apart, and the
+-- search that it asks for. Assumes
 -- nothing: these are definitions.
 use mathlib.Core.List.{List}
 use Prim.Native.Nat.{ℕ, _+_, min}
@@ -7,7 +8,8 @@ use Rattle.book.specs.Bytes.{u32At}
 use Rattle.work_area.specs.Work.{workWords}
 use Rattle.search_call.specs.Call.{Found, searchFound, resultsAfter}
 
--- "The first two each take four bytes and as many more as those count, or what is left if that is less": where the first book of some bytes
+-- "The first two each take four bytes and as many more as those count, or what is left if that is less": where the
+-- first book of some bytes
 -- ends (of fewer than four bytes it takes all)
 unfoldable pub bookEnd : List ℕ → ℕ
 bookEnd s = min (4 + u32At s 0) (length s)

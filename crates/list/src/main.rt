@@ -1,13 +1,15 @@
-// Reads a road book, a tree book and a query book from standard input, and writes the yards that a search lists, or that it is spent, or that it is refused.
+// Reads a road book, a tree book and a query book from standard input, and writes the yards that a search lists, or
+// that it is spent, or that it is refused.
 use libc::STDOUT_FILENO;
-use search::Found;
+use search_tree::Found;
 ghost use mathlib.Core.Path.{_≡_};
 ghost use Prim.Native.Nat.{_*_, _≤_};
 ghost use lib.ListN.{length};
-ghost use Rattle.search.specs.Found.{foundOf};
+ghost use Rattle.search_tree.specs.Found.{foundOf};
 ghost use Rattle.list.specs.Input.{bookEnd, foundIn, resultsIn};
 
-// Where the first book of some bytes ends: after four bytes and as many more as those count, or at the end if that comes before.
+// Where the first book of some bytes ends: after four bytes and as many more as those count, or at the end if that
+// comes before.
 fn book_end(s: &[u8]) -> usize
     ensures { λ r. ⌜ r ≡ bookEnd (now (s .entry)) ⌝ }
 {
@@ -31,7 +33,7 @@ fn find(input: &[u8], results: &mut [u32]) -> Found
     let end = book_end(input);
     let rest = &input[end..];
     let stop = book_end(rest);
-    search::search(
+    search_tree::search(
         &input[..end],
         &rest[..stop],
         &rest[stop..],

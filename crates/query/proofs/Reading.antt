@@ -14,7 +14,8 @@ use Rattle.book.specs.Open.{openRefusal, opened}
 use Rattle.book.specs.declared.Opened.the-variants as Opened
 use Rattle.book.proofs.Choosing.{first-none, first-later, first-earlier, passes, passed, passes-if, fails-if, eq→eqb}
 use Rattle.book.proofs.Opening.{opened-refused, opens, open-zero}
-use Rattle.query.specs.Query.{aggregateOf, kOf, limitOf, crewCount, crewsOf, inside, valueRefusal, bodyRefusal, queryRefusal, queryOf, queryBook, numberOf, QueryLayout}
+use Rattle.query.specs.Query.{aggregateOf, kOf, limitOf, crewCount, crewsOf, inside, valueRefusal, bodyRefusal, queryRefusal, queryOf, queryBook}
+use Rattle.query.specs.Query.{numberOf, QueryLayout}
 use Rattle.query.specs.declared.Query.{Query}
 use Rattle.query.specs.declared.QueryBook.{QueryBook}
 use Rattle.query.specs.declared.QueryBook.the-variants.{Asked, Refused}

@@ -1,4 +1,5 @@
--- The query book: "aggregate u8, k u8 (1 to 64), step limit u32, crews u8 (1 to 16), then crew junctions u16." Assumes nothing: these are definitions.
+-- The query book: "aggregate u8, k u8 (1 to 64), step limit u32, crews u8 (1 to 16), then crew junctions u16." Assumes
+-- nothing: these are definitions.
 use mathlib.Core.Path.{_≡_}
 use mathlib.Core.Bool.{Bool, true, _&&_}
 use mathlib.Core.List.{List, [], _∷_}

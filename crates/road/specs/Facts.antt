@@ -22,7 +22,8 @@ pub record Passing (b : List ℕ) : Type 0 where
 abbrev pub IsJunction : List ℕ → ℕ → Type 0
 IsJunction b u = u < junctions b
 
--- The distances of a book that passes: least totals of walks, 0 from a junction to itself, within the triangle, and bounded.
+-- The distances of a book that passes: least totals of walks, 0 from a junction to itself, within the triangle, and
+-- bounded.
 pub record Metric (b : List ℕ) : Type 0 where
   pub joined : (u v : ℕ) → IsJunction b u → IsJunction b v → Joined (net b) u v
   pub least : (u v : ℕ) → IsJunction b u → IsJunction b v → Least (net b) u v (dist b u v)

@@ -3,10 +3,12 @@ use mathlib.Core.List.{List, List·Memᴰ}
 use Prim.Native.Nat.{ℕ, _+_, _≤_, _<_}
 use Rattle.adjacency.specs.Arcs.{Arc}
 
--- A walk from the first junction to the second along arcs of the net, and its total of seconds: stay put (0), or take an arc and walk on.
+-- A walk from the first junction to the second along arcs of the net, and its total of seconds: stay put (0), or take
+-- an arc and walk on.
 pub data Walk (arcs-of : List Arc) : ℕ → ℕ → ℕ → Type 0 where
   stay : {u : ℕ} → Walk arcs-of u u 0
-  step : {w t : ℕ} (a : Arc) → List·Memᴰ a arcs-of → Walk arcs-of (a .to) w t → Walk arcs-of (a .from) w (a .seconds + t)
+  step : {w t : ℕ} (a : Arc) → List·Memᴰ a arcs-of → Walk arcs-of (a .to) w t
+      → Walk arcs-of (a .from) w (a .seconds + t)
 
 -- "Distance d(u, v) is the least total of seconds over all walks from u to v": t is that total
 pub record Least (arcs-of : List Arc) (u v t : ℕ) : Type 0 where

@@ -23,7 +23,8 @@ roadOk n l h r =
 -- so are as many roads as are left from number k on, each after the one before it
 unfoldable pub roadsOk : List ℕ → ℕ → ℕ → ℕ → ℕ → ℕ → Bool
 roadsOk b n zero k l h = true
-roadsOk b n (suc left) k l h = roadOk n l h (roadAt b k) && roadsOk b n left (k + 1) (roadAt b k .low) (roadAt b k .high)
+roadsOk b n (suc left) k l h = roadOk n l h (roadAt b k)
+    && roadsOk b n left (k + 1) (roadAt b k .low) (roadAt b k .high)
 
 -- the first of tests 1 to 5 that fails, or 0, each over the whole book before the next
 unfoldable pub layoutRefusal : List ℕ → ℕ

@@ -7,3 +7,8 @@ pub mod Sheets
 pub mod Searching
 pub mod Places
 pub mod Filled
+pub mod Aggregating
+pub mod ToCrews
+pub mod Driving
+pub mod YardsSearching
+pub mod Vectors

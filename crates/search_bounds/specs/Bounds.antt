@@ -11,7 +11,8 @@ use Rattle.search_bounds.specs.Rows.{rowsLower, rowsUpper}
 
 -- "the crew's bound": of crew q for landmark k
 unfoldable pub rowsMark : List ℕ → ℕ → ℕ → Mark → ℕ
-rowsMark sheet rows q k = crewBound (rowsLower sheet rows (k .place) q) (rowsUpper sheet rows (k .place) q) (k .least) (k .greatest)
+rowsMark sheet rows q k = crewBound (rowsLower sheet rows (k .place) q) (rowsUpper sheet rows (k .place) q) (k .least)
+    (k .greatest)
 
 -- "The greatest over the region's landmarks is taken": for crew q
 unfoldable pub rowsCrew : List ℕ → ℕ → List Mark → ℕ → ℕ

@@ -1,3 +1,4 @@
 pub mod Rows
 pub mod Bounds
 pub mod Sheet
+pub mod Measures

@@ -16,7 +16,8 @@ rowsLower sheet (suc r) l q = max (rowsLower sheet r l q) (apart (cell sheet r l
 -- "UB(l, q) the least sum, of sheet values at l and q": of the first rows, at least one
 unfoldable pub rowsUpper : List ℕ → ℕ → ℕ → ℕ → ℕ
 rowsUpper sheet zero l q = 0
-rowsUpper sheet (suc r) l q = let s = cell sheet r l + cell sheet r q in choose (eqb r 0) s (min (rowsUpper sheet r l q) s)
+rowsUpper sheet (suc r) l q = let s = cell sheet r l + cell sheet r q in
+    choose (eqb r 0) s (min (rowsUpper sheet r l q) s)
 
 -- the words of a sheet: four rows of 1,024
 abbrev pub sheetWords : ℕ

@@ -19,7 +19,8 @@ placesOf (k ∷ ks) = k .place ∷ placesOf ks
 unfoldable pub rootPlaces : List ℕ → List ℕ
 rootPlaces tree = placesOf (marksAt tree 12)
 
--- "The sheet holds d from the root's landmarks r to every junction.": a row for each of the root's landmarks, in their order
+-- "The sheet holds d from the root's landmarks r to every junction.": a row for each of the root's landmarks, in their
+-- order
 pub record Sheet (i : Instance) (rows : ℕ) (sheet : List ℕ) : Type 0 where
   pub limits : Rows sheet rows
   pub count : rows ≡ length (marks i 0)

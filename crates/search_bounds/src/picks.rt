@@ -40,7 +40,8 @@ fn mark_weight(tree: &[u8], at: usize, j: usize, sheet: &[u32], rows: usize, cre
     weight(sheet, rows, crews, k.place)
 }
 
-// Place j if its weight w is greater than the greatest one before it, which is that of place p; else p: "ties to the first".
+// Place j if its weight w is greater than the greatest one before it, which is that of place p; else p: "ties to the
+// first".
 fn first_greater(best: u64, p: usize, w: u64, j: usize) -> usize
     ensures { λ r. ⌜ r ≡ choose (ltb best w) j p ⌝ }
 {
@@ -78,7 +79,8 @@ pub fn choose_mark(
     crews: &[u16],
     r: Region,
 ) -> usize
-    requires { ⌜ Laid (now tree) (now places) × (r .number < length (now places)) × Rows (now sheet) rows × Crews (now crews) ⌝ }
+    requires { ⌜ Laid (now tree) (now places) × (r .number < length (now places)) × Rows (now sheet) rows
+        × Crews (now crews) ⌝ }
     ensures { λ p. ⌜ p ≡ rowsChosen (now (sheet .entry)) rows (now (crews .entry))
         (regionAt (decode (now (tree .entry)) .regions) (r .number) .marks) ⌝ }
 {

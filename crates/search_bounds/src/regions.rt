@@ -47,7 +47,8 @@ fn crew_region(tree: &[u8], at: usize, sheet: &[u32], rows: usize, q: u16) -> u3
 // "then the aggregate over crews": of the record at a place.
 fn record_bound(tree: &[u8], at: usize, sheet: &[u32], rows: usize, code: u8, crews: &[u16]) -> u64
     requires { ⌜ RecordAt (now tree) at × Rows (now sheet) rows × Crews (now crews) ⌝ }
-    ensures { λ x. ⌜ x ≡ rowsBound (now (sheet .entry)) rows code (now (crews .entry)) (marksAt (now (tree .entry)) at) ⌝ }
+    ensures { λ x. ⌜ x ≡ rowsBound (now (sheet .entry)) rows code (now (crews .entry)) (marksAt (now (tree .entry)) at)
+        ⌝ }
 {
     let mut x: u64 = 0;
     let mut j: usize = 0;
@@ -69,7 +70,8 @@ pub fn region_bound(
     crews: &[u16],
     r: Region,
 ) -> u64
-    requires { ⌜ Laid (now tree) (now places) × (r .number < length (now places)) × Rows (now sheet) rows × Crews (now crews) ⌝ }
+    requires { ⌜ Laid (now tree) (now places) × (r .number < length (now places)) × Rows (now sheet) rows
+        × Crews (now crews) ⌝ }
     ensures { λ x. ⌜ x ≡ rowsBound (now (sheet .entry)) rows code (now (crews .entry))
         (regionAt (decode (now (tree .entry)) .regions) (r .number) .marks) ⌝ }
 {

@@ -16,8 +16,18 @@ module _ (i : Instance) (shape : Shape i) where
   -- in the leaf that names it
   pub has-bound : {r y : ℕ} → Below i r y → r < size i → (b : ℕ) × BoundIn i y b
   has-bound (inside {r = r} {y = y} m l j x) h =
-      let z : Listed (chosen i r) y = shape .alike r m (chosen i r) y l j (picks r h) x in
-      (yardBound i (chosen i r) (z .element), record { home = r; number = h; is-leaf = l; element = z .element; in-list = z .mem; names = z .names; value = refl })
+      let z : Listed (chosen i r) y = shape .alike r m (chosen i r) y l j (picks r h) x in (
+        yardBound i (chosen i r) (z .element),
+        record {
+          home = r;
+          number = h;
+          is-leaf = l;
+          element = z .element;
+          in-list = z .mem;
+          names = z .names;
+          value = refl;
+        },
+      )
   has-bound (under {r = r} c l j b) h = has-bound b (shape .range r c j)
 
   same-value : (r s : ℕ) (e g : Element) → r ≡ s → e ≡ g → yardBound i (chosen i r) e ≡ yardBound i (chosen i s) g
@@ -31,7 +41,9 @@ module _ (i : Instance) (shape : Shape i) where
       listed w x = record { element = x .element; mem = x .in-list; names = x .names }
 
       home : u .home ≡ v .home
-      home = shape .one-leaf (u .home) (v .home) (chosen i (u .home)) (chosen i (v .home)) y (u .is-leaf) (v .is-leaf) (picks (u .home) (u .number)) (picks (v .home) (v .number)) (listed b u) (listed c v)
+      home = shape .one-leaf (u .home) (v .home) (chosen i (u .home)) (chosen i (v .home)) y (u .is-leaf) (v .is-leaf) (picks (u .home) (u .number)) (picks (v
+          .home) (v .number)) (listed b u) (listed c v)
 
       element : u .element ≡ v .element
-      element = shape .once-listed (v .home) (chosen i (v .home)) (u .element) (v .element) (v .is-leaf) (picks (v .home) (v .number)) (rw home at (u .in-list)) (v .in-list) (u .names ∙ sym (v .names))
+      element = shape .once-listed (v .home) (chosen i (v .home)) (u .element) (v .element) (v .is-leaf) (picks (v .home) (v .number)) (rw home at (u
+          .in-list)) (v .in-list) (u .names ∙ sym (v .names))

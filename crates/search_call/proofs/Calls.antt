@@ -23,7 +23,8 @@ use Rattle.query.proofs.CrewList.{crews-length, crews-below}
 use Rattle.query.proofs.Reading.{passing as query-passing}
 use Rattle.search_rules.specs.Run.{Answer, words}
 use Rattle.search_call.specs.Accepted.{Accepted}
-use Rattle.search_call.specs.Call.{treeRefusalIn, areasRefusal, searchRefusal, searchAnswer, Found, refused, accepted, searchFound, overStart, resultsAfter, Call, Areas, foundOn, callOn}
+use Rattle.search_call.specs.Call.{treeRefusalIn, areasRefusal, searchRefusal, searchAnswer, Found, refused, accepted, searchFound, overStart}
+use Rattle.search_call.specs.Call.{resultsAfter, Call, Areas, foundOn, callOn}
 
 -- ---- the tests
 
@@ -99,7 +100,13 @@ module _ (road tree query : List ℕ) (work : ℕ) (results : List ℕ) where
   refused-keeps h = choose-no (eqb refusal 0) _ results (ne→neqb refusal 0 h)
 
 -- both returns, field by field
-pub accepted-is : (a : Answer) → accepted a ≡ record { refusal = 0; settled = choose (a .settled) 1 0; listed = length (a .listed); taken = a .taken; measured = a .measured }
+pub accepted-is : (a : Answer) → accepted a ≡ record {
+  refusal = 0;
+  settled = choose (a .settled) 1 0;
+  listed = length (a .listed);
+  taken = a .taken;
+  measured = a .measured;
+}
 unfolding accepted
 accepted-is a = refl
 

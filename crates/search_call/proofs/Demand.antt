@@ -15,10 +15,10 @@ use Rattle.road.specs.Dijkstra.{dist}
 use Rattle.tree_layout.specs.Values.{Element}
 use Rattle.tree_layout.specs.Facts.{Before}
 use Rattle.tree_layout.specs.Decode.{decode}
-use Rattle.tree_truth.specs.Facts.{TrueNumbers}
-use Rattle.tree_truth.proofs.Theorems.{tested}
-use Rattle.tree_check.specs.Facts.{Laid}
-use Rattle.tree_check.proofs.Passing.{passed-laid, passed-yards, passed-true}
+use Rattle.check_rules.specs.Facts.{TrueNumbers}
+use Rattle.check_rules.proofs.Theorems.{tested}
+use Rattle.check_tree.specs.Facts.{Laid}
+use Rattle.check_tree.proofs.Passing.{passed-laid, passed-yards, passed-true}
 use Rattle.search_rules.specs.Run.{words, answer}
 use Rattle.search_rules.specs.Facts.{WellFormed, Sound}
 use Rattle.search_rules.specs.Theorems.{Sorted, TreeYards, Listing, Decided as RulesDecided}
@@ -29,8 +29,10 @@ use Rattle.search_rules.proofs.Asked.{asked-k, asked-yards, asked-there, asked-
 use Rattle.search_rules.proofs.Theorems.{decided, answer-taken, answer-measured, answer-listing, answer-within, answer-spent, words-length}
 use Rattle.search_rules.proofs.Walks.{total-least, first-yards}
 use Rattle.search_call.specs.Call.{Call, Areas, Search, searches}
-use Rattle.search_call.specs.Demand.{OnPassing, NotRefused, Settled, code, k, crews, limit, yards, instanceOf, list, Full, lastDistance, measured, BoundOf, Demand3, TrueList, Decided, AnyTree, OwnYards}
-use Rattle.search_call.proofs.Calls.{on-settled, settled-on, spent-on, on-listed, on-taken, on-measured, on-tests, on-refused, work-zeroed, results-written, results-kept, areas-kept}
+use Rattle.search_call.specs.Demand.{OnPassing, NotRefused, Settled, code, k, crews, limit, yards, instanceOf, list, Full, lastDistance, measured}
+use Rattle.search_call.specs.Demand.{BoundOf, Demand3, TrueList, Decided, AnyTree, OwnYards}
+use Rattle.search_call.proofs.Calls.{on-settled, settled-on, spent-on, on-listed, on-taken, on-measured, on-tests, on-refused, work-zeroed}
+use Rattle.search_call.proofs.Calls.{results-written, results-kept, areas-kept}
 use Rattle.search_call.proofs.Bounded.{has-bound, one-bound}
 use Rattle.search_call.proofs.Lists.{call-of, written-in-turn}
 

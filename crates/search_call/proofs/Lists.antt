@@ -2,7 +2,8 @@
 use mathlib.Core.Path.{_≡_, refl, ap, _∙_}
 use mathlib.Core.Logic.{_⊎_, inl, inr}
 use mathlib.Core.Bool.{not}
-use mathlib.Core.List.{List, [], _∷_, List·Memᴰ as Mem, List·Memᴰ·head as head, List·Memᴰ·tail as tail, List·Memᴰ·not-nil as not-nil, List·Memᴰ·cases-cons as cases-cons}
+use mathlib.Core.List.{List, [], _∷_, List·Memᴰ as Mem, List·Memᴰ·head as head, List·Memᴰ·tail as tail, List·Memᴰ·not-nil as not-nil}
+use mathlib.Core.List.{List·Memᴰ·cases-cons as cases-cons}
 use lib.ListN.{length}
 use lib.Dec.{T, eqb, eqb→eq}
 use Rattle.book.specs.Choose.{choose}
@@ -20,7 +21,8 @@ unfolding searches
 call-of [] a s k = absurd (not-nil k)
 call-of (c ∷ cs) a s k = go (cases-cons k) (λ j. call-of cs (callOn c a) s j)
   where
-    go : (s ≡ record { call = c; areas = a }) ⊎ Mem s (searches cs (callOn c a)) → (Mem s (searches cs (callOn c a)) → Mem (s .call) cs) → Mem (s .call) (c ∷ cs)
+    go : (s ≡ record { call = c; areas = a }) ⊎ Mem s (searches cs (callOn c a)) → (Mem s (searches cs (callOn c a)) → Mem (s .call) cs)
+        → Mem (s .call) (c ∷ cs)
     go (inl e) rest = head (ap (λ (x : Search). x .call) e)
     go (inr j) rest = tail (rest j)
 
@@ -37,8 +39,14 @@ written-in-turn (c ∷ cs) a = written-in-turn cs (callOn c a) ∙ go (T-split (
     both = choose (eqb (foundOn c a .settled) 1) (list (record { call = c; areas = a }) ∷ rest) rest
 
     go : T (eqb (foundOn c a .settled) 1) ⊎ T (not (eqb (foundOn c a .settled) 1)) → overwritten rest (callOn c a .results) ≡ overwritten both (a .results)
-    go (inl t) = rw (choose-yes (eqb (foundOn c a .settled) 1) (list (record { call = c; areas = a }) ∷ rest) rest t) (ap (overwritten rest) (results-written c a (eqb→eq (foundOn c a .settled) 1 t)))
-    go (inr t) = rw (choose-no (eqb (foundOn c a .settled) 1) (list (record { call = c; areas = a }) ∷ rest) rest t) (ap (overwritten rest) (results-kept c a (neqb→ne (foundOn c a .settled) 1 t)))
+    go (inl t) = rw (choose-yes (eqb (foundOn c a .settled) 1) (list (record {
+      call = c;
+      areas = a;
+    }) ∷ rest) rest t) (ap (overwritten rest) (results-written c a (eqb→eq (foundOn c a .settled) 1 t)))
+    go (inr t) = rw (choose-no (eqb (foundOn c a .settled) 1) (list (record {
+      call = c;
+      areas = a;
+    }) ∷ rest) rest t) (ap (overwritten rest) (results-kept c a (neqb→ne (foundOn c a .settled) 1 t)))
 
 -- ---- the work area's contents never matter
 

@@ -1,4 +1,5 @@
--- A search call: its answer and each lent area after it; and a list of calls on the same two areas. Assumes nothing: these are definitions.
+-- A search call: its answer and each lent area after it; and a list of calls on the same two areas. Assumes nothing:
+-- these are definitions.
 use mathlib.Core.List.{List, [], _∷_}
 use Prim.Native.Nat.{ℕ, _*_}
 use lib.ListN.{length}
@@ -17,7 +18,8 @@ use Rattle.search_rules.specs.Run.{Answer, words, answer}
 
 -- ---- one call
 
--- a tree book's tests in a search, beside a road book with so many junctions: "a test between books going with the later one"
+-- a tree book's tests in a search, beside a road book with so many junctions: "a test between books going with the
+-- later one"
 unfoldable pub treeRefusalIn : List ℕ → ℕ → ℕ
 treeRefusalIn tree junctions =
     -- 1 to 5, and 7
@@ -29,7 +31,8 @@ treeRefusalIn tree junctions =
 unfoldable pub areasRefusal : (k work results : ℕ) → ℕ
 areasRefusal k work results = firstOf (workRefusal work) (refuse (leb (2 * k) results) 12 0)
 
--- "Books are tested in the order road, yard, tree, query, each through its own tests, ..; then the call's .. areas.": the number of the first test that
+-- "Books are tested in the order road, yard, tree, query, each through its own tests, ..; then the call's .. areas.":
+-- the number of the first test that
 -- fails, or 0, with so many work words and result words
 unfoldable pub searchRefusal : (road tree query : List ℕ) → (work results : ℕ) → ℕ
 searchRefusal road tree query work results =
@@ -64,7 +67,13 @@ refused why = record { refusal = why; settled = 0; listed = 0; taken = 0; measur
 
 -- "Both return taken and measured, and settled also the number of yards listed." "The number of an accepted call is 0."
 unfoldable pub accepted : Answer → Found
-accepted a = record { refusal = 0; settled = choose (a .settled) 1 0; listed = length (a .listed); taken = a .taken; measured = a .measured }
+accepted a = record {
+  refusal = 0;
+  settled = choose (a .settled) 1 0;
+  listed = length (a .listed);
+  taken = a .taken;
+  measured = a .measured;
+}
 
 unfoldable pub searchFound : (road tree query : List ℕ) → (work results : ℕ) → Found
 searchFound road tree query work results =
@@ -76,7 +85,8 @@ searchFound road tree query work results =
 abbrev pub overStart : List ℕ → List ℕ → List ℕ
 overStart list results = write results 0 list
 
--- The result area after a call with so many work words: "Settled writes (yard, distance) words into the result area and nothing after them; spent writes
+-- The result area after a call with so many work words: "Settled writes (yard, distance) words into the result area and
+-- nothing after them; spent writes
 -- nothing there." "A refusal .. changes no lent byte or word."
 unfoldable pub resultsAfter : (road tree query : List ℕ) → (work : ℕ) → List ℕ → List ℕ
 resultsAfter road tree query work results =

@@ -1,4 +1,5 @@
--- Demand 3: what is promised of any list of searches on one work area and one result area, to be held against the paper; and what is promised beside it.
+-- Demand 3: what is promised of any list of searches on one work area and one result area, to be held against the
+-- paper; and what is promised beside it.
 -- Assumes nothing: these are statements.
 use mathlib.Core.Path.{_≡_}
 use mathlib.Core.List.{List, [], _∷_, _++_, map, List·Memᴰ as Mem}
@@ -14,15 +15,16 @@ use Rattle.yard.specs.Yards.{yardsOf}
 use Rattle.tree_layout.specs.Values.{Element, lastFrom}
 use Rattle.tree_layout.specs.Decode.{decode}
 use Rattle.tree.specs.Yards.{treeYards, inners}
-use Rattle.tree_truth.specs.Facts.{Same}
-use Rattle.tree_check.specs.Check.{checkAnswer}
+use Rattle.check_rules.specs.Facts.{Same}
+use Rattle.check_tree.specs.Check.{checkAnswer}
 use Rattle.query.specs.Query.{aggregateOf, kOf, limitOf, crewsOf}
 use Rattle.search_rules.specs.Instance.{Instance, size, leaf}
 use Rattle.search_rules.specs.Bounds.{chosen, yardBound}
 use Rattle.search_rules.specs.Run.{words, run}
 use Rattle.search_rules.specs.Theorems.{Sorted}
 use Rattle.search_rules.specs.Walks.{AggregateLeast, FirstYards}
-use Rattle.search_call.specs.Call.{Found, refused, Call, Areas, Search, searchIn, searchAnswer, overStart, foundOn, callOn, searches, areasAfter}
+use Rattle.search_call.specs.Call.{Found, refused, Call, Areas, Search, searchIn, searchAnswer, overStart}
+use Rattle.search_call.specs.Call.{foundOn, callOn, searches, areasAfter}
 
 -- ---- the words of the demand
 
@@ -93,7 +95,8 @@ lastDistance s = lastFrom 0 (list s)
 abbrev pub measured : Search → List ℕ
 measured s = run (instanceOf s) (limit s) .state .measured
 
--- "A yard's bound takes per crew the greatest of these differences over the sheet's landmarks and l (for l with the list's distance), then aggregates.": b is
+-- "A yard's bound takes per crew the greatest of these differences over the sheet's landmarks and l (for l with the
+-- list's distance), then aggregates.": b is
 -- yard y's, which stands in the list of the landmark that its leaf picks
 pub record BoundIn (i : Instance) (y b : ℕ) : Type 0 where
   pub home : ℕ
@@ -121,7 +124,8 @@ overwritten (l ∷ ls) results = overwritten ls (overStart (words l) results)
 
 -- of any list of calls, and what the two areas hold before the first
 pub record Promised (calls : List Call) (first : Areas) : Type 0 where
-  -- "each settled search on a tree that passes has listed exactly the first k of the tree's yards, or all if fewer, by aggregate least distance and then
+  -- "each settled search on a tree that passes has listed exactly the first k of the tree's yards, or all if fewer, by
+  -- aggregate least distance and then
   -- junction number, each with that distance; so no yard left out comes before one listed"
   pub exact : (s : Search) → Mem s (searches calls first) → OnPassing s → Settled s
       → FirstYards (arcs s) (code s) (k s) (crews s) (yards s) (list s)
@@ -143,7 +147,8 @@ Demand3 = (calls : List Call) → OfBytes calls → (first : Areas) → Promised
 
 -- ---- beside it
 
--- what a settled list has on any tree: "true distances, distinct yards and yard order"; its yards are the tree's, and no more than k
+-- what a settled list has on any tree: "true distances, distinct yards and yard order"; its yards are the tree's, and
+-- no more than k
 pub record TrueList (s : Search) : Type 0 where
   pub distances : (e : Element) → Mem e (list s) → AggregateLeast (arcs s) (code s) (e .yard) (crews s) (e .distance)
   pub distinct : Distinct (map (λ (e : Element). e .yard) (list s))
@@ -156,12 +161,14 @@ pub record Decided (s : Search) : Type 0 where
   -- a settled list is true, and the returned number is that of its yards
   pub listed : Settled s → TrueList s
   pub count : Settled s → found s .listed ≡ length (list s)
-  -- "Settled writes (yard, distance) words into the result area and nothing after them", where there is room for them; what hasn't settled writes nothing there
+  -- "Settled writes (yard, distance) words into the result area and nothing after them", where there is room for them;
+  -- what hasn't settled writes nothing there
   pub room : Settled s → length (words (list s)) ≤ length (s .areas .results)
   pub writes : Settled s → after s .results ≡ words (list s) ++ drop (length (words (list s))) (s .areas .results)
   pub leaves : (Settled s → ⊥) → after s .results ≡ s .areas .results
   -- "spent exactly if the limit's number of steps was taken and it isn't settled"
-  pub spent : NotRefused s → (Settled s → ⊥) → (found s .settled ≡ 0) × (found s .listed ≡ 0) × (found s .taken ≡ limit s)
+  pub spent : NotRefused s → (Settled s → ⊥)
+      → (found s .settled ≡ 0) × (found s .listed ≡ 0) × (found s .taken ≡ limit s)
   pub within : NotRefused s → found s .taken ≤ limit s
   -- the returned number of measured yards is that of its state's; each is a yard of the tree and is measured once
   pub counted : NotRefused s → found s .measured ≡ length (measured s)
@@ -171,17 +178,20 @@ pub record Decided (s : Search) : Type 0 where
   pub bounded : NotRefused s → (y : ℕ) → Mem y (yards s) → (b : ℕ) × BoundOf s y b
   pub one-bound : NotRefused s → (y b c : ℕ) → BoundOf s y b → BoundOf s y c → b ≡ c
   -- "Check, build and search zero the first 16,384 words of the work area and leave any after them."
-  pub zeroes : NotRefused s → (workWords ≤ length (s .areas .work)) × (after s .work ≡ zeroed workWords (s .areas .work))
+  pub zeroes : NotRefused s → (workWords ≤ length (s .areas .work))
+      × (after s .work ≡ zeroed workWords (s .areas .work))
   -- "A refusal returns its number, with every other returned field 0, and changes no lent byte or word."
   pub unchanged : (NotRefused s → ⊥) → (found s ≡ refused (found s .refusal)) × (after s ≡ s .areas)
 
 abbrev pub AnyTree : Type 0
-AnyTree = (calls : List Call) → OfBytes calls → (first : Areas) → (s : Search) → Mem s (searches calls first) → Decided s
+AnyTree = (calls : List Call) → OfBytes calls → (first : Areas) → (s : Search) → Mem s (searches calls first)
+    → Decided s
 
 -- the work area's contents never matter: only its length does
 abbrev pub WorkUnread : Type 0
 WorkUnread = (calls : List Call) (a b : Areas) → length (a .work) ≡ length (b .work) → a .results ≡ b .results
-    → (map found (searches calls a) ≡ map found (searches calls b)) × (areasAfter calls a .results ≡ areasAfter calls b .results)
+    → (map found (searches calls a) ≡ map found (searches calls b))
+    × (areasAfter calls a .results ≡ areasAfter calls b .results)
 
 -- whatever yard book a tree passes with has the tree's own yards
 abbrev pub OwnYards : Type 0

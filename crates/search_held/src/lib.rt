@@ -42,7 +42,8 @@ fn place(yards: &[u16], distances: &[u32], n: usize, yard: u16, distance: u32) -
     j
 }
 
-// What is held after one more yard: it goes to its place, and each from there on goes to the next; of more than k the last one goes.
+// What is held after one more yard: it goes to its place, and each from there on goes to the next; of more than k the
+// last one goes.
 pub fn hold(held: Held, k: usize, yard: u16, distance: u32) -> Held
     requires { ⌜ (held .count ≤ k) × (k ≤ 64) ⌝ }
     ensures held { λ r. ⌜ heldOf r ≡ hold k (element distance yard) (heldOf held) ⌝ }

@@ -10,7 +10,7 @@ use lib.Seq.{getD-set-same, getD-set-other}
 use lib.Dec.{T, eqb→eq}
 use Rattle.book.specs.Bytes.{u8At, u16At}
 use Rattle.road_layout.specs.Road.{junctions}
-use Rattle.search_yards.specs.Measures.{Driven, IsDriven, toCrews}
+use Rattle.search_bounds.specs.Measures.{Driven, IsDriven, toCrews}
 use Rattle.tree_layout.specs.Values.{Mark, Region, regionAt}
 use Rattle.tree_layout.specs.Decode.{decode, junctionCount, regionCount, landmarkCount, placeOf, listPart, readList, markSize}
 use Rattle.tree_layout.specs.Reading.{headerOf}
@@ -36,9 +36,9 @@ use Rattle.tree_layout.specs.Marks.{markPlace, RecordAt}
 use Rattle.tree_layout.proofs.RecordFields.{place-is, list-inside}
 use Rattle.search_bounds.proofs.Numbered.{record-of}
 use Rattle.search_bounds.proofs.Searching.{crews-of as rows-crews, lower-of, chosen-of, chosen-few}
-use Rattle.search_leaves.specs.Leaves.{Near, byYard, byYards, fIn, boundIn, listAt, Opened}
-use Rattle.search_leaves.proofs.Opening.{list-here, header-regions-are, header-junctions-are, opened, opened-kept}
-use Rattle.search_leaves.proofs.Filling.{by-yard-length, by-yards-parts}
+use Rattle.search_leaf.specs.Leaves.{Near, byYard, byYards, fIn, boundIn, listAt, Opened}
+use Rattle.search_leaf.proofs.ElementsOpening.{list-here, header-regions-are, header-junctions-are, opened, opened-kept}
+use Rattle.search_leaf.proofs.Filling.{by-yard-length, by-yards-parts}
 use Rattle.search_state.specs.State.{wordCount, picksAt, regionKeysIn, yardKeysIn, firstsIn, picksIn, fsIn, boundsIn, goneIn}
 use Rattle.search_state.proofs.Cells.{Parts, parts-of, part-at, store-pick}
 use Rattle.search_leaf.specs.Ready.{unopened, IsPick, Ready, Cached, IsLeaf, OpenLeaf, Leafed, SameQueue}

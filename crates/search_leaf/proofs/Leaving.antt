@@ -25,10 +25,10 @@ use Rattle.search_held.specs.declared.Held.{Held}
 use Rattle.search_held.specs.Pairs.{heldOf}
 use Rattle.search_state.specs.State.{regionKeysIn, yardKeysIn, firstsIn, picksIn, fsIn, boundsIn, goneIn, stateOf, newest}
 use Rattle.search_state.proofs.Cells.{Parts, parts-of, state-by}
-use Rattle.search_leaves.specs.Leaves.{wordsOf, Opened}
-use Rattle.search_leaves.proofs.Opening.{list-here, header-regions-are, header-junctions-are, opened-place, opened-f}
-use Rattle.search_next.specs.Next.{nextIn, nextWord, leafQueued}
-use Rattle.search_next.proofs.Nexts.{next-in, next-word, leaf-queued, leaving-by}
+use Rattle.search_leaf.specs.Leaves.{wordsOf, Opened}
+use Rattle.search_leaf.proofs.ElementsOpening.{list-here, header-regions-are, header-junctions-are, opened-place, opened-f}
+use Rattle.search_leaf.specs.Next.{nextIn, nextWord, leafQueued}
+use Rattle.search_leaf.proofs.Nexts.{next-in, next-word, leaf-queued, leaving-by}
 use Rattle.search_leaf.specs.Ready.{IsPick, Ready, Cached, IsLeaf, OpenLeaf, Waiting, Leafed, SameQueue}
 use Rattle.search_leaf.proofs.Landmarks.{well, tree-junctions, slot, record-here, chosen-mark, list-of}
 

@@ -1,1 +1,3 @@
 pub mod Ready
+pub mod Leaves
+pub mod Next

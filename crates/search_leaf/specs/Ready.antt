@@ -1,4 +1,5 @@
--- What stays the same during a search, and what is kept of the leaves that were taken. Assumes nothing: these are statements.
+-- What stays the same during a search, and what is kept of the leaves that were taken. Assumes nothing: these are
+-- statements.
 use mathlib.Core.Path.{_≡_}
 use mathlib.Core.Logic.{_≢_}
 use mathlib.Core.Bool.{Bool}
@@ -17,14 +18,15 @@ use Rattle.search_rules.specs.Queue.{unqueued}
 use Rattle.search_rules.specs.Step.{nextF}
 use Rattle.search_bounds.specs.Sheet.{Sheet}
 use Rattle.search_state.specs.State.{wordCount, regionKeysIn, yardKeysIn, firstsIn, picksIn, fsIn, boundsIn, goneIn}
-use Rattle.search_leaves.specs.Leaves.{Opened}
+use Rattle.search_leaf.specs.Leaves.{Opened}
 
 -- number p is that of the landmark that region r picks, among its own
 pub record IsPick (i : Instance) (r p : ℕ) : Type 0 where
   pub inside : p < length (marks i r)
   pub is : getD (marks i r) p noMark ≡ chosen i r
 
--- the books and the crews are accepted, each crew has its row of distances, the places are the tree book's, and the sheet is filled
+-- the books and the crews are accepted, each crew has its row of distances, the places are the tree book's, and the
+-- sheet is filled
 pub record Ready (road tree : List ℕ) (code k : ℕ) (crews drives places sheet : List ℕ) : Type 0 where
   pub passed : Passed road tree crews
   pub driven : Rowed road crews drives

@@ -1,4 +1,7 @@
 // A leaf is taken: it queues its next yard and, if any remain, itself.
+pub mod queueing; // queueing.rt: the next yard of a leaf whose yards have their f and their bounds.
+pub mod elements; // elements.rt: a leaf's list: f and the bound of each of its yards, and which leaves next.
+pub mod parts; // parts.rt: where a search's words stand
 mod opening; // opening.rt: a leaf that is first taken
 
 use query::Query;
@@ -15,6 +18,12 @@ ghost use Rattle.search_rules.specs.Step.{openLeaf};
 ghost use Rattle.search_held.specs.declared.Held.{Held};
 ghost use Rattle.search_state.specs.State.{picksIn, fsIn, boundsIn, stateOf};
 ghost use Rattle.search_leaf.specs.Ready.{Ready, Readied, Cached, Leafed};
+
+// The place of the element that leaves next, and its f, or UNQUEUED if none remains.
+pub struct Next {
+    pub place: usize,
+    pub f: u64,
+}
 
 // Takes leaf r: "A leaf queues its next yard and, if any remain, itself". The words are the search's.
 pub fn take(
@@ -55,5 +64,5 @@ pub fn take(
     let place = landmarks::mark_place(tree, at, p);
     let list = records::list(tree, place, yards);
     let h = records::header(tree);
-    search_next::queue_next(list, yards, h, words, r);
+    queueing::queue_next(list, yards, h, words, r);
 }

@@ -1,7 +1,8 @@
 // A leaf when first taken picks its landmark, and its yards get their f and their bounds.
+use crate::elements;
+use crate::parts;
 use query::Query;
 use search_bounds::picks;
-use search_leaves::parts;
 use tree_layout::Region;
 use tree_layout::landmarks;
 use tree_layout::records;
@@ -47,7 +48,7 @@ fn open(
     let at = places[r.number as usize];
     let yards = records::fields(tree, at).yards as usize;
     let place = landmarks::mark_place(tree, at, p);
-    search_leaves::open(
+    elements::open(
         tree,
         place,
         yards,

@@ -42,9 +42,11 @@ module _ (road tree : List ℕ) (code goal : ℕ) (crews : List ℕ) (p : Passed
   symmetric-of = record { turn = λ u v a b. symmetric road (p .roads .layout) u v (omega (arith, count)) (omega (arith, count)) }
 
   -- "a stored distance, least or greatest isn't the true one" of none: then the search is sound
-  pub sound-of : ((r : ℕ) → r < length (decode tree .regions) → regionAt (decode tree .regions) r .children ≡ 0 → (m : Mark) → Mem m (regionAt (decode tree .regions) r .marks) → (e : Element) → Mem e (m .list)
+  pub sound-of : ((r : ℕ) → r < length (decode tree .regions) → regionAt (decode tree .regions) r .children ≡ 0 → (m : Mark)
+      → Mem m (regionAt (decode tree .regions) r .marks) → (e : Element) → Mem e (m .list)
       → e .distance ≡ dist road (m .place) (e .yard))
-      → ((r : ℕ) → r < length (decode tree .regions) → (m : Mark) → Mem m (regionAt (decode tree .regions) r .marks) → (y : ℕ) → Mem y (yardsBelow (decode tree .regions) r)
+      → ((r : ℕ) → r < length (decode tree .regions) → (m : Mark) → Mem m (regionAt (decode tree .regions) r .marks) → (y : ℕ)
+      → Mem y (yardsBelow (decode tree .regions) r)
       → (m .least ≤ dist road (m .place) y) × (dist road (m .place) y ≤ m .greatest))
       → Sound i
   unfolding searchOf

@@ -10,7 +10,8 @@ use Rattle.book.specs.Choose.{choose}
 use Rattle.book.proofs.Choosing.{choose-case, choose-yes, choose-no}
 use Rattle.tree_layout.specs.Values.{Element, Mark}
 use Rattle.search_rules.specs.Instance.{Instance, children, marks, leaf}
-use Rattle.search_rules.specs.Bounds.{apart, combine, aggregate, greatestOf, leastFrom, leastOf, crewBound, sheetAt, lower, upper, over, total, markBound, bound, weight, best, bestOf, chosen, listApart, f, yardBound}
+use Rattle.search_rules.specs.Bounds.{apart, combine, aggregate, greatestOf, leastFrom, leastOf, crewBound, sheetAt, lower, upper, over, total, markBound}
+use Rattle.search_rules.specs.Bounds.{bound, weight, best, bestOf, chosen, listApart, f, yardBound}
 use Rattle.search_rules.specs.Facts.{Below, inside, under, Shape, Metric, Symmetric, Truth}
 use Rattle.search_rules.proofs.Choices.{choose-two}
 

@@ -23,7 +23,8 @@ use Rattle.search_rules.specs.Run.{Outcome, advance, run}
 use Rattle.search_rules.specs.Facts.{Below, inside, WellFormed}
 use Rattle.search_rules.proofs.Queue.{seen, key, has, has-key, Entered, queued-child, kept}
 use Rattle.search_rules.proofs.Stepping.{step-case}
-use Rattle.search_rules.proofs.Kept.{Kept, left-not, left-new, region-range, InnerKey, child, taken, same, inner-key, inner-first, fresh-child, mark-mem, yard-fits, leaf-yard-key, leaf-region-key, taken-yard-key, region-case, run-kept}
+use Rattle.search_rules.proofs.Kept.{Kept, left-not, left-new, region-range, InnerKey, child, taken, same, inner-key, inner-first, fresh-child, mark-mem}
+use Rattle.search_rules.proofs.Kept.{yard-fits, leaf-yard-key, leaf-region-key, taken-yard-key, region-case, run-kept}
 
 -- How many numbers of a list pass a test.
 unfoldable pub tally : (ℕ → Bool) → List ℕ → ℕ
@@ -99,7 +100,8 @@ module _ (i : Instance) where
       first false b t = absurd t
 
       inner : tally (unopened st) (numbers (size i) 0) ≤ tally (λ r. not (leaf i r)) (numbers (size i) 0)
-      inner = tally-le (λ r. not (leaf i r)) (unopened st) (λ r t. first (not (leaf i r)) (has (key (st .regionKeys) r) || not (has (key (st .firsts) r))) t) (numbers (size i) 0)
+      inner = tally-le (λ r. not (leaf i r)) (unopened st) (λ r t. first (not (leaf i r)) (has (key (st .regionKeys) r)
+          || not (has (key (st .firsts) r))) t) (numbers (size i) 0)
 
   module _ (well : WellFormed i) (ys : List ℕ) (all : (y : ℕ) → Below i 0 y → Mem y ys) (st : State) (was : Kept i st) where
     -- the tests, of their parts
@@ -132,7 +134,11 @@ module _ (i : Instance) where
       unfolding work unopened unleft unmeasured openInner
       inner-less inner = omega (
         arith,
-        tally-less (unopened st) (unopened new) sub r (numbers (size i) 0) (numbers-mem (size i) 0 r (omega arith) (omega (arith, region-range i well st was r at)))
+        tally-less (unopened st) (unopened new) sub r (numbers (size i) 0) (numbers-mem (size i) 0 r (omega arith) (omega (
+          arith,
+          region-range i well st was r
+              at,
+        )))
             (queued-open (leaf i r) (has (key (st .regionKeys) r)) (has (key (st .firsts) r)) inner (has-key at)) closed,
       )
         where
@@ -156,7 +162,8 @@ module _ (i : Instance) where
           first-at v s (queued-child k) = tt
           first-at v s (kept n e) = rw (e, s) (was .has-first r a at)
 
-          by-key : (v : ℕ) {o p : Option ℕ} → InnerKey i well st was r a at v o → Entered i a (children i r) (st .firsts) v p → T (not (leaf i v) && (has o || not (has p))) → T (unopened st v)
+          by-key : (v : ℕ) {o p : Option ℕ} → InnerKey i well st was r a at v o → Entered i a (children i r) (st .firsts) v p
+              → T (not (leaf i v) && (has o || not (has p))) → T (unopened st v)
           by-key v {p = p} (child k) x t = fresh-open (leaf i v) (has (key (st .regionKeys) v)) (has (key (st .firsts) v)) (not-leaf (leaf i v) true (has p) t)
               (not-T (has (key (st .firsts) v)) (fresh-child i well st was r a at v k))
           by-key v {p = p} (taken s) x t = absurd (T-not (not (leaf i v) && (false || not (has p))) (taken-closed (leaf i v) (has p) (first-at v s x)) t)
@@ -169,7 +176,8 @@ module _ (i : Instance) where
           sub : (v : ℕ) → T (unopened new v) → T (unopened st v)
           sub v t = by-key v (inner-key i well st was r a at v) (inner-first i well st was r a at v) t
 
-      leaf-less : (is-leaf : T (leaf i r)) (first : ℕ) → key (st .firsts) r ≡ some first → (e : Element) → (mem : Mem e (chosen i r .list)) → T (not (left (st .gone) (e .yard)))
+      leaf-less : (is-leaf : T (leaf i r)) (first : ℕ) → key (st .firsts) r ≡ some first → (e : Element) → (mem : Mem e (chosen i r .list))
+          → T (not (left (st .gone) (e .yard)))
           → work ys (queueNext i st r first (chosen i r) e) < work ys st
       unfolding work unopened unleft unmeasured queueNext
       leaf-less is-leaf first first-is e mem stays = omega (
@@ -208,8 +216,10 @@ module _ (i : Instance) where
               twice false t = absurd t
 
           opened : (v : ℕ) → T (unopened new v) → T (unopened st v)
-          opened v t = leaf-region-key i well st was r a at is-leaf first first-is e mem stays (λ o. T (not (leaf i v) && (has o || not (has (key (st .firsts) v)))) → T (unopened st v)) v
-              (λ p s. absurd (T-not (leaf i v) (not-leaf (leaf i v) (has (seen (againKey first (nextF i gone′ m)))) (has (key (st .firsts) v)) s) (rw p is-leaf)))
+          opened v t = leaf-region-key i well st was r a at is-leaf first first-is e mem stays (λ o. T (not (leaf i v)
+              && (has o || not (has (key (st .firsts) v)))) → T (unopened st v)) v
+              (λ p s. absurd (T-not (leaf i v) (not-leaf (leaf i v) (has (seen (againKey first (nextF i gone′ m)))) (has (key (st .firsts) v)) s) (rw p
+              is-leaf)))
               (λ p s. s) t
 
           measured : (v : ℕ) → T (unmeasured new v) → T (unmeasured st v)
@@ -232,7 +242,8 @@ module _ (i : Instance) where
         yard-key = taken-yard-key i well st was y b at
 
         measured : (v : ℕ) → T (unmeasured new v) → T (unmeasured st v)
-        measured v = yard-key (λ o. T (not (left (st .gone) v) || has o) → T (unmeasured st v)) v (λ p s. or-left (not (left (st .gone) v)) (has (key (st .yardKeys) v)) (plain (not (left (st .gone) v)) s)) (λ p s. s)
+        measured v = yard-key (λ o. T (not (left (st .gone) v) || has o)
+            → T (unmeasured st v)) v (λ p s. or-left (not (left (st .gone) v)) (has (key (st .yardKeys) v)) (plain (not (left (st .gone) v)) s)) (λ p s. s)
           where
             plain : (b : Bool) → T (b || false) → T b
             plain true t = tt
@@ -248,20 +259,23 @@ module _ (i : Instance) where
     -- Each step leaves less to do.
     step-less : T (not (settled i st)) → work ys (step i st) < work ys st
     step-less u = step-case i st (was .sizes) (λ new. work ys new < work ys st) u
-        (λ r a at due. region-case i well st was (λ new. work ys new < work ys st) r a at (λ l. inner-less r a at l) (λ l first q e k n h. leaf-less r a at l first q e k n))
+        (λ r a at due. region-case i well st was (λ new. work ys new < work ys st) r a at (λ l. inner-less r a at l) (λ l first q e k n h. leaf-less r a at l
+        first q e k n))
         (λ y b at due. yard-less y b at)
 
   module _ (well : WellFormed i) (ys : List ℕ) (all : (y : ℕ) → Below i 0 y → Mem y ys) where
     so-far : (limit : ℕ) → T (settled i (run i limit .state)) ⊎ (work ys (run i limit .state) + limit ≤ innerCount + 2 * length ys)
     unfolding run advance
     so-far zero = inr (omega (arith, work-most ys (start i)))
-    so-far (suc limit) = choose-case (λ (o : Outcome). T (settled i (o .state)) ⊎ (work ys (o .state) + suc limit ≤ innerCount + 2 * length ys)) (settled i (run i limit .state))
+    so-far (suc limit) = choose-case (λ (o : Outcome). T (settled i (o .state)) ⊎ (work ys (o .state) + suc limit ≤ innerCount + 2 * length ys)) (settled i
+        (run i limit .state))
         (λ t. inl t) (λ t. on t (so-far limit))
       where
         st : State
         st = run i limit .state
 
-        on : T (not (settled i st)) → T (settled i st) ⊎ (work ys st + limit ≤ innerCount + 2 * length ys) → T (settled i (step i st)) ⊎ (work ys (step i st) + suc limit ≤ innerCount + 2 * length ys)
+        on : T (not (settled i st)) → T (settled i st) ⊎ (work ys st + limit ≤ innerCount + 2 * length ys)
+            → T (settled i (step i st)) ⊎ (work ys (step i st) + suc limit ≤ innerCount + 2 * length ys)
         on t (inl s) = absurd (T-not (settled i st) t s)
         on t (inr h) = inr (omega (arith, step-less well ys all st (run-kept i well limit) t))
 
@@ -290,7 +304,8 @@ module _ (i : Instance) where
   pub taken-within : (limit : ℕ) → run i limit .taken ≤ limit
   unfolding run advance
   taken-within zero = omega arith
-  taken-within (suc limit) = choose-case (λ (o : Outcome). o .taken ≤ suc limit) (settled i (run i limit .state)) (λ t. omega (arith, taken-within limit)) (λ t. omega (arith, taken-within limit))
+  taken-within (suc limit) = choose-case (λ (o : Outcome). o .taken ≤ suc limit) (settled i (run i limit .state)) (λ t. omega (arith, taken-within limit)) (λ
+      t. omega (arith, taken-within limit))
 
   -- a settled search stays as it is
   pub settled-stays : (limit : ℕ) → T (settled i (run i limit .state)) → (more : ℕ) → run i (limit + more) ≡ run i limit
@@ -299,4 +314,7 @@ module _ (i : Instance) where
   settled-stays limit t (suc more) = rw add-suc (one (run i (limit + more)) (settled-stays limit t more))
     where
       one : (o : Outcome) → o ≡ run i limit → advance i o ≡ run i limit
-      one o e = rw e (choose-yes (settled i (run i limit .state)) (run i limit) (record { state = step i (run i limit .state); taken = suc (run i limit .taken) }) t)
+      one o e = rw e (choose-yes (settled i (run i limit .state)) (run i limit) (record {
+        state = step i (run i limit .state);
+        taken = suc (run i limit .taken);
+      }) t)

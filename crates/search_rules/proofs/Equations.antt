@@ -13,7 +13,8 @@ use Rattle.tree_layout.specs.Values.{Mark, regionAt}
 use Rattle.tree_layout.specs.Decode.{decode}
 use Rattle.search_rules.specs.Instance.{Instance, marks}
 use Rattle.search_rules.specs.Books.{searchOf}
-use Rattle.search_rules.specs.Bounds.{apart, combine, aggregate, greatestOf, leastOf, crewBound, sheetAt, lower, upper, over, markBound, bound, weight, bestOf, chosen}
+use Rattle.search_rules.specs.Bounds.{apart, combine, aggregate, greatestOf, leastOf, crewBound, sheetAt, lower, upper, over, markBound, bound, weight}
+use Rattle.search_rules.specs.Bounds.{bestOf, chosen}
 
 -- ---- numbers
 

@@ -10,7 +10,8 @@ use Rattle.book.specs.Choose.{choose}
 use Rattle.book.specs.Bytes.{u8At, u16At, u32At, Bytes}
 use Rattle.book.proofs.Choosing.{and-left, and-right, choose-case}
 use Rattle.tree_layout.specs.Values.{Element, Mark, Region, leafMark, innerMark, firstDistance, lastFrom, noRegion, regionAt}
-use Rattle.tree_layout.specs.Decode.{elementAt, readList, listPart, readLists, readSpans, readMarks, markSize, recordSize, sizeAt, readRegion, readRegions, junctionCount, regionCount, yardCount, landmarkCount, decode}
+use Rattle.tree_layout.specs.Decode.{elementAt, readList, listPart, readLists, readSpans, readMarks, markSize, recordSize, sizeAt, readRegion, readRegions}
+use Rattle.tree_layout.specs.Decode.{junctionCount, regionCount, yardCount, landmarkCount, decode}
 use Rattle.tree_layout.specs.Refusal.{all}
 use Rattle.tree_layout.proofs.Tests.{all-mem}
 use Rattle.tree_layout.proofs.Vectors.{fiveRegions}
@@ -44,21 +45,27 @@ module _ (i : Instance) where
   unfoldable allTrue : Bool
   allTrue = all regionTrue (numbers (length (i .tree .regions)) 0)
 
-  module _ (a : Accepted (i .tree)) (t : T allTrue) (r : ℕ) (h : r < length (i .tree .regions)) (m : Mark) (k : Mem m (regionAt (i .tree .regions) r .marks)) where
-    mark-true : T (listTrue m && spanTrue (yardsBelow (i .tree .regions) r) m)
-    unfolding allTrue regionTrue
-    mark-true = all-mem (λ m. listTrue m && spanTrue (yardsBelow (i .tree .regions) r) m) (regionAt (i .tree .regions) r .marks)
-        (all-mem regionTrue (numbers (length (i .tree .regions)) 0) t r (numbers-mem (length (i .tree .regions)) 0 r (omega arith) (omega arith))) m k
+  module _ (a : Accepted (i .tree)) (t : T allTrue) (r : ℕ) (h : r < length (i .tree .regions)) (m : Mark) (k : Mem m (regionAt (i .tree .regions) r .marks))
+    where
+      mark-true : T (listTrue m && spanTrue (yardsBelow (i .tree .regions) r) m)
+      unfolding allTrue regionTrue
+      mark-true = all-mem (λ m. listTrue m && spanTrue (yardsBelow (i .tree .regions) r) m) (regionAt (i .tree .regions) r .marks)
+          (all-mem regionTrue (numbers (length (i .tree .regions)) 0) t r (numbers-mem (length (i .tree .regions)) 0 r (omega arith) (omega arith))) m k
 
-    list-true : (e : Element) → Mem e (m .list) → e .distance ≡ i .d (m .place) (e .yard)
-    unfolding listTrue
-    list-true e j = eqb→eq (e .distance) (i .d (m .place) (e .yard)) (all-mem (λ e. eqb (e .distance) (i .d (m .place) (e .yard))) (m .list) (and-left (listTrue m) _ mark-true) e j)
+      list-true : (e : Element) → Mem e (m .list) → e .distance ≡ i .d (m .place) (e .yard)
+      unfolding listTrue
+      list-true e j = eqb→eq (e .distance) (i .d (m .place) (e .yard)) (all-mem (λ e. eqb (e .distance) (i .d (m .place) (e .yard))) (m .list) (and-left
+          (listTrue m) _ mark-true) e j)
 
-    span-true : (y : ℕ) → Mem y (yardsBelow (i .tree .regions) r) → (m .least ≤ i .d (m .place) y) × (i .d (m .place) y ≤ m .greatest)
-    unfolding spanTrue
-    span-true y j =
-        let x = all-mem (λ y. leb (m .least) (i .d (m .place) y) && leb (i .d (m .place) y) (m .greatest)) (yardsBelow (i .tree .regions) r) (and-right (listTrue m) _ mark-true) y j in
-        (leb→le (m .least) (i .d (m .place) y) (and-left (leb (m .least) (i .d (m .place) y)) _ x), leb→le (i .d (m .place) y) (m .greatest) (and-right (leb (m .least) (i .d (m .place) y)) _ x))
+      span-true : (y : ℕ) → Mem y (yardsBelow (i .tree .regions) r) → (m .least ≤ i .d (m .place) y) × (i .d (m .place) y ≤ m .greatest)
+      unfolding spanTrue
+      span-true y j =
+          let x = all-mem (λ y. leb (m .least) (i .d (m .place) y)
+          && leb (i .d (m .place) y) (m .greatest)) (yardsBelow (i .tree .regions) r) (and-right (listTrue m) _ mark-true) y j in (
+            leb→le (m .least) (i .d (m .place) y) (and-left (leb (m .least) (i .d (m .place) y)) _ x),
+            leb→le (i .d (m .place) y) (m .greatest) (and-right (leb (m
+                .least) (i .d (m .place) y)) _ x),
+          )
 
 -- ---- net N with leaf limit 1
 
@@ -99,7 +106,10 @@ unfolding along apart all
 near u v = omega (arith, below-all 11 along (omega arith) tt u, below-all 11 along (omega arith) tt v)
 
 true-numbers : T (allTrue five)
-unfolding allTrue regionTrue listTrue spanTrue five along apart all numbers yardsBelow yardsFrom ownYards yardsIn endOf subtree siblings childFits leafOk agreeing sameYards namedBy inRange once names firstList fiveRegions choose u8At u16At u32At leafMark innerMark firstDistance lastFrom noRegion regionAt elementAt readList listPart readLists readSpans readMarks markSize recordSize sizeAt readRegion readRegions junctionCount regionCount yardCount landmarkCount decode
+unfolding allTrue regionTrue listTrue spanTrue five along apart all numbers yardsBelow yardsFrom ownYards yardsIn endOf subtree siblings childFits leafOk
+    agreeing sameYards namedBy inRange once names firstList fiveRegions choose u8At u16At u32At leafMark innerMark firstDistance lastFrom noRegion regionAt
+    elementAt readList listPart readLists readSpans readMarks markSize recordSize sizeAt readRegion readRegions junctionCount regionCount yardCount
+    landmarkCount decode
 true-numbers = tt
 
 crews-there : (q : ℕ) → Mem q (0 ∷ 2 ∷ []) → q < 5
@@ -112,16 +122,20 @@ five-sound = record {
   well = well-formed five tree-accepted crews-there (omega arith) (λ u v h k. near u v);
   metric = metric;
   symmetric = symmetric;
-  truth = truth-of five tree-accepted (λ r h c m k. list-true five tree-accepted true-numbers r h m k) (λ r h m k. span-true five tree-accepted true-numbers r h m k);
+  truth = truth-of five tree-accepted (λ r h c m k. list-true five tree-accepted true-numbers r h m k) (λ r h m k. span-true five tree-accepted true-numbers r
+      h m k);
 }
 
 -- two inner regions and twice three yards settle, and the first two of the three yards are listed
 yards-are : treeYards (five .tree) ≡ 1 ∷ 3 ∷ 4 ∷ []
-unfolding five all numbers treeYards yardsFrom ownYards yardsIn firstList fiveRegions choose u8At u16At u32At leafMark innerMark firstDistance lastFrom noRegion regionAt elementAt readList listPart readLists readSpans readMarks markSize recordSize sizeAt readRegion readRegions junctionCount regionCount yardCount landmarkCount decode
+unfolding five all numbers treeYards yardsFrom ownYards yardsIn firstList fiveRegions choose u8At u16At u32At leafMark innerMark firstDistance lastFrom
+    noRegion regionAt elementAt readList listPart readLists readSpans readMarks markSize recordSize sizeAt readRegion readRegions junctionCount regionCount
+    yardCount landmarkCount decode
 yards-are = refl
 
 five-count : inners (five .tree) + 2 * five .tree .yards ≤ 8
-unfolding inners sumFrom oneInner five fiveRegions choose u8At u16At u32At leafMark innerMark firstDistance lastFrom noRegion regionAt elementAt readList listPart readLists readSpans readMarks markSize recordSize sizeAt readRegion readRegions junctionCount regionCount yardCount landmarkCount decode
+unfolding inners sumFrom oneInner five fiveRegions choose u8At u16At u32At leafMark innerMark firstDistance lastFrom noRegion regionAt elementAt readList
+    listPart readLists readSpans readMarks markSize recordSize sizeAt readRegion readRegions junctionCount regionCount yardCount landmarkCount decode
 five-count = omega arith
 
 pub five-settles : T (answer five 8 .settled)

@@ -10,7 +10,8 @@ use Rattle.search_rules.specs.Instance.{Instance, leaf}
 use Rattle.search_rules.specs.Bounds.{chosen}
 use Rattle.search_rules.specs.Queue.{queued, wordAt}
 use Rattle.search_rules.specs.Held.{insert, hold, entry}
-use Rattle.search_rules.specs.Step.{State, nextF, openInner, queueNext, closeLeaf, openLeaf, takeRegion, takeYard, nextRegion, nextYard, step, settled, start}
+use Rattle.search_rules.specs.Step.{State, nextF, openInner, queueNext, closeLeaf, openLeaf, takeRegion, takeYard, nextRegion, nextYard, step, settled}
+use Rattle.search_rules.specs.Step.{start}
 use Rattle.search_rules.specs.Run.{Outcome, advance, run, report, answer}
 
 module _ (i : Instance) where

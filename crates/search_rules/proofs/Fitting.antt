@@ -19,7 +19,8 @@ use Rattle.search_rules.specs.Theorems.{Fits}
 use Rattle.search_rules.proofs.Limits.{bound-most, f-most, yardBound-most}
 use Rattle.search_rules.proofs.Queue.{seen, key, word-key, key-eq, no-key, Entered, queued-child, kept, Again, empty, more}
 use Rattle.search_rules.proofs.Stepping.{step-case}
-use Rattle.search_rules.proofs.Kept.{Kept, InnerKey, child, taken, same, inner-key, inner-first, mark-mem, leaf-yard-key, leaf-region-key, leaf-again, taken-yard-key, region-case, start-key, start-yard, run-kept}
+use Rattle.search_rules.proofs.Kept.{Kept, InnerKey, child, taken, same, inner-key, inner-first, mark-mem, leaf-yard-key, leaf-region-key, leaf-again}
+use Rattle.search_rules.proofs.Kept.{taken-yard-key, region-case, start-key, start-yard, run-kept}
 
 abbrev most : ℕ
 most = 68719476720
@@ -50,7 +51,8 @@ module _ (i : Instance) (well : WellFormed i) where
           by-first v b (queued-child k) e = omega (arith, key-eq e, bound-most i well v, low .regions r a at)
           by-first v b (kept n q) e = low .firsts v b (sym q ∙ e)
 
-      leaf-fits : (is-leaf : T (leaf i r)) (first : ℕ) → key (st .firsts) r ≡ some first → (e : Element) → (mem : Mem e (chosen i r .list)) → T (not (left (st .gone) (e .yard)))
+      leaf-fits : (is-leaf : T (leaf i r)) (first : ℕ) → key (st .firsts) r ≡ some first → (e : Element) → (mem : Mem e (chosen i r .list))
+          → T (not (left (st .gone) (e .yard)))
           → Low (queueNext i st r first (chosen i r) e)
       unfolding queueNext
       leaf-fits is-leaf first first-is e mem stays = record {

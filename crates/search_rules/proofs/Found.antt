@@ -2,7 +2,8 @@
 use mathlib.Core.Path.{_≡_, refl, sym, ap, _∙_}
 use mathlib.Core.Logic.{_⊎_, inl, inr, _≢_}
 use mathlib.Core.Bool.{true}
-use mathlib.Core.List.{List, [], _∷_, List·Memᴰ as Mem, List·Memᴰ·head as head, List·Memᴰ·tail as tail, List·Memᴰ·not-nil as not-nil, List·Memᴰ·cases-cons as cases-cons, Memᴰ·cast}
+use mathlib.Core.List.{List, [], _∷_, List·Memᴰ as Mem, List·Memᴰ·head as head, List·Memᴰ·tail as tail, List·Memᴰ·not-nil as not-nil}
+use mathlib.Core.List.{List·Memᴰ·cases-cons as cases-cons, Memᴰ·cast}
 use mathlib.Core.Option.{some}
 use Prim.Native.Nat.{ℕ, suc, _≤_, min}
 use native.Mathlib.Decide.{ℕ-discrete}
@@ -60,7 +61,11 @@ sorted-same : (l m : List Element) → Sorted l → Sorted m → ((h : Element) 
 sorted-same [] [] s t f g = refl
 sorted-same [] (y ∷ m) s t f g = absurd (not-nil (g y (head refl)))
 sorted-same (x ∷ l) [] s t f g = absurd (not-nil (f x (head refl)))
-sorted-same (x ∷ l) (y ∷ m) s t f g = cc (same, sorted-same l m (s .1) (t .1) (λ h k. there h k (cases-cons (f h (tail k)))) (λ h k. back h k (cases-cons (g h (tail k)))))
+sorted-same (x ∷ l) (y ∷ m) s t f g = cc (
+  same,
+  sorted-same l m (s .1) (t .1) (λ h k. there h k (cases-cons (f h (tail k)))) (λ h k. back h k (cases-cons (g h
+      (tail k)))),
+)
   where
     one : (x ≡ y) ⊎ Mem x m → (y ≡ x) ⊎ Mem y l → x ≡ y
     one (inl p) q = p
@@ -99,14 +104,21 @@ first-sub P k l m a b h j = go (b .rest h (a .among h j))
 
     go : Mem h m ⊎ Out k m h → Mem h m
     go (inl x) = x
-    go (inr o) = absurd (omega (arith, o .full, a .few, fewer (h ∷ m) l ((λ x. before-not (o .after h x) (o .after h x)), sorted-distinct m (b .sorted)) (λ g x. spread o g (cases-cons x))))
+    go (inr o) = absurd (omega (
+      arith,
+      o .full,
+      a .few,
+      fewer (h ∷ m) l ((λ x. before-not (o .after h x) (o .after h x)), sorted-distinct m (b .sorted)) (λ g
+          x. spread o g (cases-cons x)),
+    ))
 
 -- There is one list of the first k.
 first-one : (P : Element → Type 0) (k : ℕ) (l m : List Element) → First P k l → First P k m → l ≡ m
 first-one P k l m a b = sorted-same l m (a .sorted) (b .sorted) (first-sub P k l m a b) (first-sub P k m l b a)
 
 -- two elements of a list in yard order that name one yard at one distance are one
-sorted-one : (i : Instance) (l : List Element) → ((h : Element) → Mem h l → h ≡ entry i (h .yard)) → (h g : Element) → Mem h l → Mem g l → h .yard ≡ g .yard → h ≡ g
+sorted-one : (i : Instance) (l : List Element) → ((h : Element) → Mem h l → h ≡ entry i (h .yard)) → (h g : Element) → Mem h l → Mem g l → h .yard ≡ g .yard
+    → h ≡ g
 sorted-one i l is h g k j e = is h k ∙ ap (entry i) e ∙ sym (is g j)
 
 module _ (i : Instance) where
@@ -152,7 +164,8 @@ module _ (i : Instance) where
     settled-rest y below = place (settled-cover st was low t y below)
       where
         place : Mem y (st .measured) ⊎ Past i st (total i y) → Mem (entry i y) (st .held) ⊎ Out (i .k) (st .held) (entry i y)
-        place (inl k) = rw (was .first-ranked) (take-rest (i .k) (entry i y) (ranked i (st .measured)) (ranked-sorted i (st .measured) (was .once)) (ranked-in i y (st .measured) k))
+        place (inl k) = rw (was .first-ranked) (take-rest (i .k) (entry i y) (ranked i (st .measured)) (ranked-sorted i (st .measured) (was .once)) (ranked-in
+            i y (st .measured) k))
         place (inr p) = inr (record { full = p .full; after = λ g k. inl (omega (arith, p .far, kept-listing st was .greatest g k)) })
 
     settled-number : (ys : List ℕ) → TreeYards i ys → length (st .held) ≡ min (i .k) (length ys)
@@ -170,13 +183,20 @@ module _ (i : Instance) where
 
         go : Dec (length (st .held) ≡ i .k) → length (st .held) ≡ min (i .k) (length ys)
         go (yes e) = omega (arith, size-is, most)
-        go (no n) = omega (arith, size-is, most, fewer ys (st .measured) (tree .distinct) (λ y k. measured n y (settled-cover st was low t y (tree .below y k))))
+        go (no n) = omega (
+          arith,
+          size-is,
+          most,
+          fewer ys (st .measured) (tree .distinct) (λ y k. measured n y (settled-cover st was low t y (tree .below y
+              k))),
+        )
 
   -- a yard of the tree, with its aggregate
   abbrev TreeYard : Element → Type 0
   TreeYard h = (h ≡ entry i (h .yard)) × Below i 0 (h .yard)
 
-  listing-first : (held : List Element) → Listing i held → ((y : ℕ) → Below i 0 y → Mem (entry i y) held ⊎ Out (i .k) held (entry i y)) → First TreeYard (i .k) held
+  listing-first : (held : List Element) → Listing i held → ((y : ℕ) → Below i 0 y → Mem (entry i y) held ⊎ Out (i .k) held (entry i y))
+      → First TreeYard (i .k) held
   unfolding entry
   listing-first held l rest = record {
     sorted = l .sorted;
@@ -203,7 +223,8 @@ module _ (i : Instance) where
   settled-complete st was low t = record {
     rest = settled-rest st was low t;
     number = settled-number st was low t;
-    exact = λ ys tree. first-one TreeYard (i .k) (st .held) (take (i .k) (ranked i ys)) (listing-first (st .held) (kept-listing st was) (settled-rest st was low t)) (ranked-first ys tree);
+    exact = λ ys tree. first-one TreeYard (i .k) (st .held) (take (i .k) (ranked i ys)) (listing-first (st .held) (kept-listing st was) (settled-rest st was
+        low t)) (ranked-first ys tree);
   }
 
 -- whatever the limit and whatever the tree's numbers say

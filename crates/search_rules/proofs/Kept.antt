@@ -17,13 +17,16 @@ use Rattle.search_rules.specs.Instance.{Instance, size, children, marks,
 use Rattle.search_rules.specs.Bounds.{bound, chosen, f, yardBound}
 use Rattle.search_rules.specs.Queue.{unqueued, queued, wordAt}
 use Rattle.search_rules.specs.Held.{insert, hold, entry, ranked}
-use Rattle.search_rules.specs.Step.{State, left, noElement, againKey, nextPlace, nextF, queueChildren, openInner, queueNext, closeLeaf, openLeaf, takeRegion, takeYard, step, settled, start}
+use Rattle.search_rules.specs.Step.{State, left, noElement, againKey, nextPlace, nextF, queueChildren, openInner, queueNext, closeLeaf, openLeaf}
+use Rattle.search_rules.specs.Step.{takeRegion, takeYard, step, settled, start}
 use Rattle.search_rules.specs.Run.{Outcome, advance, run}
 use Rattle.search_rules.specs.Facts.{Below, inside, under, Shape, WellFormed}
 use Rattle.search_rules.proofs.Bounds.{chosen-mem}
 use Rattle.search_rules.proofs.Limits.{bound-most, f-most, yardBound-most}
 use Rattle.search_rules.proofs.Held.{take-insert}
-use Rattle.search_rules.proofs.Queue.{seen, seen-key, seen-mark, key, key-word, key-small, key-range, has, has-key, no-key, key-eq, small-queued, set-case, key-set, key-put, key-drop, Next, no-more, one-more, next-is, Again, empty, more, again-is, Entered, queued-child, kept, queueChildren-is, queueChildren-length}
+use Rattle.search_rules.proofs.Queue.{seen, seen-key, seen-mark, key, key-word, key-small, key-range, has, has-key, no-key, key-eq, small-queued}
+use Rattle.search_rules.proofs.Queue.{set-case, key-set, key-put, key-drop, Next, no-more, one-more, next-is, Again, empty, more, again-is, Entered}
+use Rattle.search_rules.proofs.Queue.{queued-child, kept, queueChildren-is, queueChildren-length}
 use Rattle.search_rules.proofs.Stepping.{Sizes, step-case}
 
 -- Some element of a landmark's list has not left.
@@ -51,7 +54,8 @@ pub record Kept (i : Instance) (st : State) : Type 0 where
   pub parent-taken : (r c : ℕ) → Mem c (children i r) → T (has (key (st .firsts) c)) → key (st .regionKeys) r ≡ none
   -- of a queued leaf some yard has not left, and of one that was never queued none has
   pub leaf-open : (r a : ℕ) → T (leaf i r) → key (st .regionKeys) r ≡ some a → OneLeft (st .gone) (chosen i r)
-  pub leaf-fresh : (r : ℕ) (e : Element) → T (leaf i r) → r < size i → Mem e (chosen i r .list) → T (not (has (key (st .firsts) r))) → T (not (left (st .gone) (e .yard)))
+  pub leaf-fresh : (r : ℕ) (e : Element) → T (leaf i r) → r < size i → Mem e (chosen i r .list) → T (not (has (key (st .firsts) r)))
+      → T (not (left (st .gone) (e .yard)))
 
 some-element : (es : List Element) → es ≢ [] → (e : Element) × Mem e es
 some-element [] n = absurd (n refl)
@@ -99,18 +103,21 @@ module _ (i : Instance) (well : WellFormed i) (st : State) (was : Kept i st) whe
 
     pub inner-key : (v : ℕ) → InnerKey v (key (openInner i st r a .regionKeys) v)
     unfolding openInner
-    inner-key v = go (queueChildren-is i a (key-small (st .regionKeys) r at) (λ c. omega (arith, bound-most i well c)) (children i r) ks (λ c k. rw (length-set (st .regionKeys) r unqueued ∙ was .sizes .regions) (well .shape .range r c k)) v)
+    inner-key v = go (queueChildren-is i a (key-small (st .regionKeys) r at) (λ c. omega (arith, bound-most i well c)) (children i r) ks (λ c k. rw (length-set
+        (st .regionKeys) r unqueued ∙ was .sizes .regions) (well .shape .range r c k)) v)
       where
         ks : List ℕ
         ks = set (st .regionKeys) r unqueued
 
         go : {o : Option ℕ} → Entered i a (children i r) ks v o → InnerKey v o
         go (queued-child k) = child k
-        go (kept {o = o} n e) = rw e (key-drop (λ p. InnerKey v p) (st .regionKeys) r (rw (was .sizes .regions) (region-range r at)) v (λ p. taken p) (λ p. same p n refl))
+        go (kept {o = o} n e) = rw e (key-drop (λ p. InnerKey v p) (st .regionKeys) r (rw (was .sizes .regions) (region-range r at)) v (λ p. taken p) (λ p.
+            same p n refl))
 
     pub inner-first : (v : ℕ) → Entered i a (children i r) (st .firsts) v (key (openInner i st r a .firsts) v)
     unfolding openInner
-    inner-first v = queueChildren-is i a (key-small (st .regionKeys) r at) (λ c. omega (arith, bound-most i well c)) (children i r) (st .firsts) (λ c k. rw (was .sizes .firsts) (well .shape .range r c k)) v
+    inner-first v = queueChildren-is i a (key-small (st .regionKeys) r at) (λ c. omega (arith, bound-most i well c)) (children i r) (st .firsts) (λ c k. rw
+        (was .sizes .firsts) (well .shape .range r c k)) v
 
     -- A child was never queued before.
     pub fresh-child : (c : ℕ) → Mem c (children i r) → T (has (key (st .firsts) c)) → ⊥
@@ -166,7 +173,8 @@ module _ (i : Instance) (well : WellFormed i) (st : State) (was : Kept i st) whe
           first v b (taken p) e = absurd (no-key e)
           first v b (same p n q) e = first-more v (was .has-first v b (sym q ∙ e))
 
-          parent : (s c : ℕ) → Mem c (children i s) → {o : Option ℕ} → Entered i a (children i r) (st .firsts) c o → T (has o) → T (has (key (openInner i st r a .firsts) s))
+          parent : (s c : ℕ) → Mem c (children i s) → {o : Option ℕ} → Entered i a (children i r) (st .firsts) c o → T (has o)
+              → T (has (key (openInner i st r a .firsts) s))
           parent s c k (queued-child j) t = rw (well .shape .parent s r c k j) (first-more r (was .has-first r a at))
           parent s c k (kept n e) t = first-more s (was .parent-first s c k (rw e at t))
 
@@ -175,7 +183,8 @@ module _ (i : Instance) (well : WellFormed i) (st : State) (was : Kept i st) whe
           is-taken (taken p) = refl
           is-taken (same p n q) = absurd (p refl)
 
-          gone-by : (s c : ℕ) → Mem c (children i s) → {o : Option ℕ} → Entered i a (children i r) (st .firsts) c o → T (has o) → key (openInner i st r a .regionKeys) s ≡ none
+          gone-by : (s c : ℕ) → Mem c (children i s) → {o : Option ℕ} → Entered i a (children i r) (st .firsts) c o → T (has o)
+              → key (openInner i st r a .regionKeys) s ≡ none
           gone-by s c k (queued-child j) t = rw (well .shape .parent s r c k j) (is-taken (inner-key r))
           gone-by s c k (kept n e) t = go (inner-key s)
             where
@@ -188,11 +197,17 @@ module _ (i : Instance) (well : WellFormed i) (st : State) (was : Kept i st) whe
           opens v b l (child k) e =
               let mark = chosen-mem i v (well .shape .marked v (well .shape .range r v k)) in
               let x = some-element (chosen i v .list) (well .shape .some-yard v (chosen i v) l mark) in
-              record { element = x .0; mem = x .1; stays = was .leaf-fresh v (x .0) l (well .shape .range r v k) (x .1) (not-T (has (key (st .firsts) v)) (fresh-child v k)) }
+              record {
+                element = x .0;
+                mem = x .1;
+                stays = was .leaf-fresh v (x .0) l (well .shape .range r v k) (x .1) (not-T (has (key (st .firsts) v))
+                    (fresh-child v k));
+              }
           opens v b l (taken p) e = absurd (no-key e)
           opens v b l (same p n q) e = was .leaf-open v b l (sym q ∙ e)
 
-          fresh : (v : ℕ) (g : Element) → T (leaf i v) → v < size i → Mem g (chosen i v .list) → {o : Option ℕ} → Entered i a (children i r) (st .firsts) v o → T (not (has o)) → T (not (left (st .gone) (g .yard)))
+          fresh : (v : ℕ) (g : Element) → T (leaf i v) → v < size i → Mem g (chosen i v .list) → {o : Option ℕ}
+              → Entered i a (children i r) (st .firsts) v o → T (not (has o)) → T (not (left (st .gone) (g .yard)))
           fresh v g l h k (queued-child j) t = absurd t
           fresh v g l h k (kept n e) t = was .leaf-fresh v g l h k (rw e at t)
 
@@ -204,25 +219,35 @@ module _ (i : Instance) (well : WellFormed i) (st : State) (was : Kept i st) whe
 
       -- Two elements of the chosen lists of two leaves name two yards.
       pub other-leaf : (v : ℕ) (g e : Element) → v ≢ r → T (leaf i v) → v < size i → Mem g (chosen i v .list) → Mem e (chosen i r .list) → g .yard ≢ e .yard
-      other-leaf v g e n l h k j p = n (well .shape .one-leaf v r (chosen i v) (chosen i r) (e .yard) l is-leaf (chosen-mem i v (well .shape .marked v h)) mark-mem
+      other-leaf v g e n l h k j p = n (well .shape .one-leaf v r (chosen i v) (chosen i r) (e .yard) l is-leaf (chosen-mem i v (well .shape .marked v h))
+          mark-mem
           (record { element = g; mem = k; names = p }) (record { element = e; mem = j; names = refl }))
 
-      module _ (first : ℕ) (first-is : key (st .firsts) r ≡ some first) (e : Element) (mem : Mem e (chosen i r .list)) (stays : T (not (left (st .gone) (e .yard)))) where
+      module _ (first : ℕ) (first-is : key (st .firsts) r
+          ≡ some first) (e : Element) (mem : Mem e (chosen i r .list)) (stays : T (not (left (st .gone) (e .yard)))) where
         pub yard-fits : e .yard < i .tree .junctions
         yard-fits = well .shape .yards r (chosen i r) e is-leaf mark-mem mem
 
         -- the queued yards and regions after a leaf's next yard has left
-        pub leaf-yard-key : (P : Option ℕ → Type 0) (v : ℕ) → (v ≡ e .yard → P (some (max (yardBound i (chosen i r) e) first))) → (v ≢ e .yard → P (key (st .yardKeys) v))
+        pub leaf-yard-key : (P : Option ℕ → Type 0) (v : ℕ) → (v ≡ e .yard → P (some (max (yardBound i (chosen i r) e) first))) → (v ≢ e .yard
+            → P (key (st .yardKeys) v))
             → P (key (set (st .yardKeys) (e .yard) (max (yardBound i (chosen i r) e) first)) v)
         leaf-yard-key P v = key-put P (st .yardKeys) (e .yard) (max (yardBound i (chosen i r) e) first)
             (omega (arith, yardBound-most i well r (chosen i r) e is-leaf mark-mem mem, key-small (st .firsts) r first-is)) (rw (was .sizes .yards) yard-fits) v
 
-        pub leaf-region-key : (P : Option ℕ → Type 0) (v : ℕ) → (v ≡ r → P (seen (againKey first (nextF i (set (st .gone) (e .yard) true) (chosen i r))))) → (v ≢ r → P (key (st .regionKeys) v))
+        pub leaf-region-key : (P : Option ℕ → Type 0) (v : ℕ) → (v ≡ r → P (seen (againKey first (nextF i (set (st .gone) (e .yard) true) (chosen i r)))))
+            → (v ≢ r → P (key (st .regionKeys) v))
             → P (key (set (st .regionKeys) r (againKey first (nextF i (set (st .gone) (e .yard) true) (chosen i r)))) v)
-        leaf-region-key P v = key-set P (st .regionKeys) r (againKey first (nextF i (set (st .gone) (e .yard) true) (chosen i r))) (rw (was .sizes .regions) (region-range r at)) v
+        leaf-region-key P v = key-set P (st .regionKeys) r (againKey first (nextF i (set (st .gone) (e .yard) true) (chosen i r))) (rw (was .sizes .regions)
+            (region-range r at)) v
 
-        pub leaf-again : Again i (set (st .gone) (e .yard) true) first (chosen i r) (seen (againKey first (nextF i (set (st .gone) (e .yard) true) (chosen i r))))
-        leaf-again = again-is i (set (st .gone) (e .yard) true) first (chosen i r) (key-small (st .firsts) r first-is) (λ g k. omega (arith, f-most i well r (chosen i r) g is-leaf mark-mem k))
+        pub leaf-again : Again i (set (st .gone) (e .yard) true) first (chosen i r) (seen (againKey first (nextF i (set (st .gone) (e .yard) true) (chosen i
+            r))))
+        leaf-again = again-is i (set (st .gone) (e .yard) true) first (chosen i r) (key-small (st .firsts) r first-is) (λ g k. omega (
+          arith,
+          f-most i well r
+              (chosen i r) g is-leaf mark-mem k,
+        ))
 
         leaf-kept : Kept i (queueNext i st r first (chosen i r) e)
         unfolding queueNext
@@ -233,7 +258,8 @@ module _ (i : Instance) (well : WellFormed i) (st : State) (was : Kept i st) whe
             firsts = was .sizes .firsts;
             gone = length-set (st .gone) y true ∙ was .sizes .gone;
           };
-          queued-left = λ v b. leaf-yard-key (λ o. o ≡ some b → T (left gone′ v)) v (λ p q. rw p (left-new (st .gone) y fits)) (λ p q. marked v (was .queued-left v b q));
+          queued-left = λ v b. leaf-yard-key (λ o. o ≡ some b
+              → T (left gone′ v)) v (λ p q. rw p (left-new (st .gone) y fits)) (λ p q. marked v (was .queued-left v b q));
           queued-new = λ v b. leaf-yard-key (λ o. o ≡ some b → Mem v (st .measured) → ⊥) v
               (λ p q k. T-not (left (st .gone) y) stays (was .measured-left y (rw p at k))) (λ p q. was .queued-new v b q);
           measured-left = λ v k. marked v (was .measured-left v k);
@@ -242,9 +268,14 @@ module _ (i : Instance) (well : WellFormed i) (st : State) (was : Kept i st) whe
           regions-in = λ v b z. leaf-region-key (λ o. o ≡ some b → Below i v z → Below i 0 z) v
               (λ p q below. was .regions-in r a z at (rw p at below)) (λ p q. was .regions-in v b z q);
           yards-in = λ v b. leaf-yard-key (λ o. o ≡ some b → Below i 0 v) v
-              (λ p q. rw p (was .regions-in r a y at (inside m is-leaf mark-mem (record { element = e; mem = mem; names = refl })))) (λ p q. was .yards-in v b q);
+              (λ p q. rw p (was .regions-in r a y at (inside m is-leaf mark-mem (record {
+                element = e;
+                mem = mem;
+                names = refl;
+              })))) (λ p q. was .yards-in v b q);
           measured-in = was .measured-in;
-          has-first = λ v b. leaf-region-key (λ o. o ≡ some b → T (has (key (st .firsts) v))) v (λ p q. rw p (was .has-first r a at)) (λ p q. was .has-first v b q);
+          has-first = λ v b. leaf-region-key (λ o. o ≡ some b
+              → T (has (key (st .firsts) v))) v (λ p q. rw p (was .has-first r a at)) (λ p q. was .has-first v b q);
           parent-first = was .parent-first;
           parent-taken = λ s c k t. leaf-region-key (λ o. o ≡ none) s
               (λ p. absurd (no-key (sym (was .parent-taken r c (rw p at k) t) ∙ at))) (λ p. was .parent-taken s c k t);
@@ -279,8 +310,10 @@ module _ (i : Instance) (well : WellFormed i) (st : State) (was : Kept i st) whe
               stays = left-other (st .gone) y fits (x .element .yard) (other-leaf v (x .element) e n l h (x .mem) mem) (x .stays);
             }
 
-            fresh : (v : ℕ) (g : Element) → T (leaf i v) → v < size i → Mem g (chosen i v .list) → T (not (has (key (st .firsts) v))) → T (not (left gone′ (g .yard)))
-            fresh v g l h k t = left-other (st .gone) y fits (g .yard) (other-leaf v g e (λ p. T-not (has (key (st .firsts) v)) t (rw p (was .has-first r a at))) l h k mem) (was .leaf-fresh v g l h k t)
+            fresh : (v : ℕ) (g : Element) → T (leaf i v) → v < size i → Mem g (chosen i v .list) → T (not (has (key (st .firsts) v)))
+                → T (not (left gone′ (g .yard)))
+            fresh v g l h k t = left-other (st .gone) y fits (g .yard) (other-leaf v g e (λ p. T-not (has (key (st .firsts) v)) t (rw p (was .has-first r a
+                at))) l h k mem) (was .leaf-fresh v g l h k t)
 
   -- ---- a yard
 
@@ -335,7 +368,8 @@ module _ (i : Instance) (well : WellFormed i) (st : State) (was : Kept i st) whe
       → P (queueNext i st r first (chosen i r) e))
       → P (takeRegion i st r a)
   unfolding takeRegion openLeaf
-  region-case P r a at onInner onLeaf = choose-case P (leaf i r) (λ l. go l (first-of (key (st .firsts) r) (was .has-first r a at)) (next-is i (st .gone) m (small l))) onInner
+  region-case P r a at onInner onLeaf = choose-case P (leaf i r) (λ l. go l (first-of (key (st .firsts) r) (was .has-first r a at)) (next-is i (st .gone) m
+      (small l))) onInner
     where
       m : Mark
       m = chosen i r
@@ -344,11 +378,17 @@ module _ (i : Instance) (well : WellFormed i) (st : State) (was : Kept i st) whe
       small l e k = omega (arith, f-most i well r m e l (chosen-mem i r (well .shape .marked r (region-range r at))) k)
 
       go : T (leaf i r) → (x : ℕ) × (key (st .firsts) r ≡ some x) → Next i (st .gone) m
-          → P (choose (queued (nextF i (st .gone) m)) (queueNext i st r (wordAt (st .firsts) r) m (getD (m .list) (nextPlace i (st .gone) m) noElement)) (closeLeaf i st r))
+          → P (choose (queued (nextF i (st .gone) m)) (queueNext i st r (wordAt (st .firsts) r) m (getD (m .list) (nextPlace i (st .gone) m) noElement))
+          (closeLeaf i st r))
       go l x (no-more h all) = let z = was .leaf-open r a l at in absurd (T-not (left (st .gone) (z .element .yard)) (z .stays) (all (z .element) (z .mem)))
       go l (first, q) (one-more e p w s k n h) =
           let t : T (queued (nextF i (st .gone) m)) = small-queued (nextF i (st .gone) m) (omega arith) in
-          rw (choose-yes (queued (nextF i (st .gone) m)) (queueNext i st r (wordAt (st .firsts) r) m (getD (m .list) (nextPlace i (st .gone) m) noElement)) (closeLeaf i st r) t, key-word (st .firsts) r q, p)
+          rw (
+            choose-yes (queued (nextF i (st .gone) m)) (queueNext i st r (wordAt (st .firsts) r) m (getD (m .list) (nextPlace i (st .gone) m) noElement))
+                (closeLeaf i st r) t,
+            key-word (st .firsts) r q,
+            p,
+          )
           (onLeaf l first q e k n h)
 
   pub step-kept : T (not (settled i st)) → Kept i (step i st)
@@ -376,8 +416,10 @@ left-nothing (suc n) (suc v) = left-nothing n v
 
 module _ (i : Instance) (well : WellFormed i) where
   -- Only the root is queued.
-  pub start-key : (P : Option ℕ → Type 0) (v : ℕ) → (v ≡ 0 → P (some (bound i 0))) → (v ≢ 0 → P none) → P (key (set (replicate (size i) unqueued) 0 (bound i 0)) v)
-  start-key P v root rest = key-put P (replicate (size i) unqueued) 0 (bound i 0) (omega (arith, bound-most i well 0)) (rw length-replicate (well .shape .root)) v root (λ n. rw key-nothing (rest n))
+  pub start-key : (P : Option ℕ → Type 0) (v : ℕ) → (v ≡ 0 → P (some (bound i 0))) → (v ≢ 0 → P none)
+      → P (key (set (replicate (size i) unqueued) 0 (bound i 0)) v)
+  start-key P v root rest = key-put P (replicate (size i) unqueued) 0 (bound i 0) (omega (arith, bound-most i well 0)) (rw length-replicate (well .shape
+      .root)) v root (λ n. rw key-nothing (rest n))
 
   pub start-yard : (v : ℕ) {a : ℕ} → key (start i .yardKeys) v ≡ some a → ⊥
   unfolding start
@@ -404,9 +446,12 @@ module _ (i : Instance) (well : WellFormed i) where
     regions-in = λ v b y. start-key (λ o. o ≡ some b → Below i v y → Below i 0 y) v (λ p e below. rw p at below) (λ p e. absurd (no-key e));
     yards-in = λ v b e. absurd (start-yard v e);
     measured-in = λ v k. absurd (not-nil k);
-    has-first = λ v b. start-key (λ o. o ≡ some b → T (has (key (start i .firsts) v))) v (λ p e. start-key (λ o. T (has o)) v (λ q. tt) (λ q. absurd (q p))) (λ p e. absurd (no-key e));
-    parent-first = λ r c k. start-key (λ o. T (has o) → T (has (key (start i .firsts) r))) c (λ p. absurd (omega (arith, well .shape .rise r c k))) (λ p t. absurd t);
-    parent-taken = λ r c k. start-key (λ o. T (has o) → key (start i .regionKeys) r ≡ none) c (λ p. absurd (omega (arith, well .shape .rise r c k))) (λ p t. absurd t);
+    has-first = λ v b. start-key (λ o. o ≡ some b
+        → T (has (key (start i .firsts) v))) v (λ p e. start-key (λ o. T (has o)) v (λ q. tt) (λ q. absurd (q p))) (λ p e. absurd (no-key e));
+    parent-first = λ r c k. start-key (λ o. T (has o)
+        → T (has (key (start i .firsts) r))) c (λ p. absurd (omega (arith, well .shape .rise r c k))) (λ p t. absurd t);
+    parent-taken = λ r c k. start-key (λ o. T (has o)
+        → key (start i .regionKeys) r ≡ none) c (λ p. absurd (omega (arith, well .shape .rise r c k))) (λ p t. absurd t);
     leaf-open = λ v b. λ l. start-key (λ o. o ≡ some b → OneLeft (start i .gone) (chosen i v)) v (λ p e. rw p (opens (rw p at l))) (λ p e. absurd (no-key e));
     leaf-fresh = λ v e l h k t. start-left (e .yard);
   }
@@ -424,4 +469,5 @@ module _ (i : Instance) (well : WellFormed i) where
   pub run-kept : (limit : ℕ) → Kept i (run i limit .state)
   unfolding run advance
   run-kept zero = start-kept
-  run-kept (suc limit) = choose-case (λ (o : Outcome). Kept i (o .state)) (settled i (run i limit .state)) (λ t. run-kept limit) (λ t. step-kept i well (run i limit .state) (run-kept limit) t)
+  run-kept (suc limit) = choose-case (λ (o : Outcome). Kept i (o .state)) (settled i (run i limit .state)) (λ t. run-kept limit) (λ t. step-kept i well (run i
+      limit .state) (run-kept limit) t)

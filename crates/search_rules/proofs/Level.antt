@@ -2,7 +2,8 @@
 use mathlib.Core.Path.{_≡_, refl, sym, ap, _∙_}
 use mathlib.Core.Logic.{_⊎_, inl, inr, _≢_}
 use mathlib.Core.Bool.{Bool, true, not}
-use mathlib.Core.List.{List, [], _∷_, List·Memᴰ as Mem, List·Memᴰ·head as head, List·Memᴰ·tail as tail, List·Memᴰ·not-nil as not-nil, List·Memᴰ·cases-cons as cases-cons}
+use mathlib.Core.List.{List, [], _∷_, List·Memᴰ as Mem, List·Memᴰ·head as head, List·Memᴰ·tail as tail, List·Memᴰ·not-nil as not-nil}
+use mathlib.Core.List.{List·Memᴰ·cases-cons as cases-cons}
 use mathlib.Core.Option.{Option, none, some}
 use Prim.Native.Nat.{ℕ, zero, suc, _≤_, _<_, max}
 use native.Mathlib.Omega.{arith}
@@ -21,9 +22,11 @@ use Rattle.search_rules.specs.Run.{Outcome, advance, run}
 use Rattle.search_rules.specs.Facts.{Shape, WellFormed, Sound}
 use Rattle.search_rules.specs.Theorems.{KeyOf}
 use Rattle.search_rules.proofs.Bounds.{f-le, chosen-mem}
-use Rattle.search_rules.proofs.Queue.{seen, key, key-word, key-small, word-key, key-range, key-eq, no-key, has-key, Entered, queued-child, kept, Again, empty, more}
+use Rattle.search_rules.proofs.Queue.{seen, key, key-word, key-small, word-key, key-range, key-eq, no-key, has-key, Entered, queued-child, kept, Again}
+use Rattle.search_rules.proofs.Queue.{empty, more}
 use Rattle.search_rules.proofs.Stepping.{Due, step-case}
-use Rattle.search_rules.proofs.Kept.{Kept, left-not, region-range, InnerKey, child, taken, same, inner-key, inner-first, fresh-child, yard-fits, leaf-yard-key, leaf-region-key, leaf-again, taken-yard-key, yard-kept, region-case, start-key, start-yard, run-kept}
+use Rattle.search_rules.proofs.Kept.{Kept, left-not, region-range, InnerKey, child, taken, same, inner-key, inner-first, fresh-child, yard-fits}
+use Rattle.search_rules.proofs.Kept.{leaf-yard-key, leaf-region-key, leaf-again, taken-yard-key, yard-kept, region-case, start-key, start-yard, run-kept}
 use Rattle.search_rules.proofs.Low.{Low, run-low}
 use Rattle.search_rules.proofs.Found.{kept-listing}
 
@@ -64,7 +67,8 @@ insert-front : (j : ℕ) (e : Element) (l : List Element) → Mem e (take j (ins
 unfolding insert
 insert-front zero e l = inr refl
 insert-front (suc j) e [] = inl (head refl)
-insert-front (suc j) e (g ∷ l) = choose-case (λ s. Mem e (take (suc j) s) ⊎ (take (suc j) s ≡ g ∷ take j l)) (comes e g) (λ t. inl (head refl)) (λ t. go (insert-front j e l))
+insert-front (suc j) e (g ∷ l) = choose-case (λ s. Mem e (take (suc j) s) ⊎ (take (suc j) s
+    ≡ g ∷ take j l)) (comes e g) (λ t. inl (head refl)) (λ t. go (insert-front j e l))
   where
     go : Mem e (take j (insert e l)) ⊎ (take j (insert e l) ≡ take j l) → Mem e (g ∷ take j (insert e l)) ⊎ (g ∷ take j (insert e l) ≡ g ∷ take j l)
     go (inl k) = inl (tail k)
@@ -117,14 +121,24 @@ module _ (i : Instance) (well : WellFormed i) where
 
       -- ---- a leaf
 
-      leaf-level′ : (is-leaf : T (leaf i r)) (first : ℕ) → key (st .firsts) r ≡ some first → (e : Element) → (mem : Mem e (chosen i r .list)) → T (not (left (st .gone) (e .yard)))
+      leaf-level′ : (is-leaf : T (leaf i r)) (first : ℕ) → key (st .firsts) r ≡ some first → (e : Element) → (mem : Mem e (chosen i r .list))
+          → T (not (left (st .gone) (e .yard)))
           → Level i (queueNext i st r first (chosen i r) e)
       unfolding queueNext
       leaf-level′ is-leaf first first-is e mem stays = record {
         queued-key = λ v b. yard-key (λ o. o ≡ some b → KeyOf i (st .firsts) v b) v
-            (λ p q. record { home = r; is-leaf = is-leaf; element = e; mem = mem; names = sym p; known = rw first-word (key-small (st .firsts) r first-is); value = rw first-word (sym (key-eq q)) })
+            (λ p q. record {
+              home = r;
+              is-leaf = is-leaf;
+              element = e;
+              mem = mem;
+              names = sym p;
+              known = rw first-word (key-small (st .firsts) r first-is);
+              value = rw first-word (sym (key-eq q));
+            })
             (λ p q. level .queued-key v b q);
-        leaf-level = λ v b c g l. region-key (λ o. o ≡ some b → key (st .firsts) v ≡ some c → Mem g (chosen i v .list) → T (not (left gone′ (g .yard))) → b ≤ max c (f i (chosen i v) g)) v
+        leaf-level = λ v b c g l. region-key (λ o. o ≡ some b → key (st .firsts) v ≡ some c → Mem g (chosen i v .list) → T (not (left gone′ (g .yard)))
+            → b ≤ max c (f i (chosen i v) g)) v
             (λ p q s k n. rw p (levels b c g (next-key) q (rw p at s) (rw p at k) n))
             (λ p q s k n. level .leaf-level v b c g l q s k (left-not (st .gone) y fits (g .yard) n));
         measured-key = λ z k. measured z (level .measured-key z k);
@@ -151,16 +165,19 @@ module _ (i : Instance) (well : WellFormed i) where
           first-word : wordAt (st .firsts) r ≡ first
           first-word = key-word (st .firsts) r first-is
 
-          yard-key : (P : Option ℕ → Type 0) (v : ℕ) → (v ≡ y → P (some (max (yardBound i m e) first))) → (v ≢ y → P (key (st .yardKeys) v)) → P (key (new .yardKeys) v)
+          yard-key : (P : Option ℕ → Type 0) (v : ℕ) → (v ≡ y → P (some (max (yardBound i m e) first))) → (v ≢ y → P (key (st .yardKeys) v))
+              → P (key (new .yardKeys) v)
           yard-key = leaf-yard-key i well st was r a at is-leaf first first-is e mem stays
 
-          region-key : (P : Option ℕ → Type 0) (v : ℕ) → (v ≡ r → P (seen (againKey first (nextF i gone′ m)))) → (v ≢ r → P (key (st .regionKeys) v)) → P (key (new .regionKeys) v)
+          region-key : (P : Option ℕ → Type 0) (v : ℕ) → (v ≡ r → P (seen (againKey first (nextF i gone′ m)))) → (v ≢ r → P (key (st .regionKeys) v))
+              → P (key (new .regionKeys) v)
           region-key = leaf-region-key i well st was r a at is-leaf first first-is e mem stays
 
           next-key : Again i gone′ first m (seen (againKey first (nextF i gone′ m)))
           next-key = leaf-again i well st was r a at is-leaf first first-is e mem stays
 
-          levels : (b c : ℕ) (g : Element) {o : Option ℕ} → Again i gone′ first m o → o ≡ some b → key (st .firsts) r ≡ some c → Mem g (m .list) → T (not (left gone′ (g .yard))) → b ≤ max c (f i m g)
+          levels : (b c : ℕ) (g : Element) {o : Option ℕ} → Again i gone′ first m o → o ≡ some b → key (st .firsts) r ≡ some c → Mem g (m .list)
+              → T (not (left gone′ (g .yard))) → b ≤ max c (f i m g)
           levels b c g (empty h) q s k n = absurd (no-key q)
           levels b c g (more x j t l) q s k n = omega (arith, key-eq q, key-eq (sym first-is ∙ s), l g k n)
 
@@ -176,7 +193,8 @@ module _ (i : Instance) (well : WellFormed i) where
           measured z x = record {
             queue-key = x .queue-key;
             is = x .is;
-            regions = λ v b. region-key (λ o. o ≡ some b → x .queue-key ≤ b) v (λ p q. omega (arith, again-up b (next-key) q, x .regions r a at)) (λ p q. x .regions v b q);
+            regions = λ v b. region-key (λ o. o ≡ some b
+                → x .queue-key ≤ b) v (λ p q. omega (arith, again-up b (next-key) q, x .regions r a at)) (λ p q. x .regions v b q);
             yards = λ v b. yard-key (λ o. o ≡ some b → x .queue-key ≤ b) v (λ p q. omega (arith, key-eq q, yard-up, x .regions r a at)) (λ p q. x .yards v b q);
             held = x .held;
           }
@@ -235,7 +253,8 @@ module _ (i : Instance) (well : WellFormed i) where
   unfolding start
   start-level = record {
     queued-key = λ y a e. absurd (start-yard i well y e);
-    leaf-level = λ r a c g l. start-key i well (λ o. o ≡ some a → key (start i .firsts) r ≡ some c → Mem g (chosen i r .list) → T (not (left (start i .gone) (g .yard))) → a ≤ max c (f i (chosen i r) g)) r
+    leaf-level = λ r a c g l. start-key i well (λ o. o ≡ some a → key (start i .firsts) r ≡ some c → Mem g (chosen i r .list)
+        → T (not (left (start i .gone) (g .yard))) → a ≤ max c (f i (chosen i r) g)) r
         (λ p q s k n. root r a c (f i (chosen i r) g) p q s) (λ p q. absurd (no-key q));
     measured-key = λ y k. absurd (not-nil k);
   }
@@ -251,13 +270,16 @@ key-of-one i well firsts sized {y} {a} {b} k j = k .value ∙ middle ∙ sym (j 
     home-mark r h = chosen-mem i r (well .shape .marked r (rw (← sized) (known-range firsts r h)))
 
     homes : k .home ≡ j .home
-    homes = well .shape .one-leaf (k .home) (j .home) (chosen i (k .home)) (chosen i (j .home)) y (k .is-leaf) (j .is-leaf) (home-mark (k .home) (k .known)) (home-mark (j .home) (j .known))
+    homes = well .shape .one-leaf (k .home) (j .home) (chosen i (k .home)) (chosen i (j .home)) y (k .is-leaf) (j .is-leaf) (home-mark (k .home) (k .known))
+        (home-mark (j .home) (j .known))
         (record { element = k .element; mem = k .mem; names = k .names }) (record { element = j .element; mem = j .mem; names = j .names })
 
     elements : k .element ≡ j .element
-    elements = well .shape .once-listed (k .home) (chosen i (k .home)) (k .element) (j .element) (k .is-leaf) (home-mark (k .home) (k .known)) (k .mem) (rw homes (j .mem)) (k .names ∙ sym (j .names))
+    elements = well .shape .once-listed (k .home) (chosen i (k .home)) (k .element) (j .element) (k .is-leaf) (home-mark (k .home) (k .known)) (k .mem) (rw
+        homes (j .mem)) (k .names ∙ sym (j .names))
 
-    middle : max (yardBound i (chosen i (k .home)) (k .element)) (wordAt firsts (k .home)) ≡ max (yardBound i (chosen i (j .home)) (j .element)) (wordAt firsts (j .home))
+    middle : max (yardBound i (chosen i (k .home)) (k .element)) (wordAt firsts (k .home))
+        ≡ max (yardBound i (chosen i (j .home)) (j .element)) (wordAt firsts (j .home))
     middle = cc (homes, elements)
 
 module _ (i : Instance) (sound : Sound i) where
@@ -278,7 +300,8 @@ module _ (i : Instance) (sound : Sound i) where
       rw (key-of-one i (sound .well) (run i limit .state .firsts) (run-kept i (sound .well) limit .sizes .firsts) j (x .is)) (x .held full)
 
   -- Nor is the bound of a measured yard, of whatever leaf's chosen list it is an element.
-  pub run-bound-within : (limit r : ℕ) (e : Element) → T (leaf i r) → r < size i → Mem e (chosen i r .list) → Mem (e .yard) (run i limit .state .measured) → length (run i limit .state .held) ≡ i .k
+  pub run-bound-within : (limit r : ℕ) (e : Element) → T (leaf i r) → r < size i → Mem e (chosen i r .list) → Mem (e .yard) (run i limit .state .measured)
+      → length (run i limit .state .held) ≡ i .k
       → yardBound i (chosen i r) e ≤ greatestHeld (run i limit .state .held)
   run-bound-within limit r e l h k j full = omega (arith, same-bound, x .held full, x .is .value)
     where
@@ -298,7 +321,8 @@ module _ (i : Instance) (sound : Sound i) where
       home-range = rw (← run-kept i well limit .sizes .firsts) (known-range (run i limit .state .firsts) (o .home) (o .known))
 
       homes : r ≡ o .home
-      homes = well .shape .one-leaf r (o .home) (chosen i r) (chosen i (o .home)) (e .yard) l (o .is-leaf) mark (chosen-mem i (o .home) (well .shape .marked (o .home) home-range))
+      homes = well .shape .one-leaf r (o .home) (chosen i r) (chosen i (o .home)) (e .yard) l (o .is-leaf) mark (chosen-mem i (o .home) (well .shape .marked (o
+          .home) home-range))
           (record { element = e; mem = k; names = refl }) (record { element = o .element; mem = o .mem; names = o .names })
 
       elements : e ≡ o .element

@@ -10,13 +10,15 @@ use Rattle.book.specs.Choose.{choose}
 use Rattle.book.proofs.Choosing.{choose-case}
 use Rattle.tree_layout.specs.Values.{Element, Mark}
 use Rattle.search_rules.specs.Instance.{Instance, children, marks, leaf}
-use Rattle.search_rules.specs.Bounds.{apart, combine, aggregate, greatestOf, leastFrom, leastOf, crewBound, sheetAt, lower, upper, over, total, markBound, bound, weight, chosen, listApart, f, yardBound}
+use Rattle.search_rules.specs.Bounds.{apart, combine, aggregate, greatestOf, leastFrom, leastOf, crewBound, sheetAt, lower, upper, over, total, markBound}
+use Rattle.search_rules.specs.Bounds.{bound, weight, chosen, listApart, f, yardBound}
 use Rattle.search_rules.specs.Facts.{Shape, Small, WellFormed}
 use Rattle.search_rules.proofs.Bounds.{greatestOf-le, aggregate-mono, over-mono}
 
 crewBound-most : (lb ub a b most : ℕ) → lb ≤ most → a ≤ most → crewBound lb ub a b ≤ most
 unfolding crewBound
-crewBound-most lb ub a b most h k = choose-case (λ z. z ≤ most) (leb b lb) (λ t. omega arith) (λ t. choose-case (λ z. z ≤ most) (leb ub a) (λ s. omega arith) (λ s. omega arith))
+crewBound-most lb ub a b most h k = choose-case (λ z. z ≤ most) (leb b lb) (λ t. omega arith) (λ t. choose-case (λ z. z ≤ most) (leb ub a) (λ s. omega arith)
+    (λ s. omega arith))
 
 apart-most : (a b most : ℕ) → a ≤ most → b ≤ most → apart a b ≤ most
 unfolding apart
@@ -51,24 +53,32 @@ module _ (i : Instance) (well : WellFormed i) where
   pub lower-most : (l q : ℕ) → l < i .tree .junctions → q < i .tree .junctions → lower i l q ≤ 67042305
   unfolding lower sheetAt
   lower-most l q a b = greatestOf-le (λ r. apart (i .d (r .place) l) (i .d (r .place) q)) 67042305 (marks i 0)
-      (λ m k. apart-most (i .d (m .place) l) (i .d (m .place) q) 67042305 (well .small .distances (m .place) l (well .shape .places 0 m k) a) (well .small .distances (m .place) q (well .shape .places 0 m k) b))
+      (λ m k. apart-most (i .d (m .place) l) (i .d (m .place) q) 67042305 (well .small .distances (m .place) l (well .shape .places 0 m k) a) (well .small
+      .distances (m .place) q (well .shape .places 0 m k) b))
 
   pub upper-most : (l q : ℕ) → l < i .tree .junctions → q < i .tree .junctions → upper i l q ≤ 134084610
   unfolding upper sheetAt
   upper-most l q a b = leastOf-most (λ r. i .d (r .place) l + i .d (r .place) q) 134084610 (marks i 0)
-      (λ m k. omega (arith, well .small .distances (m .place) l (well .shape .places 0 m k) a, well .small .distances (m .place) q (well .shape .places 0 m k) b))
+      (λ m k. omega (
+        arith,
+        well .small .distances (m .place) l (well .shape .places 0 m k) a,
+        well .small .distances (m .place) q (well .shape .places 0 m k)
+            b,
+      ))
 
   -- a region's bound: sixteen times a u32
   pub bound-most : (r : ℕ) → bound i r ≤ 68719476720
   unfolding bound markBound
   bound-most r = over-most (λ q. greatestOf (markBound i q) (marks i r)) 4294967295
-      (λ q c. greatestOf-le (markBound i q) 4294967295 (marks i r) (λ m k. crewBound-most (lower i (m .place) q) (upper i (m .place) q) (m .least) (m .greatest) 4294967295
+      (λ q c. greatestOf-le (markBound i q) 4294967295 (marks i r) (λ m k. crewBound-most (lower i (m .place) q) (upper i (m .place) q) (m .least) (m
+      .greatest) 4294967295
       (omega (arith, lower-most (m .place) q (well .shape .places r m k) (well .shape .crews q c))) (well .small .least r m k)))
 
   module _ (r : ℕ) (m : Mark) (e : Element) (l : T (leaf i r)) (k : Mem m (marks i r)) (j : Mem e (m .list)) where
     listApart-most : (q : ℕ) → q < i .tree .junctions → listApart i m e q ≤ 67042305
     unfolding listApart
-    listApart-most q c = apart-most (i .d (m .place) q) (e .distance) 67042305 (well .small .distances (m .place) q (well .shape .places r m k) c) (well .small .lists r m e l k j)
+    listApart-most q c = apart-most (i .d (m .place) q) (e .distance) 67042305 (well .small .distances (m .place) q (well .shape .places r m k) c) (well .small
+        .lists r m e l k j)
 
     pub f-most : f i m e ≤ 1072676880
     unfolding f
@@ -86,4 +96,5 @@ module _ (i : Instance) (well : WellFormed i) where
 
   pub weight-most : (r : ℕ) (m : Mark) → Mem m (marks i r) → weight i m ≤ 1072676880
   unfolding weight
-  weight-most r m k = aggregate-most 0 67042305 (i .crews) (λ q. lower i (m .place) q) (well .small .few-crews) (λ q c. lower-most (m .place) q (well .shape .places r m k) (well .shape .crews q c))
+  weight-most r m k = aggregate-most 0 67042305 (i .crews) (λ q. lower i (m .place) q) (well .small .few-crews) (λ q c. lower-most (m .place) q (well .shape
+      .places r m k) (well .shape .crews q c))

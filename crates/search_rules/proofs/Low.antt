@@ -21,7 +21,9 @@ use Rattle.search_rules.specs.Facts.{Listed, Below, inside, under, Sound
 use Rattle.search_rules.proofs.Bounds.{bound-le, yardBound-le, f-le-total}
 use Rattle.search_rules.proofs.Queue.{seen, key, key-eq, no-key, Entered, queued-child, kept, Again, empty, more}
 use Rattle.search_rules.proofs.Stepping.{step-case}
-use Rattle.search_rules.proofs.Kept.{Kept, left-other, left-not, InnerKey, child, taken, same, inner-key, inner-first, mark-mem, yard-fits, leaf-yard-key, leaf-region-key, leaf-again, taken-yard-key, region-case, start-key, start-yard, start-left, run-kept}
+use Rattle.search_rules.proofs.Kept.{Kept, left-other, left-not, InnerKey, child, taken, same, inner-key, inner-first, mark-mem, yard-fits}
+use Rattle.search_rules.proofs.Kept.{leaf-yard-key, leaf-region-key, leaf-again, taken-yard-key, region-case, start-key, start-yard, start-left}
+use Rattle.search_rules.proofs.Kept.{run-kept}
 
 -- Where a yard of the tree stands.
 pub data Cover (i : Instance) (st : State) (y : ℕ) : Type 0 where
@@ -68,7 +70,8 @@ module _ (i : Instance) (sound : Sound i) where
           raised : (v b y : ℕ) → Mem v (children i r) → Below i v y → _≡_ {A = Option ℕ} (some (max (bound i v) a)) (some b) → b ≤ total i y
           raised v b y k below e = omega (arith, key-eq e, bounded below, low .inner-low r a y inner at (under v inner k below))
 
-          by-key : (v b y : ℕ) → (key (st .regionKeys) v ≡ some b → b ≤ total i y) → Below i v y → {o : Option ℕ} → InnerKey i (sound .well) st was r a at v o → o ≡ some b → b ≤ total i y
+          by-key : (v b y : ℕ) → (key (st .regionKeys) v ≡ some b → b ≤ total i y) → Below i v y → {o : Option ℕ}
+              → InnerKey i (sound .well) st was r a at v o → o ≡ some b → b ≤ total i y
           by-key v b y old below (child k) e = raised v b y k below e
           by-key v b y old below (taken p) e = absurd (no-key e)
           by-key v b y old below (same p n q) e = old (sym q ∙ e)
@@ -77,7 +80,8 @@ module _ (i : Instance) (sound : Sound i) where
           by-first v b y below (queued-child k) e = raised v b y k below e
           by-first v b y below (kept n q) e = low .first-low v b y (sym q ∙ e) below
 
-          through : (v b y : ℕ) → key (st .regionKeys) v ≡ some b → Below i v y → T (not (left (st .gone) y)) → {o : Option ℕ} → InnerKey i (sound .well) st was r a at v o → key′ v ≡ o → Cover i (openInner i st r a) y
+          through : (v b y : ℕ) → key (st .regionKeys) v ≡ some b → Below i v y → T (not (left (st .gone) y)) → {o : Option ℕ}
+              → InnerKey i (sound .well) st was r a at v o → key′ v ≡ o → Cover i (openInner i st r a) y
           through v b y e below n (child k) q = below-queued v (max (bound i v) a) q below n
           through v b y e below n (taken p) q = down (open-below inner (rw p at below))
             where
@@ -97,17 +101,24 @@ module _ (i : Instance) (sound : Sound i) where
 
       -- ---- a leaf
 
-      leaf-lowers : (is-leaf : T (leaf i r)) (first : ℕ) → key (st .firsts) r ≡ some first → (e : Element) → (mem : Mem e (chosen i r .list)) → T (not (left (st .gone) (e .yard)))
+      leaf-lowers : (is-leaf : T (leaf i r)) (first : ℕ) → key (st .firsts) r ≡ some first → (e : Element) → (mem : Mem e (chosen i r .list))
+          → T (not (left (st .gone) (e .yard)))
           → Low i (queueNext i st r first (chosen i r) e)
       unfolding queueNext
       leaf-lowers is-leaf first first-is e mem stays = record {
-        inner-low = λ v b z n. region-key (λ o. o ≡ some b → Below i v z → b ≤ total i z) v (λ p. absurd (T-not (leaf i v) n (rw p is-leaf))) (λ p q. low .inner-low v b z n q);
+        inner-low = λ v b z n. region-key (λ o. o ≡ some b → Below i v z
+            → b ≤ total i z) v (λ p. absurd (T-not (leaf i v) n (rw p is-leaf))) (λ p q. low .inner-low v b z n q);
         region-low = λ v b z. region-key (λ o. o ≡ some b → Below i v z → T (not (left gone′ z)) → b ≤ total i z) v
             (λ p q below n. again-low b z (rw p at below) n (next-key) q)
             (λ p q below n. low .region-low v b z q below (left-not (st .gone) y fits z n));
         first-low = low .first-low;
         yard-low = λ v b. yard-key (λ o. o ≡ some b → b ≤ total i v) v
-            (λ p q. rw p (omega (arith, key-eq q, yardBound-le i (sound .well .shape) (sound .metric) (sound .symmetric) (sound .truth) r m e is-leaf mark mem, low .first-low r first y first-is own)))
+            (λ p q. rw p (omega (
+              arith,
+              key-eq q,
+              yardBound-le i (sound .well .shape) (sound .metric) (sound .symmetric) (sound .truth) r m e is-leaf mark mem,
+              low .first-low r first y first-is own,
+            )))
             (λ p q. low .yard-low v b q);
         cover = λ z below. covers z (low .cover z below);
       }
@@ -136,10 +147,12 @@ module _ (i : Instance) (sound : Sound i) where
           new : State
           new = queueNext i st r first m e
 
-          yard-key : (P : Option ℕ → Type 0) (v : ℕ) → (v ≡ y → P (some (max (yardBound i m e) first))) → (v ≢ y → P (key (st .yardKeys) v)) → P (key (new .yardKeys) v)
+          yard-key : (P : Option ℕ → Type 0) (v : ℕ) → (v ≡ y → P (some (max (yardBound i m e) first))) → (v ≢ y → P (key (st .yardKeys) v))
+              → P (key (new .yardKeys) v)
           yard-key = leaf-yard-key i (sound .well) st was r a at is-leaf first first-is e mem stays
 
-          region-key : (P : Option ℕ → Type 0) (v : ℕ) → (v ≡ r → P (seen (againKey first (nextF i gone′ m)))) → (v ≢ r → P (key (st .regionKeys) v)) → P (key (new .regionKeys) v)
+          region-key : (P : Option ℕ → Type 0) (v : ℕ) → (v ≡ r → P (seen (againKey first (nextF i gone′ m)))) → (v ≢ r → P (key (st .regionKeys) v))
+              → P (key (new .regionKeys) v)
           region-key = leaf-region-key i (sound .well) st was r a at is-leaf first first-is e mem stays
 
           next-key : Again i gone′ first m (seen (againKey first (nextF i gone′ m)))
@@ -154,7 +167,8 @@ module _ (i : Instance) (sound : Sound i) where
           again-low b z below n (more g k s l) q =
               let x = listed below in
               let c : f i m g ≤ f i m (x .element) = l (x .element) (x .mem) (rw (x .names) n) in
-              let t : f i m (x .element) ≤ total i z = rw (x .names) at (f-le-total i (sound .well .shape) (sound .metric) (sound .symmetric) (sound .truth) r m (x .element) is-leaf mark (x .mem)) in
+              let t : f i m (x .element) ≤ total i z = rw (x .names) at (f-le-total i (sound .well .shape) (sound .metric) (sound .symmetric) (sound .truth) r
+              m (x .element) is-leaf mark (x .mem)) in
               omega (arith, key-eq q, low .first-low r first z first-is below)
 
           covers : (z : ℕ) → Cover i st z → Cover i new z
@@ -211,11 +225,15 @@ module _ (i : Instance) (sound : Sound i) where
   start-low : Low i (start i)
   unfolding start
   start-low = record {
-    inner-low = λ v b y n. start-key i (sound .well) (λ o. o ≡ some b → Below i v y → b ≤ total i y) v (λ p q below. root v b y p q below) (λ p q. absurd (no-key q));
-    region-low = λ v b y. start-key i (sound .well) (λ o. o ≡ some b → Below i v y → T (not (left (start i .gone) y)) → b ≤ total i y) v (λ p q below n. root v b y p q below) (λ p q. absurd (no-key q));
-    first-low = λ v b y. start-key i (sound .well) (λ o. o ≡ some b → Below i v y → b ≤ total i y) v (λ p q below. root v b y p q below) (λ p q. absurd (no-key q));
+    inner-low = λ v b y n. start-key i (sound .well) (λ o. o ≡ some b → Below i v y
+        → b ≤ total i y) v (λ p q below. root v b y p q below) (λ p q. absurd (no-key q));
+    region-low = λ v b y. start-key i (sound .well) (λ o. o ≡ some b → Below i v y → T (not (left (start i .gone) y))
+        → b ≤ total i y) v (λ p q below n. root v b y p q below) (λ p q. absurd (no-key q));
+    first-low = λ v b y. start-key i (sound .well) (λ o. o ≡ some b → Below i v y
+        → b ≤ total i y) v (λ p q below. root v b y p q below) (λ p q. absurd (no-key q));
     yard-low = λ v b e. absurd (start-yard i (sound .well) v e);
-    cover = λ y below. below-queued 0 (bound i 0) (start-key i (sound .well) (λ o. o ≡ some (bound i 0)) 0 (λ p. refl) (λ p. absurd (p refl))) below (start-left i (sound .well) y);
+    cover = λ y below. below-queued 0 (bound i 0) (start-key i (sound .well) (λ o. o
+        ≡ some (bound i 0)) 0 (λ p. refl) (λ p. absurd (p refl))) below (start-left i (sound .well) y);
   }
     where
       root : (v b y : ℕ) → v ≡ 0 → _≡_ {A = Option ℕ} (some (bound i 0)) (some b) → Below i v y → b ≤ total i y
@@ -224,4 +242,5 @@ module _ (i : Instance) (sound : Sound i) where
   pub run-low : (limit : ℕ) → Low i (run i limit .state)
   unfolding run advance
   run-low zero = start-low
-  run-low (suc limit) = choose-case (λ (o : Outcome). Low i (o .state)) (settled i (run i limit .state)) (λ t. run-low limit) (λ t. step-low (run i limit .state) (run-kept i (sound .well) limit) (run-low limit) t)
+  run-low (suc limit) = choose-case (λ (o : Outcome). Low i (o .state)) (settled i (run i limit .state)) (λ t. run-low limit) (λ t. step-low (run i limit
+      .state) (run-kept i (sound .well) limit) (run-low limit) t)

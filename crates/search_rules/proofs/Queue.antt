@@ -2,7 +2,8 @@
 use mathlib.Core.Path.{_≡_, refl, sym, ap, _∙_}
 use mathlib.Core.Logic.{_⊎_, inl, inr, _≢_}
 use mathlib.Core.Bool.{Bool, true, false, not}
-use mathlib.Core.List.{List, [], _∷_, List·Memᴰ as Mem, List·Memᴰ·head as head, List·Memᴰ·tail as tail, List·Memᴰ·not-nil as not-nil, List·Memᴰ·cases-cons as cases-cons}
+use mathlib.Core.List.{List, [], _∷_, List·Memᴰ as Mem, List·Memᴰ·head as head, List·Memᴰ·tail as tail, List·Memᴰ·not-nil as not-nil}
+use mathlib.Core.List.{List·Memᴰ·cases-cons as cases-cons}
 use mathlib.Core.Option.{Option, none, some}
 use Prim.Native.Nat.{ℕ, zero, suc, _≤_, _<_, min, max}
 use native.Mathlib.Decide.{ℕ-discrete}
@@ -92,7 +93,8 @@ has-key {o} {a} e = rw e tt
 -- ---- after a set
 
 -- a fact of an entry after a set, from the fact of the new value and that of the old one
-pub set-case : {A : Type 0} (P : A → Type 0) (l : List A) (j : ℕ) (x d : A) → j < length l → (v : ℕ) → (v ≡ j → P x) → (v ≢ j → P (getD l v d)) → P (getD (set l j x) v d)
+pub set-case : {A : Type 0} (P : A → Type 0) (l : List A) (j : ℕ) (x d : A) → j < length l → (v : ℕ) → (v ≡ j → P x) → (v ≢ j → P (getD l v d))
+    → P (getD (set l j x) v d)
 set-case {A} P l j x d h v same other = go (ℕ-discrete v j)
   where
     go : Dec (v ≡ j) → P (getD (set l j x) v d)
@@ -104,10 +106,12 @@ unfolding key wordAt
 key-set P ws j w h v same other = set-case (λ x. P (seen x)) ws j w unqueued h v same other
 
 -- a key put, and a number taken out
-pub key-put : (P : Option ℕ → Type 0) (ws : List ℕ) (j a : ℕ) → a < unqueued → j < length ws → (v : ℕ) → (v ≡ j → P (some a)) → (v ≢ j → P (key ws v)) → P (key (set ws j a) v)
+pub key-put : (P : Option ℕ → Type 0) (ws : List ℕ) (j a : ℕ) → a < unqueued → j < length ws → (v : ℕ) → (v ≡ j → P (some a)) → (v ≢ j → P (key ws v))
+    → P (key (set ws j a) v)
 key-put P ws j a s h v same other = key-set P ws j a h v (λ e. rw (seen-key a s) (same e)) other
 
-pub key-drop : (P : Option ℕ → Type 0) (ws : List ℕ) (j : ℕ) → j < length ws → (v : ℕ) → (v ≡ j → P none) → (v ≢ j → P (key ws v)) → P (key (set ws j unqueued) v)
+pub key-drop : (P : Option ℕ → Type 0) (ws : List ℕ) (j : ℕ) → j < length ws → (v : ℕ) → (v ≡ j → P none) → (v ≢ j → P (key ws v))
+    → P (key (set ws j unqueued) v)
 key-drop P ws j h v same other = key-set P ws j unqueued h v (λ e. rw seen-mark (same e)) other
 
 -- ---- the least
@@ -140,7 +144,8 @@ module _ (i : Instance) (gone : List Bool) (m : Mark) where
   waiting-length [] = refl
   waiting-length (e ∷ es) = ap suc (waiting-length es)
 
-  pub waiting-at : (es : List Element) (p : ℕ) → p < length es → wordAt (waiting i gone m es) p ≡ choose (left gone (getD es p noElement .yard)) unqueued (f i m (getD es p noElement))
+  pub waiting-at : (es : List Element) (p : ℕ) → p < length es
+      → wordAt (waiting i gone m es) p ≡ choose (left gone (getD es p noElement .yard)) unqueued (f i m (getD es p noElement))
   unfolding waiting wordAt
   waiting-at [] p h = absurd (omega arith)
   waiting-at (e ∷ es) zero h = refl
@@ -149,7 +154,8 @@ module _ (i : Instance) (gone : List Bool) (m : Mark) where
   -- Either every element has left, or the next one has not, and its f is least of those that have not.
   pub data Next : Type 0 where
     no-more : unqueued ≤ nextF i gone m → ((e : Element) → Mem e (m .list) → T (left gone (e .yard))) → Next
-    one-more : (e : Element) → getD (m .list) (nextPlace i gone m) noElement ≡ e → nextF i gone m ≡ f i m e → f i m e < unqueued → Mem e (m .list) → T (not (left gone (e .yard)))
+    one-more : (e : Element) → getD (m .list) (nextPlace i gone m) noElement ≡ e → nextF i gone m ≡ f i m e → f i m e < unqueued → Mem e (m .list)
+        → T (not (left gone (e .yard)))
         → ((g : Element) → Mem g (m .list) → T (not (left gone (g .yard))) → f i m e ≤ f i m g) → Next
 
   module _ (small : (e : Element) → Mem e (m .list) → f i m e < unqueued) where
@@ -158,7 +164,8 @@ module _ (i : Instance) (gone : List Bool) (m : Mark) where
     unfolding nextF nextPlace
     word-up g k = go (mem-getD (m .list) noElement g k)
       where
-        go : (p : ℕ) × (p < length (m .list)) × (g ≡ getD (m .list) p noElement) → wordAt (waiting i gone m (m .list)) (pick (waiting i gone m (m .list)) (length (m .list))) ≤ choose (left gone (g .yard)) unqueued (f i m g)
+        go : (p : ℕ) × (p < length (m .list)) × (g ≡ getD (m .list) p noElement)
+            → wordAt (waiting i gone m (m .list)) (pick (waiting i gone m (m .list)) (length (m .list))) ≤ choose (left gone (g .yard)) unqueued (f i m g)
         go (p, h, e) = rw (e, ← waiting-at (m .list) p h) (pick-least (waiting i gone m (m .list)) (length (m .list)) p h)
 
     pub next-is : Next
@@ -195,7 +202,8 @@ module _ (i : Instance) (gone : List Bool) (m : Mark) where
             mem = getD-mem (m .list) p noElement fits
 
             on : T (left gone (e .yard)) ⊎ T (not (left gone (e .yard))) → Next
-            on (inl t) = let h : unqueued ≤ nextF i gone m = omega (arith, word, choose-yes (left gone (e .yard)) unqueued (f i m e) t) in no-more h (all-left h)
+            on (inl t) = let h : unqueued ≤ nextF i gone m = omega (arith, word, choose-yes (left gone (e .yard)) unqueued (f i m e) t) in
+                no-more h (all-left h)
             on (inr t) =
                 let w : nextF i gone m ≡ f i m e = word ∙ choose-no (left gone (e .yard)) unqueued (f i m e) t in
                 one-more e refl w (small e mem) mem t (λ g k s. omega (arith, w, word-up g k, choose-no (left gone (g .yard)) unqueued (f i m g) s))
@@ -212,7 +220,13 @@ unfolding againKey
 again-is i gone first m h small = go (next-is i gone m small)
   where
     go : Next i gone m → Again i gone first m (seen (choose (queued (nextF i gone m)) (max first (nextF i gone m)) unqueued))
-    go (no-more w l) = rw (choose-no (queued (nextF i gone m)) (max first (nextF i gone m)) unqueued (not-T (queued (nextF i gone m)) (λ t. omega (arith, queued-small (nextF i gone m) t))), seen-mark) (empty l)
+    go (no-more w l) = rw (
+      choose-no (queued (nextF i gone m)) (max first (nextF i gone m)) unqueued (not-T (queued (nextF i gone m)) (λ t. omega (
+        arith,
+        queued-small (nextF i gone m) t,
+      ))),
+      seen-mark,
+    ) (empty l)
     go (one-more e p w s k n l) =
         let q : T (queued (nextF i gone m)) = small-queued (nextF i gone m) (omega arith) in
         rw (choose-yes (queued (nextF i gone m)) (max first (nextF i gone m)) unqueued q, w, seen-key (max first (f i m e)) (omega arith)) (more e k n l)
@@ -230,7 +244,8 @@ module _ (i : Instance) (parent : ℕ) where
     queued-child : Mem v cs → Entered cs ws v (some (max (bound i v) parent))
     kept : {o : Option ℕ} → (Mem v cs → ⊥) → o ≡ key ws v → Entered cs ws v o
 
-  pub queueChildren-is : parent < unqueued → ((c : ℕ) → bound i c < unqueued) → (cs ws : List ℕ) → ((c : ℕ) → Mem c cs → c < length ws) → (v : ℕ) → Entered cs ws v (key (queueChildren i parent cs ws) v)
+  pub queueChildren-is : parent < unqueued → ((c : ℕ) → bound i c < unqueued) → (cs ws : List ℕ) → ((c : ℕ) → Mem c cs → c < length ws) → (v : ℕ)
+      → Entered cs ws v (key (queueChildren i parent cs ws) v)
   unfolding queueChildren
   queueChildren-is s small [] ws h v = kept not-nil refl
   queueChildren-is s small (c ∷ cs) ws h v = go (queueChildren-is s small cs ws′ (λ x k. rw (length-set ws c (max (bound i c) parent)) (h x (tail k))) v)
@@ -246,8 +261,13 @@ module _ (i : Instance) (parent : ℕ) where
       go (kept {o = o} n e) = which (ℕ-discrete v c)
         where
           which : Dec (v ≡ c) → Entered (c ∷ cs) ws v o
-          which (yes p) = rw (e ∙ key-put (λ x. x ≡ some (max (bound i c) parent)) ws c (max (bound i c) parent) top (h c (head refl)) v (λ q. refl) (λ q. absurd (q p)), ← p) (queued-child (head refl))
-          which (no p) = kept (λ k. out (cases-cons k)) (e ∙ key-put (λ x. x ≡ key ws v) ws c (max (bound i c) parent) top (h c (head refl)) v (λ q. absurd (p q)) (λ q. refl))
+          which (yes p) = rw (
+            e ∙ key-put (λ x. x ≡ some (max (bound i c) parent)) ws c (max (bound i c) parent) top (h c (head refl)) v (λ q. refl) (λ q.
+                absurd (q p)),
+            ← p,
+          ) (queued-child (head refl))
+          which (no p) = kept (λ k. out (cases-cons k)) (e
+              ∙ key-put (λ x. x ≡ key ws v) ws c (max (bound i c) parent) top (h c (head refl)) v (λ q. absurd (p q)) (λ q. refl))
             where
               out : (v ≡ c) ⊎ Mem v cs → ⊥
               out (inl q) = p q

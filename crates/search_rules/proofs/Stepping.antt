@@ -80,7 +80,8 @@ module _ (i : Instance) (st : State) (sizes : Sizes i st) where
   unsettled-low : T (not (settled i st)) → length (st .held) ≡ i .k → leastKey i st ≤ greatestHeld (st .held)
   unfolding settled
   unsettled-low t e = nltb→le (greatestHeld (st .held)) (leastKey i st) (not-T (ltb (greatestHeld (st .held)) (leastKey i st))
-      (λ s. T-not (settled i st) t (or-right (not (queued (leastKey i st))) _ (and-both (eqb (length (st .held)) (i .k)) _ (eq→eqb (length (st .held)) (i .k) e) s))))
+      (λ s. T-not (settled i st) t (or-right (not (queued (leastKey i st))) _ (and-both (eqb (length (st .held)) (i .k)) _ (eq→eqb (length (st .held)) (i .k)
+      e) s))))
 
   -- A step of a search that isn't settled takes a region or a yard that is due.
   pub step-case : (P : State → Type 0) → T (not (settled i st))

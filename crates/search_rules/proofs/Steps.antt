@@ -14,7 +14,8 @@ use Rattle.search_rules.specs.Instance.{Instance, size, children, leaf}
 use Rattle.search_rules.specs.Bounds.{bound, chosen, total, yardBound, f}
 use Rattle.search_rules.specs.Queue.{unqueued, queued, wordAt, pick}
 use Rattle.search_rules.specs.Held.{hold, greatestHeld, entry}
-use Rattle.search_rules.specs.Step.{State, left, noElement, againKey, waiting, nextPlace, nextF, queueChildren, openInner, queueNext, closeLeaf, openLeaf, takeRegion, takeYard, nextRegion, nextYard, leastKey, step, settled, start}
+use Rattle.search_rules.specs.Step.{State, left, noElement, againKey, waiting, nextPlace, nextF, queueChildren, openInner, queueNext, closeLeaf, openLeaf}
+use Rattle.search_rules.specs.Step.{takeRegion, takeYard, nextRegion, nextYard, leastKey, step, settled, start}
 use Rattle.search_rules.proofs.Queue.{small-queued, not-queued}
 use Rattle.search_rules.proofs.Stepping.{Sizes}
 
@@ -62,13 +63,15 @@ module _ (i : Instance) where
   unfolding leastKey
   least-key-is st = refl
 
-  pub settled-is : (st : State) → settled i st ≡ (not (queued (leastKey i st)) || (eqb (length (st .held)) (i .k) && ltb (greatestHeld (st .held)) (leastKey i st)))
+  pub settled-is : (st : State) → settled i st
+      ≡ (not (queued (leastKey i st)) || (eqb (length (st .held)) (i .k) && ltb (greatestHeld (st .held)) (leastKey i st)))
   unfolding settled
   settled-is st = refl
 
   -- ---- a step that takes a yard, or a region
 
-  module _ (st : State) (r y a b : ℕ) (er : r ≡ nextRegion i st) (ey : y ≡ nextYard i st) (ea : a ≡ wordAt (st .regionKeys) r) (eb : b ≡ wordAt (st .yardKeys) y) where
+  module _ (st : State) (r y a b : ℕ) (er : r ≡ nextRegion i st) (ey : y ≡ nextYard i st) (ea : a ≡ wordAt (st .regionKeys) r) (eb : b
+      ≡ wordAt (st .yardKeys) y) where
     abbrev Taken : State
     Taken = choose (ltb b a) (takeYard i st y) (takeRegion i st r a)
 
@@ -77,10 +80,12 @@ module _ (i : Instance) where
     step-is = rw (eb, ea, ey, er) refl
 
     pub step-yard : b < a → a ≤ unqueued → step i st ≡ takeYard i st y
-    step-yard h k = step-is ∙ (choose-yes (queued (min a b)) Taken st (small-queued (min a b) (omega arith)) ∙ choose-yes (ltb b a) (takeYard i st y) (takeRegion i st r a) (lt→ltb b a h))
+    step-yard h k = step-is ∙ (choose-yes (queued (min a b)) Taken st (small-queued (min a b) (omega arith))
+        ∙ choose-yes (ltb b a) (takeYard i st y) (takeRegion i st r a) (lt→ltb b a h))
 
     pub step-region : a ≤ b → a < unqueued → step i st ≡ takeRegion i st r a
-    step-region h k = step-is ∙ (choose-yes (queued (min a b)) Taken st (small-queued (min a b) (omega arith)) ∙ choose-no (ltb b a) (takeYard i st y) (takeRegion i st r a) (not-T (ltb b a) (λ t. omega (arith, ltb→lt b a t))))
+    step-region h k = step-is ∙ (choose-yes (queued (min a b)) Taken st (small-queued (min a b) (omega arith))
+        ∙ choose-no (ltb b a) (takeYard i st y) (takeRegion i st r a) (not-T (ltb b a) (λ t. omega (arith, ltb→lt b a t))))
 
   pub take-leaf : (st : State) (r a : ℕ) → T (leaf i r) → takeRegion i st r a ≡ openLeaf i st r
   unfolding takeRegion

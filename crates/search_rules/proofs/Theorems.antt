@@ -103,7 +103,8 @@ words-length [] = refl
 words-length (e ∷ es) = omega (arith, words-length es)
 
 -- a settled search on a true tree lists the first k of the tree's yards, or all if fewer
-pub answer-exact : (i : Instance) → Sound i → (limit : ℕ) → T (answer i limit .settled) → (ys : List ℕ) → TreeYards i ys → answer i limit .listed ≡ take (i .k) (ranked i ys)
+pub answer-exact : (i : Instance) → Sound i → (limit : ℕ) → T (answer i limit .settled) → (ys : List ℕ) → TreeYards i ys
+    → answer i limit .listed ≡ take (i .k) (ranked i ys)
 unfolding answer report
 answer-exact i sound limit t ys tree = answer-listed i limit t ∙ run-complete i sound limit t .exact ys tree
 
@@ -113,16 +114,19 @@ answer-listing i well limit t = rw (answer-listed i limit t) (run-listing i well
 
 -- and if that is k yards, none was measured whose bound is above the last listed distance
 pub answer-within : (i : Instance) → Sound i → (limit : ℕ) → T (answer i limit .settled) → length (answer i limit .listed) ≡ i .k
-    → (r : ℕ) (e : Element) → T (leaf i r) → r < size i → Mem e (chosen i r .list) → Mem (e .yard) (run i limit .state .measured) → yardBound i (chosen i r) e ≤ greatestHeld (answer i limit .listed)
+    → (r : ℕ) (e : Element) → T (leaf i r) → r < size i → Mem e (chosen i r .list) → Mem (e .yard) (run i limit .state .measured)
+    → yardBound i (chosen i r) e ≤ greatestHeld (answer i limit .listed)
 answer-within i sound limit t full r e l h k j =
     rw (answer-listed i limit t) (run-bound-within i sound limit r e l h k j (rw (answer-listed i limit t) at full))
 
 -- a limit of inner regions plus twice the yards settles
-pub answer-ends : (i : Instance) → WellFormed i → (limit : ℕ) → (ys : List ℕ) → TreeYards i ys → inners (i .tree) + 2 * length ys ≤ limit → T (answer i limit .settled)
+pub answer-ends : (i : Instance) → WellFormed i → (limit : ℕ) → (ys : List ℕ) → TreeYards i ys → inners (i .tree) + 2 * length ys ≤ limit
+    → T (answer i limit .settled)
 answer-ends i well limit ys tree h = rw (answer-settled i limit) (enough i well ys (tree .every) limit h)
 
 -- what is listed fits in words of 32 bits
-pub listed-small : (i : Instance) → WellFormed i → (limit : ℕ) → T (answer i limit .settled) → (e : Element) → Mem e (answer i limit .listed) → (e .distance ≤ 1072676880) × (e .yard < i .tree .junctions)
+pub listed-small : (i : Instance) → WellFormed i → (limit : ℕ) → T (answer i limit .settled) → (e : Element) → Mem e (answer i limit .listed)
+    → (e .distance ≤ 1072676880) × (e .yard < i .tree .junctions)
 listed-small i well limit t e k =
     let l = answer-listing i well limit t in
     let y = below-range i (well .shape) (l .in-tree e k) in
@@ -138,4 +142,10 @@ module _ (i : Instance) (a : Accepted (i .tree)) (limit : ℕ) where
   accepted-exact sound t = answer-exact i sound limit t (treeYards (i .tree)) (tree-yards i a)
 
   pub accepted-measured : WellFormed i → answer i limit .measured ≤ i .tree .yards
-  accepted-measured well = omega (arith, answer-measured i limit, a .whole .yard-count, decided i well limit .measured-few (treeYards (i .tree)) (tree-yards i a))
+  accepted-measured well = omega (
+    arith,
+    answer-measured i limit,
+    a .whole .yard-count,
+    decided i well limit .measured-few (treeYards (i .tree)) (tree-yards i
+        a),
+  )

@@ -1,4 +1,5 @@
--- The tree of a book that the tests accept has the shape that the search asks for, its yards are those below the root, and its numbers are small. Assumes nothing.
+-- The tree of a book that the tests accept has the shape that the search asks for, its yards are those below the root, and its numbers are small. Assumes
+-- nothing.
 use mathlib.Core.Path.{_≡_, refl, sym, ap, _∙_}
 use mathlib.Core.Logic.{_⊎_, inl, inr, _≢_, _↔_}
 use mathlib.Core.Bool.{Bool, true, false, not}
@@ -40,7 +41,8 @@ pub record Accepted (t : Tree) : Type 0 where
   pub landmarks : 1 ≤ t .landmarks
   pub formed : FormedTree t
   pub values : (r : Region) → Mem r (t .regions) → RegionValues (t .junctions) r
-  pub least : (r : ℕ) → r < length (t .regions) → 0 < regionAt (t .regions) r .children → (m : Mark) → Mem m (regionAt (t .regions) r .marks) → m .least < 4294967296
+  pub least : (r : ℕ) → r < length (t .regions) → 0 < regionAt (t .regions) r .children → (m : Mark) → Mem m (regionAt (t .regions) r .marks)
+      → m .least < 4294967296
 
 pub accepted-tree : (b : List ℕ) → Bytes b → treeRefusal b ≡ 0 → Accepted (decode b)
 accepted-tree b bytes e = let l = tree-facts b e .layout in record {
@@ -139,7 +141,8 @@ module _ (i : Instance) (a : Accepted (i .tree)) where
   pub below-mem : {r y : ℕ} → Below i r y → Mem y (yardsBelow rs r)
   unfolding children
   below-mem (inside {r = r} {y = y} m l k x) = into r m l k y x
-  below-mem (under {r = r} {y = y} c l k b) = rw (a .whole .holdings .joined r (child-range r c k) (inner-more r l)) (gather-mem (yardsBelow rs) (childrenOf rs r) c y k (below-mem b))
+  below-mem (under {r = r} {y = y} c l k b) = rw (a .whole .holdings .joined r (child-range r c k) (inner-more r l)) (gather-mem (yardsBelow rs) (childrenOf rs
+      r) c y k (below-mem b))
 
   mem-below-in : (n r y : ℕ) → length rs ≤ r + n → r < length rs → Mem y (yardsBelow rs r) → Below i r y
   unfolding children
@@ -179,7 +182,11 @@ module _ (i : Instance) (a : Accepted (i .tree)) where
     yards = λ r m e l k j. let h = mark-range r m k in omega (arith, a .whole .holdings .inside r (e .yard) h (element-below r m l k e j) .1, at r h .within);
     once-listed = λ r m e g l k j x p. once-listed (m .list) (a .whole .holdings .listed-once r (mark-range r m k) (leaf-zero r l) m k) e g j x p;
     one-leaf = λ r s m n y l t k j x z. a .whole .one-leaf y r s
-        (record { number = mark-range r m k; leaf = leaf-zero r l; holds = into r m l k y x }) (record { number = mark-range s n j; leaf = leaf-zero s t; holds = into s n t j y z });
+        (record { number = mark-range r m k; leaf = leaf-zero r l; holds = into r m l k y x }) (record {
+          number = mark-range s n j;
+          leaf = leaf-zero s t;
+          holds = into s n t j y z;
+        });
     crews = crews;
   }
 
@@ -203,7 +210,8 @@ well-formed i a crews few near = record { shape = shape-of i a crews; small = sm
 
 -- its numbers are true if its lists' distances are, and each landmark's least and greatest enclose the distances to the yards below its region
 pub truth-of : (i : Instance) → Accepted (i .tree)
-    → ((r : ℕ) → r < length (i .tree .regions) → regionAt (i .tree .regions) r .children ≡ 0 → (m : Mark) → Mem m (regionAt (i .tree .regions) r .marks) → (e : Element) → Mem e (m .list)
+    → ((r : ℕ) → r < length (i .tree .regions) → regionAt (i .tree .regions) r .children ≡ 0 → (m : Mark) → Mem m (regionAt (i .tree .regions) r .marks)
+    → (e : Element) → Mem e (m .list)
     → e .distance ≡ i .d (m .place) (e .yard))
     → ((r : ℕ) → r < length (i .tree .regions) → (m : Mark) → Mem m (regionAt (i .tree .regions) r .marks) → (y : ℕ) → Mem y (yardsBelow (i .tree .regions) r)
     → (m .least ≤ i .d (m .place) y) × (i .d (m .place) y ≤ m .greatest))

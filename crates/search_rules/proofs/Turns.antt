@@ -33,7 +33,8 @@ unfolding aggregate
 aggregate-more code g [] q = combine-zero code (g q) ∙ sym (zero-combine code (g q))
 aggregate-more code g (p ∷ qs) q = ap (combine code (g p)) (aggregate-more code g qs q) ∙ sym (combine-assoc code (g p) (aggregate code g qs) (g q))
 
-pub aggregate-take : (code : ℕ) (g : ℕ → ℕ) (qs : List ℕ) (j : ℕ) → j < length qs → aggregate code g (take (suc j) qs) ≡ combine code (aggregate code g (take j qs)) (g (getD qs j 0))
+pub aggregate-take : (code : ℕ) (g : ℕ → ℕ) (qs : List ℕ) (j : ℕ) → j < length qs
+    → aggregate code g (take (suc j) qs) ≡ combine code (aggregate code g (take j qs)) (g (getD qs j 0))
 aggregate-take code g qs j h = ap (aggregate code g) (take-suc qs j 0 h) ∙ aggregate-more code g (take j qs) (getD qs j 0)
 
 -- ---- over landmarks
@@ -43,7 +44,8 @@ unfolding greatestOf
 greatest-more g [] m = omega arith
 greatest-more g (n ∷ ms) m = omega (arith, greatest-more g ms m)
 
-pub greatest-take : (g : Mark → ℕ) (ms : List Mark) (j : ℕ) → j < length ms → greatestOf g (take (suc j) ms) ≡ max (greatestOf g (take j ms)) (g (getD ms j noMark))
+pub greatest-take : (g : Mark → ℕ) (ms : List Mark) (j : ℕ) → j < length ms
+    → greatestOf g (take (suc j) ms) ≡ max (greatestOf g (take j ms)) (g (getD ms j noMark))
 greatest-take g ms j h = ap (greatestOf g) (take-suc ms j noMark h) ∙ greatest-more g (take j ms) (getD ms j noMark)
 
 least-more : (g : Mark → ℕ) (n : Mark) (ms : List Mark) (m : Mark) → leastFrom g n (ms ++ (m ∷ [])) ≡ min (leastFrom g n ms) (g m)
@@ -57,7 +59,8 @@ unfolding leastOf leastFrom
 least-first g [] h = absurd (omega arith)
 least-first g (m ∷ ms) h = refl
 
-pub least-take : (g : Mark → ℕ) (ms : List Mark) (j : ℕ) → 0 < j → j < length ms → leastOf g (take (suc j) ms) ≡ min (leastOf g (take j ms)) (g (getD ms j noMark))
+pub least-take : (g : Mark → ℕ) (ms : List Mark) (j : ℕ) → 0 < j → j < length ms
+    → leastOf g (take (suc j) ms) ≡ min (leastOf g (take j ms)) (g (getD ms j noMark))
 unfolding leastOf
 least-take g ms zero s h = absurd (omega arith)
 least-take g [] (suc j) s h = absurd (omega arith)
@@ -167,7 +170,8 @@ module _ (i : Instance) where
   run-start = refl
 
   -- a search that isn't settled takes a step
-  pub run-on : (limit : ℕ) → T (not (settled i (run i limit .state))) → run i (suc limit) ≡ record { state = step i (run i limit .state); taken = suc (run i limit .taken) }
+  pub run-on : (limit : ℕ) → T (not (settled i (run i limit .state)))
+      → run i (suc limit) ≡ record { state = step i (run i limit .state); taken = suc (run i limit .taken) }
   unfolding run advance
   run-on limit t = choose-no (settled i (run i limit .state)) (run i limit) (record { state = step i (run i limit .state); taken = suc (run i limit .taken) }) t
 

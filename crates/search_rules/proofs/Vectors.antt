@@ -11,11 +11,13 @@ use Rattle.tree_leaf.specs.Leaf.{names, once, inRange, namedBy, firstList, agre
 use Rattle.tree.specs.Shape.{childFits, siblings, subtree}
 use Rattle.tree.specs.Yards.{endOf, starts, childrenOf}
 use Rattle.search_rules.specs.Instance.{Instance, size, children, marks, leaf}
-use Rattle.search_rules.specs.Bounds.{apart, combine, aggregate, greatestOf, leastFrom, leastOf, crewBound, sheetAt, lower, upper, over, total, markBound, bound, weight, best, bestOf, chosen, listApart, f, yardBound}
+use Rattle.search_rules.specs.Bounds.{apart, combine, aggregate, greatestOf, leastFrom, leastOf, crewBound, sheetAt, lower, upper, over, total, markBound}
+use Rattle.search_rules.specs.Bounds.{bound, weight, best, bestOf, chosen, listApart, f, yardBound}
 use Rattle.tree_layout.specs.Values.{noMark}
 use Rattle.search_rules.specs.Queue.{unqueued, queued, wordAt, pick}
 use Rattle.search_rules.specs.Held.{insert, hold, greatestHeld, entry, ranked}
-use Rattle.search_rules.specs.Step.{State, left, noElement, againKey, waiting, nextPlace, nextF, queueChildren, openInner, queueNext, closeLeaf, openLeaf, takeRegion, takeYard, nextRegion, nextYard, leastKey, step, settled, start}
+use Rattle.search_rules.specs.Step.{State, left, noElement, againKey, waiting, nextPlace, nextF, queueChildren, openInner, queueNext, closeLeaf, openLeaf}
+use Rattle.search_rules.specs.Step.{takeRegion, takeYard, nextRegion, nextYard, leastKey, step, settled, start}
 use Rattle.search_rules.specs.Run.{Outcome, Answer, words, advance, run, report, answer}
 
 -- ---- nets that are chains
@@ -80,13 +82,21 @@ pub starred : row (netN 0 2 (0 ∷ 2 ∷ [])) 4 ∷ row (netN 0 2 (0 ∷ 2 ∷ [
     ≡ (1 ∷ 4 ∷ 2 ∷ 1 ∷ 5 ∷ 3 ∷ 13 ∷ []) ∷ (0 ∷ 3 ∷ 1 ∷ [])
     ∷ (1 ∷ 2 ∷ 1 ∷ 1 ∷ 3 ∷ []) ∷ (1 ∷ 2 ∷ 1 ∷ 1 ∷ 4 ∷ []) ∷ (1 ∷ 6 ∷ 3 ∷ 1 ∷ 5 ∷ 3 ∷ 13 ∷ 4 ∷ 15 ∷ [])
     ∷ (1 ∷ 2 ∷ 1 ∷ 0 ∷ 0 ∷ []) ∷ (1 ∷ 4 ∷ 2 ∷ 0 ∷ 1 ∷ []) ∷ []
-unfolding row onChain at leafOf netN oneJunction three from0 from2 twoLeaves eight choose leafMark innerMark firstDistance lastFrom noRegion regionAt all comes names once inRange namedBy firstList agreeing sameYards leafOk siblings subtree endOf starts childrenOf size children marks leaf apart combine aggregate greatestOf leastFrom leastOf crewBound noMark sheetAt lower upper over total markBound bound weight best bestOf chosen listApart f yardBound queued wordAt pick insert hold greatestHeld entry left noElement againKey waiting nextPlace nextF queueChildren openInner queueNext closeLeaf openLeaf takeRegion takeYard nextRegion nextYard leastKey step settled start words advance run report answer
+unfolding row onChain at leafOf netN oneJunction three from0 from2 twoLeaves eight choose leafMark innerMark firstDistance lastFrom noRegion regionAt all comes
+    names once inRange namedBy firstList agreeing sameYards leafOk siblings subtree endOf starts childrenOf size children marks leaf apart combine aggregate
+    greatestOf leastFrom leastOf crewBound noMark sheetAt lower upper over total markBound bound weight best bestOf chosen listApart f yardBound queued wordAt
+    pick insert hold greatestHeld entry left noElement againKey waiting nextPlace nextF queueChildren openInner queueNext closeLeaf openLeaf takeRegion
+    takeYard nextRegion nextYard leastKey step settled start words advance run report answer
 starred = refl
 
 -- limit 0 is spent with no step taken; a tree of two leaves, where three yards tie at 12 and the lower numbers are held
 pub limits : row (netN 0 2 (0 ∷ 2 ∷ [])) 0 ∷ row twoLeaves 9 ∷ row twoLeaves 7 ∷ []
     ≡ (0 ∷ 0 ∷ 0 ∷ []) ∷ (1 ∷ 8 ∷ 3 ∷ 1 ∷ 12 ∷ 2 ∷ 12 ∷ []) ∷ (0 ∷ 7 ∷ 2 ∷ []) ∷ []
-unfolding row onChain at leafOf netN oneJunction three from0 from2 twoLeaves eight choose leafMark innerMark firstDistance lastFrom noRegion regionAt all comes names once inRange namedBy firstList agreeing sameYards leafOk siblings subtree endOf starts childrenOf size children marks leaf apart combine aggregate greatestOf leastFrom leastOf crewBound noMark sheetAt lower upper over total markBound bound weight best bestOf chosen listApart f yardBound queued wordAt pick insert hold greatestHeld entry left noElement againKey waiting nextPlace nextF queueChildren openInner queueNext closeLeaf openLeaf takeRegion takeYard nextRegion nextYard leastKey step settled start words advance run report answer
+unfolding row onChain at leafOf netN oneJunction three from0 from2 twoLeaves eight choose leafMark innerMark firstDistance lastFrom noRegion regionAt all comes
+    names once inRange namedBy firstList agreeing sameYards leafOk siblings subtree endOf starts childrenOf size children marks leaf apart combine aggregate
+    greatestOf leastFrom leastOf crewBound noMark sheetAt lower upper over total markBound bound weight best bestOf chosen listApart f yardBound queued wordAt
+    pick insert hold greatestHeld entry left noElement againKey waiting nextPlace nextF queueChildren openInner queueNext closeLeaf openLeaf takeRegion
+    takeYard nextRegion nextYard leastKey step settled start words advance run report answer
 limits = refl
 
 -- ---- bounds
@@ -96,9 +106,11 @@ pub bounds : crewBound 12 20 9 9 ∷ crewBound 4 4 9 12 ∷ crewBound 5 20 9 12 
 unfolding crewBound choose
 bounds = refl
 
--- Region bounds on the chain of eight: of crews 0 and 6 for the root and the two leaves; of crew 4, which is at the second leaf's landmark (LB 0, UB 14, A 2, B 6)
+-- Region bounds on the chain of eight: of crews 0 and 6 for the root and the two leaves; of crew 4, which is at the second leaf's landmark (LB 0, UB 14, A 2, B
+-- 6)
 pub regions : bound twoLeaves 0 ∷ bound twoLeaves 1 ∷ bound twoLeaves 2 ∷ bound (eight (4 ∷ [])) 2 ∷ [] ≡ 1 ∷ 2 ∷ 1 ∷ 0 ∷ []
-unfolding onChain at leafOf twoLeaves eight choose leafMark innerMark firstDistance lastFrom noRegion regionAt marks apart combine aggregate greatestOf leastFrom leastOf crewBound sheetAt lower upper over markBound bound
+unfolding onChain at leafOf twoLeaves eight choose leafMark innerMark firstDistance lastFrom noRegion regionAt marks apart combine aggregate greatestOf
+    leastFrom leastOf crewBound sheetAt lower upper over markBound bound
 regions = refl
 
 -- crews whose distances from every landmark are 5, 5 and 10
@@ -121,10 +133,19 @@ both-sides = refl
 -- What has left or is measured after a step or two: on the chain of three both elements have one f, and the first by place leaves first; of two
 -- landmarks of one weight the first is chosen; at equal keys the region goes before the yard, so the second step measures none; of three yards
 -- queued at 12 the lowest number is measured first.
-pub ties : run (three (from0 ∷ [])) 1 .state .gone ∷ run (three (from2 ∷ from0 ∷ [])) 1 .state .gone ∷ [] ≡ (true ∷ false ∷ false ∷ []) ∷ (false ∷ false ∷ true ∷ []) ∷ []
-unfolding onChain at leafOf three from0 from2 choose leafMark innerMark firstDistance lastFrom noRegion regionAt all comes names once inRange namedBy firstList agreeing sameYards leafOk siblings subtree endOf starts childrenOf size children marks leaf apart combine aggregate greatestOf leastFrom leastOf crewBound noMark sheetAt lower upper over total markBound bound weight best bestOf chosen listApart f yardBound queued wordAt pick insert hold greatestHeld entry left noElement againKey waiting nextPlace nextF queueChildren openInner queueNext closeLeaf openLeaf takeRegion takeYard nextRegion nextYard leastKey step settled start advance run
+pub ties : run (three (from0 ∷ [])) 1 .state .gone ∷ run (three (from2 ∷ from0 ∷ [])) 1 .state .gone ∷ []
+    ≡ (true ∷ false ∷ false ∷ []) ∷ (false ∷ false ∷ true ∷ []) ∷ []
+unfolding onChain at leafOf three from0 from2 choose leafMark innerMark firstDistance lastFrom noRegion regionAt all comes names once inRange namedBy firstList
+    agreeing sameYards leafOk siblings subtree endOf starts childrenOf size children marks leaf apart combine aggregate greatestOf leastFrom leastOf crewBound
+    noMark sheetAt lower upper over total markBound bound weight best bestOf chosen listApart f yardBound queued wordAt pick insert hold greatestHeld entry
+    left noElement againKey waiting nextPlace nextF queueChildren openInner queueNext closeLeaf openLeaf takeRegion takeYard nextRegion nextYard leastKey step
+    settled start advance run
 ties = refl
 
 pub orders : run (three (from0 ∷ [])) 2 .state .measured ∷ run twoLeaves 6 .state .measured ∷ [] ≡ [] ∷ (1 ∷ []) ∷ []
-unfolding onChain at leafOf three from0 from2 twoLeaves eight choose leafMark innerMark firstDistance lastFrom noRegion regionAt all comes names once inRange namedBy firstList agreeing sameYards leafOk siblings subtree endOf starts childrenOf size children marks leaf apart combine aggregate greatestOf leastFrom leastOf crewBound noMark sheetAt lower upper over total markBound bound weight best bestOf chosen listApart f yardBound queued wordAt pick insert hold greatestHeld entry left noElement againKey waiting nextPlace nextF queueChildren openInner queueNext closeLeaf openLeaf takeRegion takeYard nextRegion nextYard leastKey step settled start advance run
+unfolding onChain at leafOf three from0 from2 twoLeaves eight choose leafMark innerMark firstDistance lastFrom noRegion regionAt all comes names once inRange
+    namedBy firstList agreeing sameYards leafOk siblings subtree endOf starts childrenOf size children marks leaf apart combine aggregate greatestOf leastFrom
+    leastOf crewBound noMark sheetAt lower upper over total markBound bound weight best bestOf chosen listApart f yardBound queued wordAt pick insert hold
+    greatestHeld entry left noElement againKey waiting nextPlace nextF queueChildren openInner queueNext closeLeaf openLeaf takeRegion takeYard nextRegion
+    nextYard leastKey step settled start advance run
 orders = refl

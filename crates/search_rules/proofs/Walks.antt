@@ -31,12 +31,14 @@ module _ (road tree : List ℕ) (code goal : ℕ) (crews : List ℕ) (p : Passed
 
   -- ---- a yard's aggregate is that of the walks' least totals, and no other number is
 
-  aggregate-least : (y : ℕ) → y < junctions road → (qs : List ℕ) → ((q : ℕ) → Mem q qs → q < junctions road) → AggregateLeast (net road) code y qs (aggregate code (λ q. dist road q y) qs)
+  aggregate-least : (y : ℕ) → y < junctions road → (qs : List ℕ) → ((q : ℕ) → Mem q qs → q < junctions road)
+      → AggregateLeast (net road) code y qs (aggregate code (λ q. dist road q y) qs)
   unfolding aggregate
   aggregate-least y h [] k = none
   aggregate-least y h (q ∷ qs) k = more (metric road (p .roads) .least q y (k q (head refl)) h) (aggregate-least y h qs (λ x j. k x (tail j)))
 
-  aggregate-one : (y : ℕ) → y < junctions road → {qs : List ℕ} {s : ℕ} → ((q : ℕ) → Mem q qs → q < junctions road) → AggregateLeast (net road) code y qs s → s ≡ aggregate code (λ q. dist road q y) qs
+  aggregate-one : (y : ℕ) → y < junctions road → {qs : List ℕ} {s : ℕ} → ((q : ℕ) → Mem q qs → q < junctions road) → AggregateLeast (net road) code y qs s
+      → s ≡ aggregate code (λ q. dist road q y) qs
   unfolding aggregate
   aggregate-one y h k none = refl
   aggregate-one y h k (more {q = q} {t = t} {s = s} {qs = qs} l a) =

@@ -38,7 +38,8 @@ unfoldable pub crewBound : (lb ub a b : ℕ) → ℕ
 crewBound lb ub a b = choose (leb b lb) (lb - b) (choose (leb ub a) (a - ub) 0)
 
 module _ (i : Instance) where
-  -- "The sheet holds d from the root's landmarks r to every junction." Its rows are the root's landmarks; this is row r at junction v.
+  -- "The sheet holds d from the root's landmarks r to every junction." Its rows are the root's landmarks; this is row r
+  -- at junction v.
   unfoldable pub sheetAt : Mark → ℕ → ℕ
   sheetAt r v = i .d (r .place) v
 
@@ -91,6 +92,7 @@ module _ (i : Instance) where
   unfoldable pub f : Mark → Element → ℕ
   f m e = over (listApart m e)
 
-  -- "A yard's bound takes per crew the greatest of these differences over the sheet's landmarks and l (for l with the list's distance), then aggregates."
+  -- "A yard's bound takes per crew the greatest of these differences over the sheet's landmarks and l (for l with the
+  -- list's distance), then aggregates."
   unfoldable pub yardBound : Mark → Element → ℕ
   yardBound m e = over (λ q. max (lower (e .yard) q) (listApart m e q))

@@ -1,4 +1,5 @@
--- What is asked of an instance: the tree's shape, the limits of its numbers, the laws of the distance, and the truth of the tree's numbers.
+-- What is asked of an instance: the tree's shape, the limits of its numbers, the laws of the distance, and the truth of
+-- the tree's numbers.
 -- The layers below provide them. Assumes nothing: these are statements.
 use mathlib.Core.Path.{_≡_}
 use mathlib.Core.Logic.{_≢_}
@@ -33,18 +34,24 @@ pub record Shape (i : Instance) : Type 0 where
   pub marked : (r : ℕ) → r < size i → marks i r ≢ []
   pub places : (r : ℕ) (m : Mark) → Mem m (marks i r) → m .place < i .tree .junctions
   -- a leaf's lists name the same yards, at least one, each once; they are junctions; no yard is in two leaves
-  pub alike : (r : ℕ) (m n : Mark) (y : ℕ) → T (leaf i r) → Mem m (marks i r) → Mem n (marks i r) → Listed m y → Listed n y
+  pub alike : (r : ℕ) (m n : Mark) (y : ℕ) → T (leaf i r) → Mem m (marks i r) → Mem n (marks i r) → Listed m y
+      → Listed n y
   pub some-yard : (r : ℕ) (m : Mark) → T (leaf i r) → Mem m (marks i r) → m .list ≢ []
-  pub yards : (r : ℕ) (m : Mark) (e : Element) → T (leaf i r) → Mem m (marks i r) → Mem e (m .list) → e .yard < i .tree .junctions
-  pub once-listed : (r : ℕ) (m : Mark) (e g : Element) → T (leaf i r) → Mem m (marks i r) → Mem e (m .list) → Mem g (m .list) → e .yard ≡ g .yard → e ≡ g
-  pub one-leaf : (r s : ℕ) (m n : Mark) (y : ℕ) → T (leaf i r) → T (leaf i s) → Mem m (marks i r) → Mem n (marks i s) → Listed m y → Listed n y → r ≡ s
+  pub yards : (r : ℕ) (m : Mark) (e : Element) → T (leaf i r) → Mem m (marks i r) → Mem e (m .list)
+      → e .yard < i .tree .junctions
+  pub once-listed : (r : ℕ) (m : Mark) (e g : Element) → T (leaf i r) → Mem m (marks i r) → Mem e (m .list)
+      → Mem g (m .list) → e .yard ≡ g .yard → e ≡ g
+  pub one-leaf : (r s : ℕ) (m n : Mark) (y : ℕ) → T (leaf i r) → T (leaf i s) → Mem m (marks i r)
+      → Mem n (marks i s) → Listed m y → Listed n y → r ≡ s
   -- a crew stands at a junction
   pub crews : (q : ℕ) → Mem q (i .crews) → q < i .tree .junctions
 
--- The limits of numbers: of distances, true and stored, and of an inner region's least, which "may be any u32"; "crews u8 (1 to 16)".
+-- The limits of numbers: of distances, true and stored, and of an inner region's least, which "may be any u32"; "crews
+-- u8 (1 to 16)".
 pub record Small (i : Instance) : Type 0 where
   pub distances : (u v : ℕ) → u < i .tree .junctions → v < i .tree .junctions → i .d u v ≤ 67042305
-  pub lists : (r : ℕ) (m : Mark) (e : Element) → T (leaf i r) → Mem m (marks i r) → Mem e (m .list) → e .distance ≤ 67042305
+  pub lists : (r : ℕ) (m : Mark) (e : Element) → T (leaf i r) → Mem m (marks i r) → Mem e (m .list)
+      → e .distance ≤ 67042305
   pub least : (r : ℕ) (m : Mark) → Mem m (marks i r) → m .least ≤ 4294967295
   pub few-crews : length (i .crews) ≤ 16
 
@@ -55,15 +62,18 @@ pub record WellFormed (i : Instance) : Type 0 where
 
 -- the law of the distance between junctions that one-way roads keep
 pub record Metric (i : Instance) : Type 0 where
-  pub triangle : (u v w : ℕ) → u < i .tree .junctions → v < i .tree .junctions → w < i .tree .junctions → i .d u w ≤ i .d u v + i .d v w
+  pub triangle : (u v w : ℕ) → u < i .tree .junctions → v < i .tree .junctions → w < i .tree .junctions
+      → i .d u w ≤ i .d u v + i .d v w
 
 -- "A road runs both ways": the distance there is the distance back
 pub record Symmetric (i : Instance) : Type 0 where
   pub turn : (u v : ℕ) → u < i .tree .junctions → v < i .tree .junctions → i .d u v ≡ i .d v u
 
--- The tree's numbers are true: a list's distances are those from its landmark, and a landmark's least and greatest enclose those to the yards below its region.
+-- The tree's numbers are true: a list's distances are those from its landmark, and a landmark's least and greatest
+-- enclose those to the yards below its region.
 pub record Truth (i : Instance) : Type 0 where
-  pub lists : (r : ℕ) (m : Mark) (e : Element) → T (leaf i r) → Mem m (marks i r) → Mem e (m .list) → e .distance ≡ i .d (m .place) (e .yard)
+  pub lists : (r : ℕ) (m : Mark) (e : Element) → T (leaf i r) → Mem m (marks i r) → Mem e (m .list)
+      → e .distance ≡ i .d (m .place) (e .yard)
   pub least : (r : ℕ) (m : Mark) (y : ℕ) → Mem m (marks i r) → Below i r y → m .least ≤ i .d (m .place) y
   pub greatest : (r : ℕ) (m : Mark) (y : ℕ) → Mem m (marks i r) → Below i r y → i .d (m .place) y ≤ m .greatest
 

@@ -7,7 +7,8 @@ use lib.Dec.{eqb}
 use Rattle.tree_layout.specs.Values.{Mark, Tree, regionAt}
 use Rattle.tree.specs.Yards.{childrenOf}
 
--- The aggregate's code (0 is the sum, 1 the maximum), k (how many yards are listed at most), the crews' junctions (query vertices; "two crews may
+-- The aggregate's code (0 is the sum, 1 the maximum), k (how many yards are listed at most), the crews' junctions
+-- (query vertices; "two crews may
 -- stand at one junction and both count"), the tree, and d u v, "the least total of seconds over all walks from u to v".
 pub record Instance : Type 0 where
   pub code : ℕ

@@ -6,7 +6,8 @@ use lib.ListN.{getD}
 use lib.Dec.{ltb}
 use Rattle.book.specs.Choose.{choose}
 
--- The word of what is not queued: the greatest of 64 bits. Every key is far below it (`Limited` and `Decided`, of specs/Theorems.antt).
+-- The word of what is not queued: the greatest of 64 bits. Every key is far below it (`Limited` and `Decided`, of
+-- specs/Theorems.antt).
 abbrev pub unqueued : ℕ
 unqueued = 18446744073709551615
 

@@ -1,4 +1,5 @@
--- "Bounds and steps", its steps: a search's state, one step, and when it is settled. Assumes nothing: these are definitions.
+-- "Bounds and steps", its steps: a search's state, one step, and when it is settled. Assumes nothing: these are
+-- definitions.
 use mathlib.Core.Bool.{Bool, true, false, not, _&&_, _||_}
 use mathlib.Core.List.{List, [], _∷_}
 use Prim.Native.Nat.{ℕ, min, max}
@@ -11,7 +12,8 @@ use Rattle.search_rules.specs.Bounds.{bound, chosen, f, yardBound}
 use Rattle.search_rules.specs.Queue.{unqueued, queued, wordAt, pick}
 use Rattle.search_rules.specs.Held.{hold, greatestHeld, entry}
 
--- For each region and for each junction its word in the queue; for each region its first key (or `unqueued` before it has one); for each junction whether
+-- For each region and for each junction its word in the queue; for each region its first key (or `unqueued` before it
+-- has one); for each junction whether
 -- its yard has left its leaf; the held yards; the measured yards, the last one first.
 pub record State : Type 0 where
   pub regionKeys : List ℕ
@@ -67,7 +69,8 @@ module _ (i : Instance) where
     measured = st .measured;
   }
 
-  -- "A leaf queues its next yard and, if any remain, itself": leaf r, its first key, its landmark and its next element. "Its key is the greater of
+  -- "A leaf queues its next yard and, if any remain, itself": leaf r, its first key, its landmark and its next element.
+  -- "Its key is the greater of
   -- its bound and the leaf's first key."
   unfoldable pub queueNext : State → ℕ → ℕ → Mark → Element → State
   queueNext st r first m e =
@@ -142,9 +145,11 @@ module _ (i : Instance) where
       let taken = choose (ltb b a) onYard onRegion in
       choose (queued (min a b)) taken st
 
-  -- "The search is settled when the queue is empty, or k are held and every queued key is above the greatest held distance."
+  -- "The search is settled when the queue is empty, or k are held and every queued key is above the greatest held
+  -- distance."
   unfoldable pub settled : State → Bool
-  settled st = not (queued (leastKey st)) || (eqb (length (st .held)) (i .k) && ltb (greatestHeld (st .held)) (leastKey st))
+  settled st = not (queued (leastKey st)) || (eqb (length (st .held)) (i .k)
+      && ltb (greatestHeld (st .held)) (leastKey st))
 
   -- "The queue starts with the root."
   unfoldable pub start : State

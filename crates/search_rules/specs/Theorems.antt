@@ -36,7 +36,8 @@ pub record TreeYards (i : Instance) (ys : List ℕ) : Type 0 where
   pub below : (y : ℕ) → Mem y ys → Below i 0 y
   pub every : (y : ℕ) → Below i 0 y → Mem y ys
 
--- what holds of a list of yards whatever the tree's numbers say: "with true distances, distinct yards and yard order, but a yard may be left out"
+-- what holds of a list of yards whatever the tree's numbers say: "with true distances, distinct yards and yard order,
+-- but a yard may be left out"
 pub record Listing (i : Instance) (list : List Element) : Type 0 where
   pub sorted : Sorted list
   pub distances : (h : Element) → Mem h list → h .distance ≡ total i (h .yard)
@@ -80,7 +81,8 @@ pub record Limited (i : Instance) : Type 0 where
   pub bounds : (r : ℕ) → bound i r ≤ 68719476720
   pub weights : (r : ℕ) (m : Mark) → Mem m (marks i r) → weight i m ≤ 1072676880
   pub fs : (r : ℕ) (m : Mark) (e : Element) → T (leaf i r) → Mem m (marks i r) → Mem e (m .list) → f i m e ≤ 1072676880
-  pub yardBounds : (r : ℕ) (m : Mark) (e : Element) → T (leaf i r) → Mem m (marks i r) → Mem e (m .list) → yardBound i m e ≤ 1072676880
+  pub yardBounds : (r : ℕ) (m : Mark) (e : Element) → T (leaf i r) → Mem m (marks i r) → Mem e (m .list)
+      → yardBound i m e ≤ 1072676880
   pub totals : (y : ℕ) → y < i .tree .junctions → total i y ≤ 1072676880
 
 -- ---- the theorems
@@ -89,12 +91,14 @@ pub record Limited (i : Instance) : Type 0 where
 pub record Bounded (i : Instance) : Type 0 where
   pub of-region : (r y : ℕ) → Below i r y → bound i r ≤ total i y
   pub of-element : (m : Mark) (e : Element) → f i m e ≤ yardBound i m e
-  pub of-yard : (r : ℕ) (m : Mark) (e : Element) → T (leaf i r) → Mem m (marks i r) → Mem e (m .list) → yardBound i m e ≤ total i (e .yard)
+  pub of-yard : (r : ℕ) (m : Mark) (e : Element) → T (leaf i r) → Mem m (marks i r) → Mem e (m .list)
+      → yardBound i m e ≤ total i (e .yard)
 
 -- of any search on a tree of sound layout and shape, whatever the tree's numbers say
 pub record Decided (i : Instance) (limit : ℕ) : Type 0 where
   pub listing : Listing i (run i limit .state .held)
-  -- the held yards are the first k of the measured yards, of which none is measured twice, and each is a yard of the tree
+  -- the held yards are the first k of the measured yards, of which none is measured twice, and each is a yard of the
+  -- tree
   pub held : run i limit .state .held ≡ take (i .k) (ranked i (run i limit .state .measured))
   pub measured-once : Distinct (run i limit .state .measured)
   pub measured-in : (y : ℕ) → Mem y (run i limit .state .measured) → Below i 0 y
@@ -105,15 +109,19 @@ pub record Decided (i : Instance) (limit : ℕ) : Type 0 where
   -- a settled search stays as it is under a greater limit
   pub stays : T (settled i (run i limit .state)) → (more : ℕ) → run i (limit + more) ≡ run i limit
   -- inner regions plus twice the yards are enough
-  pub ends : (ys : List ℕ) → TreeYards i ys → inners (i .tree) + 2 * length ys ≤ limit → T (settled i (run i limit .state))
+  pub ends : (ys : List ℕ) → TreeYards i ys → inners (i .tree) + 2 * length ys ≤ limit
+      → T (settled i (run i limit .state))
   -- no key is above sixteen times a u32
   pub fits : Fits 68719476720 (run i limit .state)
 
 -- of a settled search on a true tree
 pub record Right (i : Instance) (limit : ℕ) : Type 0 where
   pub complete : Complete i (run i limit .state .held)
-  -- every measured yard was queued with a key, and if k are held, neither its key nor its bound is above the last held distance
+  -- every measured yard was queued with a key, and if k are held, neither its key nor its bound is above the last held
+  -- distance
   pub keyed : (y : ℕ) → Mem y (run i limit .state .measured) → (a : ℕ) × KeyOf i (run i limit .state .firsts) y a
-  pub key-within : length (run i limit .state .held) ≡ i .k → (y a : ℕ) → Mem y (run i limit .state .measured) → KeyOf i (run i limit .state .firsts) y a → a ≤ greatestHeld (run i limit .state .held)
-  pub bound-within : length (run i limit .state .held) ≡ i .k → (r : ℕ) (e : Element) → T (leaf i r) → r < size i → Mem e (chosen i r .list) → Mem (e .yard) (run i limit .state .measured)
+  pub key-within : length (run i limit .state .held) ≡ i .k → (y a : ℕ) → Mem y (run i limit .state .measured)
+      → KeyOf i (run i limit .state .firsts) y a → a ≤ greatestHeld (run i limit .state .held)
+  pub bound-within : length (run i limit .state .held) ≡ i .k → (r : ℕ) (e : Element) → T (leaf i r) → r < size i
+      → Mem e (chosen i r .list) → Mem (e .yard) (run i limit .state .measured)
       → yardBound i (chosen i r) e ≤ greatestHeld (run i limit .state .held)

@@ -1,4 +1,5 @@
--- Aggregates by the walks' own definition of distance, and what a settled list has by it. Assumes nothing: these are statements.
+-- Aggregates by the walks' own definition of distance, and what a settled list has by it. Assumes nothing: these are
+-- statements.
 use mathlib.Core.Path.{_≡_}
 use mathlib.Core.Logic.{_⊎_}
 use mathlib.Core.List.{List, [], _∷_, List·Memᴰ as Mem}
@@ -13,13 +14,17 @@ use Rattle.search_rules.specs.Theorems.{Sorted, Out}
 -- a number is the aggregate over crews of the least totals of walks from each to junction y
 pub data AggregateLeast (arcs : List Arc) (code y : ℕ) : List ℕ → ℕ → Type 0 where
   none : AggregateLeast arcs code y [] 0
-  more : {q t s : ℕ} {qs : List ℕ} → Least arcs q y t → AggregateLeast arcs code y qs s → AggregateLeast arcs code y (q ∷ qs) (combine code t s)
+  more : {q t s : ℕ} {qs : List ℕ} → Least arcs q y t → AggregateLeast arcs code y qs s
+      → AggregateLeast arcs code y (q ∷ qs) (combine code t s)
 
--- the first k of some yards, "by aggregate least distance .. and then junction number, each with that distance", or all if fewer
+-- the first k of some yards, "by aggregate least distance .. and then junction number, each with that distance", or all
+-- if fewer
 pub record FirstYards (arcs : List Arc) (code k : ℕ) (crews ys : List ℕ) (list : List Element) : Type 0 where
   pub sorted : Sorted list
   pub distances : (e : Element) → Mem e list → AggregateLeast arcs code (e .yard) crews (e .distance)
   pub yards : (e : Element) → Mem e list → Mem (e .yard) ys
   pub number : length list ≡ min k (length ys)
-  -- "no yard left out comes before one listed": a yard with its aggregate is listed, or k are listed and it comes after every one of them
-  pub rest : (h : Element) → Mem (h .yard) ys → AggregateLeast arcs code (h .yard) crews (h .distance) → Mem h list ⊎ Out k list h
+  -- "no yard left out comes before one listed": a yard with its aggregate is listed, or k are listed and it comes after
+  -- every one of them
+  pub rest : (h : Element) → Mem (h .yard) ys → AggregateLeast arcs code (h .yard) crews (h .distance)
+      → Mem h list ⊎ Out k list h

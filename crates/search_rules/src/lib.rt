@@ -1,1 +1,2 @@
-// The rules of the search as definitions (specs/), and what is proved of them (proofs/). The code that follows them stands in a crate above.
+// The rules of the search as definitions (specs/), and what is proved of them (proofs/). The code that follows them
+// stands in a crate above.

@@ -18,7 +18,7 @@ ghost use Rattle.search_rules.specs.Run.{answer};
 ghost use Rattle.search_bounds.specs.Rows.{Rows};
 ghost use Rattle.search_bounds.specs.Bounds.{rowsBound, Crews};
 ghost use Rattle.search_state.specs.State.{wordCount};
-ghost use Rattle.search_inner.specs.Children.{Ended};
+ghost use Rattle.search_step.specs.Children.{Ended};
 ghost use Rattle.search_leaf.specs.Ready.{Ready, Readied};
 ghost use Rattle.search_run.specs.Answers.{putRoot, answerOf};
 

@@ -6,7 +6,7 @@ use Prim.Native.Nat.{ℕ, zero, suc, _+_, _-_, _≤_, _<_}
 use native.Mathlib.Omega.{arith}
 use borrow.Author.Tests.{ne-eqb}
 use lib.ListN.{length, getD, take, drop, set, replicate, length-take, length-drop}
-use lib.Seq.{take-set-le, take-set-lt, drop-set-lt, drop-set-add, getD-take, getD-drop, drop-drop}
+use lib.Seq.{take-set-le, take-set-lt, drop-set-lt, drop-set-add, getD-take, getD-drop}
 use lib.Dec.{eqb}
 use Rattle.search_held.specs.declared.Held.{Held}
 use Rattle.search_held.specs.Pairs.{heldOf}
@@ -26,25 +26,20 @@ module _ (ws : List ℕ) (at n : ℕ) where
   part-at i j d e h = rw e (getD-take n (drop at ws) i d h ∙ getD-drop at ws i d)
 
   -- a store to its word number i, before it, and past it
-  pub part-in : (i j x : ℕ) → j ≡ at + i → i < n → part (set ws j x) at n ≡ set (part ws at n) i x
+  part-in : (i j x : ℕ) → j ≡ at + i → i < n → part (set ws j x) at n ≡ set (part ws at n) i x
   unfolding part
   part-in i j x e h = rw (e, drop-set-add at ws i x, take-set-lt n (drop at ws) i x h) refl
 
-  pub part-before : (j x : ℕ) → j < at → part (set ws j x) at n ≡ part ws at n
+  part-before : (j x : ℕ) → j < at → part (set ws j x) at n ≡ part ws at n
   unfolding part
   part-before j x h = rw (drop-set-lt at ws j x h) refl
 
-  pub part-past : (j x : ℕ) → at + n ≤ j → part (set ws j x) at n ≡ part ws at n
+  part-past : (j x : ℕ) → at + n ≤ j → part (set ws j x) at n ≡ part ws at n
   unfolding part
   part-past j x h = go (j - at) (omega arith) (omega arith)
     where
       go : (i : ℕ) → j ≡ at + i → n ≤ i → part (set ws j x) at n ≡ part ws at n
       go i e k = rw (e, drop-set-add at ws i x, take-set-le n (drop at ws) i x k) refl
-
-  -- from a later place on
-  pub part-drop : (m : ℕ) → part (drop m ws) at n ≡ part ws (m + at) n
-  unfolding part
-  part-drop m = rw (drop-drop at m ws) refl
 
 -- the first words
 pub part-all : (ws : List ℕ) (n : ℕ) → part ws 0 n ≡ take n ws
@@ -68,24 +63,24 @@ part-replicate m x at n h = ap (take n) (drop-replicate at m x) ∙ take-replica
 
 -- ---- the words that are 0
 
-pub zeros-length : (ws : List ℕ) → length (zeros ws) ≡ length ws
+zeros-length : (ws : List ℕ) → length (zeros ws) ≡ length ws
 unfolding zeros
 zeros-length [] = refl
 zeros-length (w ∷ ws) = ap suc (zeros-length ws)
 
-pub zeros-at : (ws : List ℕ) (i d : ℕ) → i < length ws → getD (zeros ws) i false ≡ eqb (getD ws i d) 0
+zeros-at : (ws : List ℕ) (i d : ℕ) → i < length ws → getD (zeros ws) i false ≡ eqb (getD ws i d) 0
 unfolding zeros
 zeros-at [] i d h = absurd (omega arith)
 zeros-at (w ∷ ws) zero d h = refl
 zeros-at (w ∷ ws) (suc i) d h = zeros-at ws i d (omega arith)
 
-pub zeros-set : (ws : List ℕ) (i : ℕ) → zeros (set ws i 0) ≡ set (zeros ws) i true
+zeros-set : (ws : List ℕ) (i : ℕ) → zeros (set ws i 0) ≡ set (zeros ws) i true
 unfolding zeros
 zeros-set [] i = refl
 zeros-set (w ∷ ws) zero = refl
 zeros-set (w ∷ ws) (suc i) = ap (λ (l : List Bool). eqb w 0 ∷ l) (zeros-set ws i)
 
-pub zeros-replicate : (n x : ℕ) → (x ≡ 0 → ⊥) → zeros (replicate n x) ≡ replicate n false
+zeros-replicate : (n x : ℕ) → (x ≡ 0 → ⊥) → zeros (replicate n x) ≡ replicate n false
 unfolding zeros
 zeros-replicate zero x h = refl
 zeros-replicate (suc n) x h = rw (ne-eqb x 0 h, zeros-replicate n x h) refl

@@ -120,10 +120,10 @@ module _ (r n : ℕ) (ws : List ℕ) (size-is : length ws ≡ wordCount r n) (so
     abbrev st : State
     st = stateOf r n ws held measured count
 
-    pub keys-of : st .regionKeys ≡ keys
+    keys-of : st .regionKeys ≡ keys
     keys-of = ap (λ (s : State). s .regionKeys) (state-by (parts-of r n ws) held measured count)
 
-    pub yards-of : st .yardKeys ≡ yards
+    yards-of : st .yardKeys ≡ yards
     yards-of = ap (λ (s : State). s .yardKeys) (state-by (parts-of r n ws) held measured count)
 
     region-is : nextRegion i st ≡ pick keys r

@@ -14,7 +14,8 @@ use Rattle.search_held.specs.declared.Held.{Held}
 use Rattle.search_held.specs.Pairs.{heldOf}
 
 -- The words of a search of r regions and n junctions, each part one word for each of them, one part after the other:
--- regions' keys, yards' keys, regions' first keys, the landmarks that leaves picked, yards' f, yards' bounds, and which yards have left (0 if so).
+-- regions' keys, yards' keys, regions' first keys, the landmarks that leaves picked, yards' f, yards' bounds, and which
+-- yards have left (0 if so).
 abbrev pub wordCount : ℕ → ℕ → ℕ
 wordCount r n = 3 * r + 4 * n
 
@@ -73,7 +74,8 @@ unfoldable pub newest : List ℕ → ℕ → List ℕ
 newest l zero = []
 newest l (suc n) = getD l n 0 ∷ newest l n
 
--- the state of a search of r regions and n junctions: its words, the held yards, and the measured yards with their number
+-- the state of a search of r regions and n junctions: its words, the held yards, and the measured yards with their
+-- number
 unfoldable pub stateOf : (r n : ℕ) → (ws : List ℕ) → Held → (measured : List ℕ) → ℕ → State
 stateOf r n ws held measured count = record {
   regionKeys = regionKeysIn r n ws;
@@ -84,7 +86,8 @@ stateOf r n ws held measured count = record {
   measured = newest measured count;
 }
 
--- "The search is settled when the queue is empty, or k are held and every queued key is above the greatest held distance.": by the least key
+-- "The search is settled when the queue is empty, or k are held and every queued key is above the greatest held
+-- distance.": by the least key
 unfoldable pub settledBy : (k least : ℕ) → Held → Bool
 settledBy k least held = not (queued least) || (eqb (held .count) k && ltb (greatestHeld (heldOf held)) least)
 

@@ -26,8 +26,8 @@ use Rattle.search_bounds.proofs.Searching.{bound-of}
 use Rattle.search_held.specs.declared.Held.{Held}
 use Rattle.search_state.specs.State.{regionKeysIn, yardKeysIn, firstsIn, picksIn, fsIn, boundsIn, goneIn, stateOf}
 use Rattle.search_state.proofs.Cells.{Parts, parts-of, store-key, state-by, counts-of}
-use Rattle.search_inner.specs.Children.{keyOf, putKeys, Slots}
-use Rattle.search_inner.proofs.Queueing.{key-of, put-parts}
+use Rattle.search_step.specs.Children.{keyOf, putKeys, Slots}
+use Rattle.search_step.proofs.Queueing.{key-of, put-parts}
 use Rattle.search_leaf.specs.Ready.{Ready, Cached, Leafed}
 use Rattle.search_leaf.proofs.Landmarks.{well, size-of, tree-junctions}
 use Rattle.search_step.specs.Regions.{Queued}

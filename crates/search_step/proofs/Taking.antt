@@ -27,8 +27,8 @@ use Rattle.search_state.specs.State.{wordCount, regionKeysIn, yardKeysIn, first
 use Rattle.search_state.proofs.Cells.{Parts, parts-of, store-yard, state-by}
 use Rattle.search_state.proofs.Choosing.{picked-inside, picked-word, picked-region, picked-most, picked-yard, picked-less, region-low}
 use Rattle.search_state.proofs.Newest.{newest-length}
-use Rattle.search_yards.specs.Measures.{IsDriven, totalOf}
-use Rattle.search_yards.proofs.Searching.{total-of}
+use Rattle.search_bounds.specs.Measures.{IsDriven, totalOf}
+use Rattle.search_bounds.proofs.YardsSearching.{total-of}
 use Rattle.search_leaf.specs.Ready.{Ready, Readied, Cached}
 use Rattle.search_leaf.proofs.Landmarks.{well, driven-of}
 use Rattle.search_step.specs.Regions.{Queued, Going, Least}

@@ -1,4 +1,5 @@
 // One step of a search.
+pub mod inner; // inner.rt: an inner region is taken: it queues its children.
 mod measuring; // measuring.rt: a yard is taken
 mod regions; // regions.rt: a region is taken
 
@@ -14,7 +15,7 @@ ghost use Rattle.tree_layout.specs.Decode.{junctionCount};
 ghost use Rattle.search_rules.specs.Books.{searchOf};
 ghost use Rattle.search_rules.specs.Step.{step};
 ghost use Rattle.search_state.specs.State.{wordCount, picksIn, fsIn, boundsIn, stateOf};
-ghost use Rattle.search_inner.specs.Children.{Ended};
+ghost use Rattle.search_step.specs.Children.{Ended};
 ghost use Rattle.search_leaf.specs.Ready.{Ready, Readied, Cached};
 ghost use Rattle.search_step.specs.Regions.{Going, Least};
 

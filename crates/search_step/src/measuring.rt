@@ -11,7 +11,7 @@ ghost use Rattle.tree_layout.specs.Reading.{element};
 ghost use Rattle.search_rules.specs.Held.{hold};
 ghost use Rattle.search_held.specs.Pairs.{heldOf};
 ghost use Rattle.search_state.specs.State.{newest};
-ghost use Rattle.search_yards.specs.Measures.{Driven, IsDriven, totalOf};
+ghost use Rattle.search_bounds.specs.Measures.{Driven, IsDriven, totalOf};
 
 // Measures yard y: it is the last of the measured yards.
 pub fn take(
@@ -37,7 +37,7 @@ pub fn take(
 {
     let count = progress.measured;
     measured[count] = y.number;
-    let total = search_yards::measure(drives, crews, asked.aggregate, y);
+    let total = search_bounds::yards::measure(drives, crews, asked.aggregate, y);
     let before = progress.held;
     let held = search_held::hold(before, asked.k as usize, y.number, total);
     Progress {

@@ -1,4 +1,5 @@
 // A region is taken: a leaf queues its next yard and itself, an inner region its children.
+use crate::inner;
 use query::Query;
 use tree_layout::Region;
 ghost use mathlib.Core.Path.{_≡_};
@@ -10,7 +11,7 @@ ghost use Rattle.search_rules.specs.Books.{searchOf};
 ghost use Rattle.search_rules.specs.Step.{takeRegion};
 ghost use Rattle.search_held.specs.declared.Held.{Held};
 ghost use Rattle.search_state.specs.State.{picksIn, fsIn, boundsIn, stateOf};
-ghost use Rattle.search_inner.specs.Children.{Ended};
+ghost use Rattle.search_step.specs.Children.{Ended};
 ghost use Rattle.search_leaf.specs.Ready.{Ready, Readied, Cached};
 ghost use Rattle.search_step.specs.Regions.{Queued};
 
@@ -55,7 +56,7 @@ pub fn take(
         search_leaf::take(tree, places, sheet, drives, crews, asked, words, r);
         return;
     }
-    search_inner::open_inner(
+    inner::open_inner(
         tree,
         places,
         ends,

@@ -60,7 +60,8 @@ module _ (b : List ℕ) (ok : layoutRefusal b ≡ 0) where
       prefix-laid = record {
         layout = layout;
         count = sym prefix-length ∙ n-is;
-        held = λ i h. getD-take n qs i 0 (omega (arith, prefix-length)) ∙ rw filled (overwrite-new (placeOf b) ps (regionCount b) i (omega (arith, prefix-length, n-is)) (omega (arith, layout .regions .1)));
+        held = λ i h. getD-take n qs i 0 (omega (arith, prefix-length))
+            ∙ rw filled (overwrite-new (placeOf b) ps (regionCount b) i (omega (arith, prefix-length, n-is)) (omega (arith, layout .regions .1)));
       }
 
       places-are : qs ≡ placesAfter b ps
@@ -72,18 +73,31 @@ module _ (b : List ℕ) (ok : layoutRefusal b ≡ 0) where
         pub unshaped : shaped (decode b) ≡ false → (7 ≡ treeRefusal b) × ((qs ≡ placesAfter b ps) × (es ≡ endsAfter b es))
         unfolding endsAfter
         unshaped t =
-            let r = unshaped-is t in
-            (sym r, (places-are, sym (choose-no (eqb (treeRefusal b) 0) (overwrite (endOf (decode b .regions)) (regionCount b) es) es (ne→neqb (treeRefusal b) 0 (λ e. omega arith)))))
+            let r = unshaped-is t in (
+              sym r,
+              (
+                places-are,
+                sym (choose-no (eqb (treeRefusal b) 0) (overwrite (endOf (decode b .regions)) (regionCount b) es) es (ne→neqb (treeRefusal b)
+                    0 (λ e. omega arith))),
+              ),
+            )
 
         -- one with it
         pub ends-need : shaped (decode b) ≡ true → (treeRefusal b ≡ 0) × Laid b (take n qs) × (length (take n qs) ≤ length es)
         ends-need t = (shaped-is t, prefix-laid, omega (arith, prefix-length, n-is, layout .regions .1))
 
-        pub shaped-done : shaped (decode b) ≡ true → (fs : List ℕ) → fs ≡ overwrite (endOf (decode b .regions)) (regionCount b) es → (0 ≡ treeRefusal b) × ((qs ≡ placesAfter b ps) × (fs ≡ endsAfter b es))
+        pub shaped-done : shaped (decode b) ≡ true → (fs : List ℕ) → fs ≡ overwrite (endOf (decode b .regions)) (regionCount b) es
+            → (0 ≡ treeRefusal b) × ((qs ≡ placesAfter b ps) × (fs ≡ endsAfter b es))
         unfolding endsAfter
         shaped-done t fs e =
-            let r = shaped-is t in
-            (sym r, (places-are, e ∙ sym (choose-yes (eqb (treeRefusal b) 0) (overwrite (endOf (decode b .regions)) (regionCount b) es) es (eq→eqb (treeRefusal b) 0 r))))
+            let r = shaped-is t in (
+              sym r,
+              (
+                places-are,
+                e ∙ sym (choose-yes (eqb (treeRefusal b) 0) (overwrite (endOf (decode b .regions)) (regionCount b) es) es (eq→eqb (treeRefusal
+                    b) 0 r)),
+              ),
+            )
 
 -- ---- one that they refuse
 
@@ -98,7 +112,8 @@ module _ (b : List ℕ) (why : ℕ) (e : layoutRefusal b ≡ why) (some : 1 ≤ 
 
   pub refused-ends : (es : List ℕ) → es ≡ endsAfter b es
   unfolding endsAfter
-  refused-ends es = sym (choose-no (eqb (treeRefusal b) 0) (overwrite (endOf (decode b .regions)) (regionCount b) es) es (ne→neqb (treeRefusal b) 0 (λ z. omega (arith, refused-is))))
+  refused-ends es = sym (choose-no (eqb (treeRefusal b) 0) (overwrite (endOf (decode b .regions)) (regionCount b) es) es (ne→neqb (treeRefusal b) 0 (λ z. omega
+      (arith, refused-is))))
 
 -- ---- the answer
 
@@ -119,8 +134,14 @@ pub refused-answer : (b ps es : List ℕ) (o : TreeBook) (why r : ℕ) → o ≡
     → (Refused r ≡ treeOf b) × ((ps ≡ placesAfter b ps) × (es ≡ endsAfter b es))
 refused-answer b ps es o why r e f g =
     let n = refused-number (layoutRefusal b) (headerOf b) why (sym e ∙ f) in
-    let z : r ≡ why = g ∙ (ap layout-number f ∙ layout-answer why) in
-    (unshaped-answer b r (z ∙ sym (refused-is b why (n .0) (n .1))) (λ q. omega (arith, n .1)), (refused-places b why (n .0) (n .1) ps, refused-ends b why (n .0) (n .1) es))
+    let z : r ≡ why = g ∙ (ap layout-number f ∙ layout-answer why) in (
+      unshaped-answer b r (z ∙ sym (refused-is b why (n .0) (n .1))) (λ q. omega (arith, n .1)),
+      (
+        refused-places b why (n .0) (n .1) ps,
+        refused-ends b why (n
+            .0) (n .1) es,
+      ),
+    )
 
 -- ---- an accepted book, for those who read it
 
@@ -163,7 +184,8 @@ module _ (b : List ℕ) (ok : treeRefusal b ≡ 0) where
   pub accepted-room : (n : ℕ) → n ≡ regionCount b → (old new : List ℕ) → 511 ≤ length old → new ≡ endsAfter b old → n ≤ length new
   accepted-room n e old new h z = omega (arith, ap length (ends-are old new z), overwrite-length (endOf (decode b .regions)) old (regionCount b), few)
 
-  pub accepted-ends : (n : ℕ) → n ≡ regionCount b → (old new : List ℕ) → 511 ≤ length old → new ≡ endsAfter b old → (j : ℕ) → j < n → getD (take n new) j 0 ≡ endOf (decode b .regions) j
+  pub accepted-ends : (n : ℕ) → n ≡ regionCount b → (old new : List ℕ) → 511 ≤ length old → new ≡ endsAfter b old → (j : ℕ) → j < n
+      → getD (take n new) j 0 ≡ endOf (decode b .regions) j
   accepted-ends n e old new h z j k =
       getD-take n new j 0 k ∙ rw (ends-are old new z) (overwrite-new (endOf (decode b .regions)) old (regionCount b) j (omega arith) (omega (arith, few)))
 

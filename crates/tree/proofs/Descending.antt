@@ -47,13 +47,15 @@ module _ (rs : List Region) where
 
   -- levels that are left: l is 1 and so many more
   module _ (l k i : ℕ) (some : l ≡ suc k) (inside : i < length rs) where
-    pub inner-end : (first after children yards : ℕ) → regionAt rs i .first ≡ first → regionAt rs i .after ≡ after → regionAt rs i .children ≡ children → regionAt rs i .yards ≡ yards → (children ≡ 0 → ⊥)
+    pub inner-end : (first after children yards : ℕ) → regionAt rs i .first ≡ first → regionAt rs i .after ≡ after → regionAt rs i .children ≡ children
+        → regionAt rs i .yards ≡ yards → (children ≡ 0 → ⊥)
         → subtree rs l i ≡ siblings rs (subtree rs k) children (suc i) first after yards
     inner-end first after children yards p q r s z = rw (some, ← p, ← q, ← r, ← s) (subtree-inner rs k i inside (omega (arith, r, z)))
 
     pub leaf-bad : regionAt rs i .children ≡ 0 → leafOk (regionAt rs i) ≡ false → subtree rs l i ≡ 0
     unfolding subtree
-    leaf-bad c e = rw some (choose-yes (ltb i (length rs)) _ 0 (lt→ltb i (length rs) inside) ∙ (choose-yes (eqb (regionAt rs i .children) 0) _ _ (eq→eqb (regionAt rs i .children) 0 c) ∙ choose-no (leafOk (regionAt rs i)) (suc i) 0 (false-T e)))
+    leaf-bad c e = rw some (choose-yes (ltb i (length rs)) _ 0 (lt→ltb i (length rs) inside)
+        ∙ (choose-yes (eqb (regionAt rs i .children) 0) _ _ (eq→eqb (regionAt rs i .children) 0 c) ∙ choose-no (leafOk (regionAt rs i)) (suc i) 0 (false-T e)))
 
     pub leaf-good : regionAt rs i .children ≡ 0 → leafOk (regionAt rs i) ≡ true → subtree rs l i ≡ suc i
     leaf-good c e = rw some (subtree-leaf rs k i inside c (true-T e))
@@ -77,9 +79,11 @@ module _ (rs : List Region) where
       pub next-none : f i ≡ 0 → siblings rs f n i low high left ≡ 0
       unfolding siblings
       next-none e =
-          rw more (choose-case (λ (x : ℕ). x ≡ 0) (childFits low high left (regionAt rs i .first) (regionAt rs i .after) (regionAt rs i .yards)) (λ t. choose-no (ltb 0 (f i)) _ 0 (not-T (ltb 0 (f i)) (λ u. omega (arith, ltb→lt 0 (f i) u)))) (λ t. refl))
+          rw more (choose-case (λ (x : ℕ). x ≡ 0) (childFits low high left (regionAt rs i .first) (regionAt rs i .after) (regionAt rs i .yards)) (λ t.
+          choose-no (ltb 0 (f i)) _ 0 (not-T (ltb 0 (f i)) (λ u. omega (arith, ltb→lt 0 (f i) u)))) (λ t. refl))
 
       pub next-good : childFits low high left (regionAt rs i .first) (regionAt rs i .after) (regionAt rs i .yards) ≡ true → (f i ≡ 0 → ⊥)
           → siblings rs f n i low high left ≡ siblings rs f k (f i) (regionAt rs i .after) high (left - regionAt rs i .yards)
       unfolding siblings
-      next-good t h = rw more (choose-yes (childFits low high left (regionAt rs i .first) (regionAt rs i .after) (regionAt rs i .yards)) _ 0 (true-T t) ∙ choose-yes (ltb 0 (f i)) _ 0 (lt→ltb 0 (f i) (omega (arith, h))))
+      next-good t h = rw more (choose-yes (childFits low high left (regionAt rs i .first) (regionAt rs i .after) (regionAt rs i .yards)) _ 0 (true-T t)
+          ∙ choose-yes (ltb 0 (f i)) _ 0 (lt→ltb 0 (f i) (omega (arith, h))))

@@ -29,7 +29,8 @@ module _ (rs : List Region) (f : ℕ → ℕ) where
 
   pub siblings-ended : (i low high left e : ℕ) → siblings rs f 0 i low high left ≡ e → 0 < e → (left ≡ 0) × (i ≡ e)
   unfolding siblings
-  siblings-ended i low high left e = choose-case (λ (x : ℕ). x ≡ e → 0 < e → (left ≡ 0) × (i ≡ e)) (eqb left 0) (λ t p q. (eqb→eq left 0 t, p)) (λ t p q. absurd (omega arith))
+  siblings-ended i low high left e = choose-case (λ (x : ℕ). x ≡ e → 0 < e
+      → (left ≡ 0) × (i ≡ e)) (eqb left 0) (λ t p q. (eqb→eq left 0 t, p)) (λ t p q. absurd (omega arith))
 
 -- the number after a subtree is what a descent of all levels finds
 pub end-is : (rs : List Region) (i : ℕ) → endOf rs i ≡ subtree rs levels i
@@ -37,9 +38,11 @@ unfolding endOf
 end-is rs i = refl
 
 -- a descent of fewer levels that takes all regions, from a root with all yards, is a shape
-pub shaped-by : (t : Tree) (l : ℕ) → l ≤ levels → 0 < length (t .regions) → subtree (t .regions) l 0 ≡ length (t .regions) → regionAt (t .regions) 0 .yards ≡ t .yards → T (shaped t)
+pub shaped-by : (t : Tree) (l : ℕ) → l ≤ levels → 0 < length (t .regions) → subtree (t .regions) l 0 ≡ length (t .regions)
+    → regionAt (t .regions) 0 .yards ≡ t .yards → T (shaped t)
 unfolding shaped
 shaped-by t l h p e y =
     let s : levels ≡ (levels - l) + l = omega arith in
     let z : subtree (t .regions) levels 0 ≡ length (t .regions) = rw s (more (t .regions) (levels - l) l 0 (omega (arith, e)) ∙ e) in
-    and-both (eqb (subtree (t .regions) levels 0) (length (t .regions))) _ (eq→eqb (subtree (t .regions) levels 0) (length (t .regions)) z) (eq→eqb (regionAt (t .regions) 0 .yards) (t .yards) y)
+    and-both (eqb (subtree (t .regions) levels 0) (length (t .regions))) _ (eq→eqb (subtree (t .regions) levels 0) (length (t .regions)) z) (eq→eqb (regionAt
+    (t .regions) 0 .yards) (t .yards) y)

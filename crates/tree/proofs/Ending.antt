@@ -74,7 +74,8 @@ module _ (b places : List ℕ) (ok : treeRefusal b ≡ 0) (laid : Laid b places)
   whole = accepted-whole b ok .regions
 
   -- region i, with the ends of all later regions filled in
-  module _ (i later : ℕ) (next : later ≡ suc i) (h : i < length places) (old new : List ℕ) (fits : length places ≤ length old) (so-far : Filled ends later (length places) old new) where
+  module _ (i later : ℕ) (next : later ≡ suc i) (h : i < length places) (old new : List ℕ) (fits : length places ≤ length old) (so-far : Filled ends later
+      (length places) old new) where
     p : Filled ends (suc i) (length places) old new
     p = rw next at so-far
 
@@ -104,9 +105,11 @@ module _ (b places : List ℕ) (ok : treeRefusal b ≡ 0) (laid : Laid b places)
         q ∙ rw (add-one, ← z) (same (regionAt rs i .children) (omega arith) ∙ sym (whole .ends i inside))
 
     -- which is filled in
-    pub ends-step : (f : Fields) → f ≡ fieldsOf b i → (x : ℕ) → x ≡ hops (λ j. getD new j 0) (f .children) (i + 1) → Filled ends i (length places) old (set new i x)
+    pub ends-step : (f : Fields) → f ≡ fieldsOf b i → (x : ℕ) → x ≡ hops (λ j. getD new j 0) (f .children) (i + 1)
+        → Filled ends i (length places) old (set new i x)
     ends-step f e x q = filled-step ends (length places) old i x new p h fits (end-found f e x q)
 
   -- all are filled in
-  pub ends-done : (i : ℕ) (old new : List ℕ) → i ≡ 0 → length places ≤ length old → Filled ends i (length places) old new → new ≡ overwrite ends (regionCount b) old
+  pub ends-done : (i : ℕ) (old new : List ℕ) → i ≡ 0 → length places ≤ length old → Filled ends i (length places) old new
+      → new ≡ overwrite ends (regionCount b) old
   ends-done i old new z k p = filled-end ends (length places) old new (rw z at p) k ∙ rw (laid .count) refl

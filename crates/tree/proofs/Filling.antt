@@ -96,7 +96,8 @@ module _ (f : ℕ → ℕ) (i : ℕ) where
   level-start = let e : (i + 1) - 0 ≡ suc i = omega arith in rw e (omega arith)
 
   -- one region more
-  pub level-next : (n j end one : ℕ) → j ≤ i → end ≡ f j → one ≡ choose {A = ℕ} (ltb i end) 1 0 → n + holders f ((i + 1) - j) j i ≡ levelBy f i → (n + one) + holders f ((i + 1) - (j + 1)) (j + 1) i ≡ levelBy f i
+  pub level-next : (n j end one : ℕ) → j ≤ i → end ≡ f j → one ≡ choose {A = ℕ} (ltb i end) 1 0 → n + holders f ((i + 1) - j) j i ≡ levelBy f i
+      → (n + one) + holders f ((i + 1) - (j + 1)) (j + 1) i ≡ levelBy f i
   unfolding holders
   level-next n j end one h e o z =
       let s : (i + 1) - j ≡ suc ((i + 1) - (j + 1)) = omega arith in
@@ -111,7 +112,12 @@ module _ (f : ℕ → ℕ) (i : ℕ) where
   holders-most : (n j : ℕ) → holders f n j i ≤ n
   unfolding holders
   holders-most zero j = omega arith
-  holders-most (suc n) j = omega (arith, choose-case (λ (x : ℕ). x ≤ 1) (ltb i (f j)) {x = 1} {y = 0} (λ t. omega arith) (λ t. omega arith), holders-most n (suc j))
+  holders-most (suc n) j = omega (
+    arith,
+    choose-case (λ (x : ℕ). x ≤ 1) (ltb i (f j)) {x = 1} {y = 0} (λ t. omega arith) (λ t. omega arith),
+    holders-most n
+        (suc j),
+  )
 
   level-few : levelBy f i ≤ i + 1
   unfolding levelBy

@@ -15,11 +15,14 @@ use Rattle.tree.specs.Yards.{endOf}
 -- n trees side by side: the first of number i, the number after the last region e; their ranges rise from low on up to high; their yards sum to left.
 pub data Forest (rs : List Region) : ℕ → ℕ → ℕ → ℕ → ℕ → ℕ → Type 0 where
   none : {i low high left : ℕ} → i ≤ length rs → left ≡ 0 → Forest rs 0 i low high left i
-  leaf : {i : ℕ} → i < length rs → regionAt rs i .children ≡ 0 → T (leafOk (regionAt rs i)) → endOf rs i ≡ suc i → Forest rs 1 i (regionAt rs i .first) (regionAt rs i .after) (regionAt rs i .yards) (suc i)
-  wrap : {n i e : ℕ} → i < length rs → regionAt rs i .children ≡ n → 0 < n → endOf rs i ≡ e → Forest rs n (suc i) (regionAt rs i .first) (regionAt rs i .after) (regionAt rs i .yards) e
+  leaf : {i : ℕ} → i < length rs → regionAt rs i .children ≡ 0 → T (leafOk (regionAt rs i)) → endOf rs i ≡ suc i
+      → Forest rs 1 i (regionAt rs i .first) (regionAt rs i .after) (regionAt rs i .yards) (suc i)
+  wrap : {n i e : ℕ} → i < length rs → regionAt rs i .children ≡ n → 0 < n → endOf rs i ≡ e
+      → Forest rs n (suc i) (regionAt rs i .first) (regionAt rs i .after) (regionAt rs i .yards) e
       → Forest rs 1 i (regionAt rs i .first) (regionAt rs i .after) (regionAt rs i .yards) e
   join : {n i m low high left e : ℕ} → low ≤ regionAt rs i .first → regionAt rs i .after ≤ high → regionAt rs i .yards ≤ left → endOf rs i ≡ m
-      → Forest rs 1 i (regionAt rs i .first) (regionAt rs i .after) (regionAt rs i .yards) m → Forest rs n m (regionAt rs i .after) high (left - regionAt rs i .yards) e → Forest rs (suc n) i low high left e
+      → Forest rs 1 i (regionAt rs i .first) (regionAt rs i .after) (regionAt rs i .yards) m
+      → Forest rs n m (regionAt rs i .after) high (left - regionAt rs i .yards) e → Forest rs (suc n) i low high left e
 
 -- ---- more levels find the same
 
@@ -51,10 +54,13 @@ module _ (rs : List Region) where
       → siblings rs f (suc n) i low high left ≡ siblings rs f n (f i) (regionAt rs i .after) high (left - regionAt rs i .yards)
   unfolding siblings childFits
   siblings-step f n i low high left a b c d =
-      choose-yes (childFits low high left (regionAt rs i .first) (regionAt rs i .after) (regionAt rs i .yards)) _ 0 (and-both (leb low (regionAt rs i .first)) _ (le→leb low (regionAt rs i .first) a) (and-both (leb (regionAt rs i .after) high) _ (le→leb (regionAt rs i .after) high b) (le→leb (regionAt rs i .yards) left c)))
+      choose-yes (childFits low high left (regionAt rs i .first) (regionAt rs i .after) (regionAt rs i .yards)) _ 0 (and-both (leb low (regionAt rs i .first))
+      _ (le→leb low (regionAt rs i .first) a) (and-both (leb (regionAt rs i .after) high) _ (le→leb (regionAt rs i .after) high b) (le→leb (regionAt rs i
+      .yards) left c)))
       ∙ choose-yes (ltb 0 (f i)) _ 0 (lt→ltb 0 (f i) d)
 
-  siblings-again : (f g : ℕ → ℕ) → ((i : ℕ) → 0 < f i → g i ≡ f i) → (n i low high left : ℕ) → 0 < siblings rs f n i low high left → siblings rs g n i low high left ≡ siblings rs f n i low high left
+  siblings-again : (f g : ℕ → ℕ) → ((i : ℕ) → 0 < f i → g i ≡ f i) → (n i low high left : ℕ) → 0 < siblings rs f n i low high left
+      → siblings rs g n i low high left ≡ siblings rs f n i low high left
   unfolding siblings
   siblings-again f g h zero i low high left p = refl
   siblings-again f g h (suc n) i low high left p =
@@ -64,24 +70,29 @@ module _ (rs : List Region) where
   -- What a descent to region i asks.
   pub data Found (f : ℕ → ℕ) (i : ℕ) : ℕ → Type 0 where
     at-leaf : i < length rs → regionAt rs i .children ≡ 0 → T (leafOk (regionAt rs i)) → Found f i (suc i)
-    at-inner : {e : ℕ} → i < length rs → 0 < regionAt rs i .children → siblings rs f (regionAt rs i .children) (suc i) (regionAt rs i .first) (regionAt rs i .after) (regionAt rs i .yards) ≡ e → Found f i e
+    at-inner : {e : ℕ} → i < length rs → 0 < regionAt rs i .children
+        → siblings rs f (regionAt rs i .children) (suc i) (regionAt rs i .first) (regionAt rs i .after) (regionAt rs i .yards) ≡ e → Found f i e
 
   pub subtree-found : (l i : ℕ) → 0 < subtree rs (suc l) i → Found (subtree rs l) i (subtree rs (suc l) i)
   unfolding subtree
   subtree-found l i =
       choose-case (λ (x : ℕ). 0 < x → Found (subtree rs l) i x) (ltb i (length rs))
       (λ t. choose-case (λ (x : ℕ). 0 < x → Found (subtree rs l) i x) (eqb (regionAt rs i .children) 0)
-      (λ c. choose-case (λ (x : ℕ). 0 < x → Found (subtree rs l) i x) (leafOk (regionAt rs i)) (λ k p. at-leaf (ltb→lt i (length rs) t) (eqb→eq (regionAt rs i .children) 0 c) k) (λ k p. absurd (omega arith)))
+      (λ c. choose-case (λ (x : ℕ). 0 < x → Found (subtree rs l) i x) (leafOk (regionAt rs i)) (λ k p. at-leaf (ltb→lt i (length rs) t) (eqb→eq (regionAt rs i
+      .children) 0 c) k) (λ k p. absurd (omega arith)))
       (λ c p. at-inner (ltb→lt i (length rs) t) (omega (arith, neqb→ne (regionAt rs i .children) 0 c)) refl))
       (λ t p. absurd (omega arith))
 
   pub subtree-leaf : (l i : ℕ) → i < length rs → regionAt rs i .children ≡ 0 → T (leafOk (regionAt rs i)) → subtree rs (suc l) i ≡ suc i
   unfolding subtree
-  subtree-leaf l i h c k = choose-yes (ltb i (length rs)) _ 0 (lt→ltb i (length rs) h) ∙ (choose-yes (eqb (regionAt rs i .children) 0) _ _ (eq→eqb (regionAt rs i .children) 0 c) ∙ choose-yes (leafOk (regionAt rs i)) (suc i) 0 k)
+  subtree-leaf l i h c k = choose-yes (ltb i (length rs)) _ 0 (lt→ltb i (length rs) h)
+      ∙ (choose-yes (eqb (regionAt rs i .children) 0) _ _ (eq→eqb (regionAt rs i .children) 0 c) ∙ choose-yes (leafOk (regionAt rs i)) (suc i) 0 k)
 
-  pub subtree-inner : (l i : ℕ) → i < length rs → 0 < regionAt rs i .children → subtree rs (suc l) i ≡ siblings rs (subtree rs l) (regionAt rs i .children) (suc i) (regionAt rs i .first) (regionAt rs i .after) (regionAt rs i .yards)
+  pub subtree-inner : (l i : ℕ) → i < length rs → 0 < regionAt rs i .children
+      → subtree rs (suc l) i ≡ siblings rs (subtree rs l) (regionAt rs i .children) (suc i) (regionAt rs i .first) (regionAt rs i .after) (regionAt rs i .yards)
   unfolding subtree
-  subtree-inner l i h c = choose-yes (ltb i (length rs)) _ 0 (lt→ltb i (length rs) h) ∙ choose-no (eqb (regionAt rs i .children) 0) _ _ (ne→neqb (regionAt rs i .children) 0 (omega arith))
+  subtree-inner l i h c = choose-yes (ltb i (length rs)) _ 0 (lt→ltb i (length rs) h)
+      ∙ choose-no (eqb (regionAt rs i .children) 0) _ _ (ne→neqb (regionAt rs i .children) 0 (omega arith))
 
   one-more : (l i : ℕ) → 0 < subtree rs l i → subtree rs (suc l) i ≡ subtree rs l i
   unfolding subtree
@@ -90,7 +101,9 @@ module _ (rs : List Region) where
     where
       go : (e : ℕ) → 0 < e → Found (subtree rs l) i e → ((j : ℕ) → 0 < subtree rs l j → subtree rs (suc l) j ≡ subtree rs l j) → subtree rs (suc (suc l)) i ≡ e
       go _ p (at-leaf h c k) rec = subtree-leaf (suc l) i h c k
-      go e p (at-inner h c q) rec = subtree-inner (suc l) i h c ∙ (siblings-again (subtree rs l) (subtree rs (suc l)) rec (regionAt rs i .children) (suc i) (regionAt rs i .first) (regionAt rs i .after) (regionAt rs i .yards) (rw q p) ∙ q)
+      go e p (at-inner h c q) rec = subtree-inner (suc l) i h c
+          ∙ (siblings-again (subtree rs l) (subtree rs (suc l)) rec (regionAt rs i .children) (suc i) (regionAt rs i .first) (regionAt rs i .after) (regionAt
+          rs i .yards) (rw q p) ∙ q)
 
   pub more : (k l i : ℕ) → 0 < subtree rs l i → subtree rs (k + l) i ≡ subtree rs l i
   more zero l i p = rw (let e : 0 + l ≡ l = omega arith in e) refl
@@ -121,14 +134,17 @@ module _ (rs : List Region) where
   abbrev pub Rooted : ℕ → ℕ → Type 0
   Rooted i e = Forest rs 1 i (regionAt rs i .first) (regionAt rs i .after) (regionAt rs i .yards) e
 
-  siblings-forest : (f : ℕ → ℕ) → ((j : ℕ) → 0 < f j → Rooted j (f j)) → ((j : ℕ) → 0 < f j → endOf rs j ≡ f j) → (n i low high left : ℕ) → i ≤ length rs → 0 < siblings rs f n i low high left
+  siblings-forest : (f : ℕ → ℕ) → ((j : ℕ) → 0 < f j → Rooted j (f j)) → ((j : ℕ) → 0 < f j → endOf rs j ≡ f j) → (n i low high left : ℕ) → i ≤ length rs
+      → 0 < siblings rs f n i low high left
       → Forest rs n i low high left (siblings rs f n i low high left)
   unfolding siblings
-  siblings-forest f t z zero i low high left h p = choose-case (λ (x : ℕ). 0 < x → Forest rs 0 i low high left x) (eqb left 0) (λ e q. none h (eqb→eq left 0 e)) (λ e q. absurd (omega arith)) p
+  siblings-forest f t z zero i low high left h p = choose-case (λ (x : ℕ). 0 < x
+      → Forest rs 0 i low high left x) (eqb left 0) (λ e q. none h (eqb→eq left 0 e)) (λ e q. absurd (omega arith)) p
   siblings-forest f t z (suc n) i low high left h p =
       let x = siblings-next f n i low high left p in
       let g = t i (x .found) in
-      rw (x .rest) (join (x .low-ok) (x .high-ok) (x .left-ok) (z i (x .found)) g (siblings-forest f t z n (f i) (regionAt rs i .after) high (left - regionAt rs i .yards) (fits g) (rw (x .rest) at p)))
+      rw (x .rest) (join (x .low-ok) (x .high-ok) (x .left-ok) (z i (x .found)) g (siblings-forest f t z n (f i) (regionAt rs i .after) high (left - regionAt
+      rs i .yards) (fits g) (rw (x .rest) at p)))
 
   pub tree-forest : (l i : ℕ) → l ≤ levels → 0 < subtree rs l i → Rooted i (subtree rs l i)
   unfolding subtree
@@ -137,4 +153,5 @@ module _ (rs : List Region) where
     where
       go : (e : ℕ) → 0 < e → endOf rs i ≡ e → Found (subtree rs l) i e → ((j : ℕ) → 0 < subtree rs l j → Rooted j (subtree rs l j)) → Rooted i e
       go _ p z (at-leaf h c k) rec = leaf h c k z
-      go e p z (at-inner h′ c q) rec = wrap h′ refl c z (rw q at (siblings-forest (subtree rs l) rec (λ j x. ends l j (omega arith) x) (regionAt rs i .children) (suc i) (regionAt rs i .first) (regionAt rs i .after) (regionAt rs i .yards) h′ (rw q p)))
+      go e p z (at-inner h′ c q) rec = wrap h′ refl c z (rw q at (siblings-forest (subtree rs l) rec (λ j x. ends l j (omega arith) x) (regionAt rs i
+          .children) (suc i) (regionAt rs i .first) (regionAt rs i .after) (regionAt rs i .yards) h′ (rw q p)))

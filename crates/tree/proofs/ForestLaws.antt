@@ -1,7 +1,9 @@
 -- What holds of a forest: its regions' places, children, ranges, yards and numbers. Assumes nothing.
 use mathlib.Core.Path.{_≡_, refl, sym, ap, _∙_}
 use mathlib.Core.Logic.{_⊎_, inl, inr}
-use mathlib.Core.List.{List, [], _∷_, _++_, append-assoc, append-nil, List·Memᴰ as Mem, List·Memᴰ·head as head, List·Memᴰ·tail as tail, List·Memᴰ·not-nil as not-nil, List·Memᴰ·cases-cons as cases-cons, Memᴰ·append-left as append-left, Memᴰ·append-right as append-right, List·Memᴰ·append-cases as append-cases}
+use mathlib.Core.List.{List, [], _∷_, _++_, append-assoc, append-nil, List·Memᴰ as Mem, List·Memᴰ·head as head, List·Memᴰ·tail as tail}
+use mathlib.Core.List.{List·Memᴰ·not-nil as not-nil, List·Memᴰ·cases-cons as cases-cons, Memᴰ·append-left as append-left, Memᴰ·append-right as append-right}
+use mathlib.Core.List.{List·Memᴰ·append-cases as append-cases}
 use Prim.Native.Nat.{ℕ, zero, suc, _+_, _-_, _≤_, _<_}
 use native.Mathlib.Decide.{ℕ-discrete, decLt}
 use native.Mathlib.Omega.{arith}
@@ -36,7 +38,8 @@ module _ (rs : List Region) where
   yards-add zero b i = rw (let e : 0 + b ≡ b = omega arith in e, let e : i + 0 ≡ i = omega arith in e) refl
   yards-add (suc a) b i =
       rw (let e : suc a + b ≡ suc (a + b) = omega arith in e, let e : i + suc a ≡ suc i + a = omega arith in e)
-      (ap (λ l. ownYards (regionAt rs i) ++ l) (yards-add a b (suc i)) ∙ sym (append-assoc (ownYards (regionAt rs i)) (yardsFrom rs a (suc i)) (yardsFrom rs b (suc i + a))))
+      (ap (λ l. ownYards (regionAt rs i) ++ l) (yards-add a b (suc i))
+      ∙ sym (append-assoc (ownYards (regionAt rs i)) (yardsFrom rs a (suc i)) (yardsFrom rs b (suc i + a))))
 
   pub span-split : (i m e : ℕ) → i ≤ m → m ≤ e → span i e ≡ span i m ++ span m e
   unfolding span
@@ -59,7 +62,11 @@ module _ (rs : List Region) where
   sum-add : (f : Region → ℕ) (a b i : ℕ) → sumFrom rs f (a + b) i ≡ sumFrom rs f a i + sumFrom rs f b (i + a)
   unfolding sumFrom
   sum-add f zero b i = rw (let e : 0 + b ≡ b = omega arith in e, let e : i + 0 ≡ i = omega arith in e) (omega arith)
-  sum-add f (suc a) b i = rw (let e : suc a + b ≡ suc (a + b) = omega arith in e, let e : i + suc a ≡ suc i + a = omega arith in e) (omega (arith, sum-add f a b (suc i)))
+  sum-add f (suc a) b i = rw (
+    let e : suc a + b ≡ suc (a + b) = omega arith in e,
+    let e : i + suc a ≡ suc i + a = omega arith in
+        e,
+  ) (omega (arith, sum-add f a b (suc i)))
 
   -- The sum of a number for each region from number i up to e.
   unfoldable pub sum : (Region → ℕ) → ℕ → ℕ → ℕ
@@ -93,17 +100,26 @@ module _ (rs : List Region) (sane : Sane rs) where
 
   pub visit : {n i low high left e : ℕ} → Forest rs n i low high left e → (j : ℕ) → i ≤ j → j < e → Visit low high e j
   visit (none h z) j p q = absurd (omega arith)
-  visit (leaf {i = i} h c k z) j p q = let x : i ≡ j = omega arith in rw (← x) (record { inside = h; low-ok = omega arith; high-ok = omega arith; up = omega arith; down = omega arith })
+  visit (leaf {i = i} h c k z) j p q = let x : i ≡ j = omega arith in
+      rw (← x) (record { inside = h; low-ok = omega arith; high-ok = omega arith; up = omega arith; down = omega arith })
   visit (wrap {n = n} {i = i} {e = e} h c k z g) j p q = go (ℕ-discrete i j) (λ r. visit g j r q)
     where
       go : Dec (i ≡ j) → (suc i ≤ j → Visit (regionAt rs i .first) (regionAt rs i .after) e j) → Visit (regionAt rs i .first) (regionAt rs i .after) e j
       go (yes x) rec = rw (← x) (record { inside = h; low-ok = omega arith; high-ok = omega arith; up = omega (arith, rise rs g); down = omega arith })
       go (no x) rec = rec (omega arith)
-  visit (join {n = n} {i = i} {m = m} {low = low} {high = high} {left = left} {e = e} a b c z g k) j p q = go (decLt j m) (λ x. visit g j p x) (λ x. visit k j x q)
+  visit (join {n = n} {i = i} {m = m} {low = low} {high = high} {left = left} {e = e} a b c z g k) j p q = go (decLt j m) (λ x. visit g j p x) (λ x. visit k j
+      x q)
     where
-      go : Dec (j < m) → (j < m → Visit (regionAt rs i .first) (regionAt rs i .after) m j) → (m ≤ j → Visit (regionAt rs i .after) high e j) → Visit low high e j
+      go : Dec (j < m) → (j < m → Visit (regionAt rs i .first) (regionAt rs i .after) m j) → (m ≤ j → Visit (regionAt rs i .after) high e j)
+          → Visit low high e j
       go (yes x) r s = let v = r x in record { inside = v .inside; low-ok = omega arith; high-ok = omega arith; up = v .up; down = omega (arith, rise rs k) }
-      go (no x) r s = let v = s (omega arith) in record { inside = v .inside; low-ok = omega (arith, sane .range i (omega (arith, rise rs g, fits rs g))); high-ok = v .high-ok; up = v .up; down = v .down }
+      go (no x) r s = let v = s (omega arith) in record {
+        inside = v .inside;
+        low-ok = omega (arith, sane .range i (omega (arith, rise rs g, fits rs g)));
+        high-ok = v .high-ok;
+        up = v .up;
+        down = v .down;
+      }
 
   -- ---- children
 
@@ -147,7 +163,8 @@ module _ (rs : List Region) (sane : Sane rs) where
       go (no w) f s = s (omega arith)
 
   -- None of the trees' roots is a child of a region among them.
-  not-start : {n i low high left e : ℕ} → Forest rs n i low high left e → (s c : ℕ) → i ≤ s → s < e → Mem c (childrenOf rs s) → Mem c (starts (endOf rs) n i) → ⊥
+  not-start : {n i low high left e : ℕ} → Forest rs n i low high left e → (s c : ℕ) → i ≤ s → s < e → Mem c (childrenOf rs s)
+      → Mem c (starts (endOf rs) n i) → ⊥
   unfolding starts
   not-start (none h z) s c p q k j = omega arith
   not-start (leaf {i = i} h x y z) s c p q k j = go (cases-cons j)
@@ -168,7 +185,8 @@ module _ (rs : List Region) (sane : Sane rs) where
       go (inr w) (no v) rec = rec (omega arith) w
 
   -- No region is a child of two.
-  pub parent : {n i low high left e : ℕ} → Forest rs n i low high left e → (r s c : ℕ) → i ≤ r → r < e → i ≤ s → s < e → Mem c (childrenOf rs r) → Mem c (childrenOf rs s) → r ≡ s
+  pub parent : {n i low high left e : ℕ} → Forest rs n i low high left e → (r s c : ℕ) → i ≤ r → r < e → i ≤ s → s < e → Mem c (childrenOf rs r)
+      → Mem c (childrenOf rs s) → r ≡ s
   unfolding childrenOf
   parent (none h z) r s c p q u v k j = absurd (omega arith)
   parent (leaf h x y z) r s c p q u v k j = omega arith
@@ -188,31 +206,37 @@ module _ (rs : List Region) (sane : Sane rs) where
       go (no x) (no y) f h = h (omega arith) (omega arith)
 
   -- Every region but the roots is the child of one.
-  pub adopted : {n i low high left e : ℕ} → Forest rs n i low high left e → (j : ℕ) → i ≤ j → j < e → Mem j (starts (endOf rs) n i) ⊎ ((r : ℕ) × (i ≤ r) × (r < e) × Mem j (childrenOf rs r))
+  pub adopted : {n i low high left e : ℕ} → Forest rs n i low high left e → (j : ℕ) → i ≤ j → j < e
+      → Mem j (starts (endOf rs) n i) ⊎ ((r : ℕ) × (i ≤ r) × (r < e) × Mem j (childrenOf rs r))
   unfolding starts childrenOf
   adopted (none h z) j p q = absurd (omega arith)
   adopted (leaf {i = i} h x y z) j p q = let w : j ≡ i = omega arith in inl (head w)
   adopted (wrap {n = n} {i = i} {e = e} h x y z g) j p q = go (ℕ-discrete i j) (λ w. adopted g j w q)
     where
-      step : Mem j (starts (endOf rs) n (suc i)) ⊎ ((r : ℕ) × (suc i ≤ r) × (r < e) × Mem j (childrenOf rs r)) → Mem j (i ∷ []) ⊎ ((r : ℕ) × (i ≤ r) × (r < e) × Mem j (childrenOf rs r))
+      step : Mem j (starts (endOf rs) n (suc i)) ⊎ ((r : ℕ) × (suc i ≤ r) × (r < e) × Mem j (childrenOf rs r))
+          → Mem j (i ∷ []) ⊎ ((r : ℕ) × (i ≤ r) × (r < e) × Mem j (childrenOf rs r))
       step (inl k) = inr (i, omega arith, omega arith, rw x k)
       step (inr k) = inr (k .0, omega arith, k .2, k .3)
 
-      go : Dec (i ≡ j) → (suc i ≤ j → Mem j (starts (endOf rs) n (suc i)) ⊎ ((r : ℕ) × (suc i ≤ r) × (r < e) × Mem j (childrenOf rs r))) → Mem j (i ∷ []) ⊎ ((r : ℕ) × (i ≤ r) × (r < e) × Mem j (childrenOf rs r))
+      go : Dec (i ≡ j) → (suc i ≤ j → Mem j (starts (endOf rs) n (suc i)) ⊎ ((r : ℕ) × (suc i ≤ r) × (r < e) × Mem j (childrenOf rs r)))
+          → Mem j (i ∷ []) ⊎ ((r : ℕ) × (i ≤ r) × (r < e) × Mem j (childrenOf rs r))
       go (yes w) rec = inl (head (sym w))
       go (no w) rec = step (rec (omega arith))
   adopted (join {n = n} {i = i} {m = m} {e = e} a b d z g t) j p q = go (decLt j m) (λ w. adopted g j p w) (λ w. adopted t j w q)
     where
-      one : Mem j (i ∷ []) ⊎ ((r : ℕ) × (i ≤ r) × (r < m) × Mem j (childrenOf rs r)) → Mem j (i ∷ starts (endOf rs) n (endOf rs i)) ⊎ ((r : ℕ) × (i ≤ r) × (r < e) × Mem j (childrenOf rs r))
+      one : Mem j (i ∷ []) ⊎ ((r : ℕ) × (i ≤ r) × (r < m) × Mem j (childrenOf rs r))
+          → Mem j (i ∷ starts (endOf rs) n (endOf rs i)) ⊎ ((r : ℕ) × (i ≤ r) × (r < e) × Mem j (childrenOf rs r))
       one (inl (head k)) = inl (head k)
       one (inl (tail k)) = absurd (not-nil k)
       one (inr k) = inr (k .0, k .1, omega (arith, rise rs t, k .2), k .3)
 
-      rest : Mem j (starts (endOf rs) n m) ⊎ ((r : ℕ) × (m ≤ r) × (r < e) × Mem j (childrenOf rs r)) → Mem j (i ∷ starts (endOf rs) n (endOf rs i)) ⊎ ((r : ℕ) × (i ≤ r) × (r < e) × Mem j (childrenOf rs r))
+      rest : Mem j (starts (endOf rs) n m) ⊎ ((r : ℕ) × (m ≤ r) × (r < e) × Mem j (childrenOf rs r))
+          → Mem j (i ∷ starts (endOf rs) n (endOf rs i)) ⊎ ((r : ℕ) × (i ≤ r) × (r < e) × Mem j (childrenOf rs r))
       rest (inl k) = let w : Mem j (starts (endOf rs) n (endOf rs i)) = rw z k in inl (tail w)
       rest (inr k) = inr (k .0, omega (arith, rise rs g, k .1), k .2, k .3)
 
-      go : Dec (j < m) → (j < m → Mem j (i ∷ []) ⊎ ((r : ℕ) × (i ≤ r) × (r < m) × Mem j (childrenOf rs r))) → (m ≤ j → Mem j (starts (endOf rs) n m) ⊎ ((r : ℕ) × (m ≤ r) × (r < e) × Mem j (childrenOf rs r)))
+      go : Dec (j < m) → (j < m → Mem j (i ∷ []) ⊎ ((r : ℕ) × (i ≤ r) × (r < m) × Mem j (childrenOf rs r))) → (m ≤ j
+          → Mem j (starts (endOf rs) n m) ⊎ ((r : ℕ) × (m ≤ r) × (r < e) × Mem j (childrenOf rs r)))
           → Mem j (i ∷ starts (endOf rs) n (endOf rs i)) ⊎ ((r : ℕ) × (i ≤ r) × (r < e) × Mem j (childrenOf rs r))
       go (yes w) f s = one (f w)
       go (no w) f s = rest (s (omega arith))
@@ -240,18 +264,21 @@ module _ (rs : List Region) (sane : Sane rs) where
   hops-end (wrap h x y z g) = z
   hops-end (join {n = n} a b d z g t) = ap (hops (endOf rs) n) z ∙ hops-end t
 
-  pub end-hops : {n i low high left e : ℕ} → Forest rs n i low high left e → (r : ℕ) → i ≤ r → r < e → endOf rs r ≡ hops (endOf rs) (regionAt rs r .children) (suc r)
+  pub end-hops : {n i low high left e : ℕ} → Forest rs n i low high left e → (r : ℕ) → i ≤ r → r < e
+      → endOf rs r ≡ hops (endOf rs) (regionAt rs r .children) (suc r)
   unfolding hops
   end-hops (none h z) r p q = absurd (omega arith)
   end-hops (leaf {i = i} h x y z) r p q = rw (let w : r ≡ i = omega arith in w, x) z
   end-hops (wrap {n = n} {i = i} h x y z g) r p q = go (ℕ-discrete i r) (λ w. end-hops g r w q)
     where
-      go : Dec (i ≡ r) → (suc i ≤ r → endOf rs r ≡ hops (endOf rs) (regionAt rs r .children) (suc r)) → endOf rs r ≡ hops (endOf rs) (regionAt rs r .children) (suc r)
+      go : Dec (i ≡ r) → (suc i ≤ r → endOf rs r ≡ hops (endOf rs) (regionAt rs r .children) (suc r))
+          → endOf rs r ≡ hops (endOf rs) (regionAt rs r .children) (suc r)
       go (yes w) rec = rw (← w, x) (z ∙ sym (hops-end g))
       go (no w) rec = rec (omega arith)
   end-hops (join {m = m} a b d z g t) r p q = go (decLt r m) (λ w. end-hops g r p w) (λ w. end-hops t r w q)
     where
-      go : Dec (r < m) → (r < m → endOf rs r ≡ hops (endOf rs) (regionAt rs r .children) (suc r)) → (m ≤ r → endOf rs r ≡ hops (endOf rs) (regionAt rs r .children) (suc r)) → endOf rs r ≡ hops (endOf rs) (regionAt rs r .children) (suc r)
+      go : Dec (r < m) → (r < m → endOf rs r ≡ hops (endOf rs) (regionAt rs r .children) (suc r)) → (m ≤ r
+          → endOf rs r ≡ hops (endOf rs) (regionAt rs r .children) (suc r)) → endOf rs r ≡ hops (endOf rs) (regionAt rs r .children) (suc r)
       go (yes w) f s = f w
       go (no w) f s = s (omega arith)
 
@@ -272,7 +299,8 @@ module _ (rs : List Region) (sane : Sane rs) where
       go (no w) f s = s (omega arith)
 
   -- Of two leaves the later one's range is higher.
-  pub leaf-order : {n i low high left e : ℕ} → Forest rs n i low high left e → (j k : ℕ) → i ≤ j → j < k → k < e → regionAt rs j .children ≡ 0 → regionAt rs j .after ≤ regionAt rs k .first
+  pub leaf-order : {n i low high left e : ℕ} → Forest rs n i low high left e → (j k : ℕ) → i ≤ j → j < k → k < e → regionAt rs j .children ≡ 0
+      → regionAt rs j .after ≤ regionAt rs k .first
   leaf-order (none h z) j k p q u c = absurd (omega arith)
   leaf-order (leaf {i = i} h x y z) j k p q u c = absurd (omega arith)
   leaf-order (wrap {i = i} h x y z g) j k p q u c = go (ℕ-discrete i j) (λ w. leaf-order g j k w q u c)
@@ -282,7 +310,8 @@ module _ (rs : List Region) (sane : Sane rs) where
       go (no w) rec = rec (omega arith)
   leaf-order (join {m = m} a b d z g t) j k p q u c = go (decLt j m) (decLt k m) (λ w. leaf-order g j k p q w c) (λ w. leaf-order t j k w q u c)
     where
-      go : Dec (j < m) → Dec (k < m) → (k < m → regionAt rs j .after ≤ regionAt rs k .first) → (m ≤ j → regionAt rs j .after ≤ regionAt rs k .first) → regionAt rs j .after ≤ regionAt rs k .first
+      go : Dec (j < m) → Dec (k < m) → (k < m → regionAt rs j .after ≤ regionAt rs k .first) → (m ≤ j → regionAt rs j .after ≤ regionAt rs k .first)
+          → regionAt rs j .after ≤ regionAt rs k .first
       go (yes w) (yes v) f s = f v
       go (yes w) (no v) f s = omega (arith, visit g j p w .high-ok, visit t k (omega arith) u .low-ok)
       go (no w) v f s = s (omega arith)
@@ -309,7 +338,8 @@ module _ (rs : List Region) (sane : Sane rs) where
   yard-count (leaf {i = i} h x y z) = rw (span-leaf i x) (yards-length (firstList (regionAt rs i .marks)) ∙ sane .listed i h x)
   yard-count (wrap {i = i} {e = e} h x y z g) = rw (span-inner i e (omega (arith, rise rs g)) (omega arith)) (yard-count g)
   yard-count (join {n = n} {i = i} {m = m} {left = left} {e = e} a b d z g t) =
-      rw (span-split rs i m e (omega (arith, rise rs g)) (omega (arith, rise rs t)), length-append (span rs i m) (span rs m e), yard-count g, yard-count t) (omega arith)
+      rw (span-split rs i m e (omega (arith, rise rs g)) (omega (arith, rise rs t)), length-append (span rs i m) (span rs m e), yard-count g, yard-count t)
+      (omega arith)
 
   -- lie in its range,
   pub yard-range : {n i low high left e : ℕ} → Forest rs n i low high left e → (y : ℕ) → Mem y (span rs i e) → (low ≤ y) × (y < high)
@@ -317,9 +347,11 @@ module _ (rs : List Region) (sane : Sane rs) where
   yard-range (leaf {i = i} h x w z) y k = first-range (regionAt rs i) w y (rw (span-leaf i x) at k)
   yard-range (wrap {i = i} {e = e} h x w z g) y k = yard-range g y (rw (span-inner i e (omega (arith, rise rs g)) (omega arith)) at k)
   yard-range (join {n = n} {i = i} {m = m} {low = low} {high = high} {e = e} a b d z g t) y k =
-      go (append-cases (span rs i m) (rw (span-split rs i m e (omega (arith, rise rs g)) (omega (arith, rise rs t))) at k)) (λ j. yard-range g y j) (λ j. yard-range t y j)
+      go (append-cases (span rs i m) (rw (span-split rs i m e (omega (arith, rise rs g)) (omega (arith, rise rs t))) at k)) (λ j. yard-range g y j) (λ j.
+      yard-range t y j)
     where
-      go : Mem y (span rs i m) ⊎ Mem y (span rs m e) → (Mem y (span rs i m) → (regionAt rs i .first ≤ y) × (y < regionAt rs i .after)) → (Mem y (span rs m e) → (regionAt rs i .after ≤ y) × (y < high)) → (low ≤ y) × (y < high)
+      go : Mem y (span rs i m) ⊎ Mem y (span rs m e) → (Mem y (span rs i m) → (regionAt rs i .first ≤ y) × (y < regionAt rs i .after))
+          → (Mem y (span rs m e) → (regionAt rs i .after ≤ y) × (y < high)) → (low ≤ y) × (y < high)
       go (inl j) f s = let v = f j in (omega (arith, v .0), omega (arith, v .1))
       go (inr j) f s = let v = s j in (omega (arith, v .0, sane .range i (omega (arith, rise rs g, fits rs g))), v .1)
 
@@ -336,24 +368,61 @@ module _ (rs : List Region) (sane : Sane rs) where
 
   pub leaf-one : (i : ℕ) → regionAt rs i .children ≡ 0 → (oneLeaf (regionAt rs i) ≡ 1) × (oneInner (regionAt rs i) ≡ 0)
   unfolding oneLeaf oneInner
-  leaf-one i c = (choose-yes (eqb (regionAt rs i .children) 0) _ _ (eq→eqb (regionAt rs i .children) 0 c), choose-yes (eqb (regionAt rs i .children) 0) _ _ (eq→eqb (regionAt rs i .children) 0 c))
+  leaf-one i c = (
+    choose-yes (eqb (regionAt rs i .children) 0) _ _ (eq→eqb (regionAt rs i .children) 0 c),
+    choose-yes (eqb (regionAt rs i .children) 0) _ _
+        (eq→eqb (regionAt rs i .children) 0 c),
+  )
 
   pub inner-one : (i : ℕ) → 0 < regionAt rs i .children → (oneLeaf (regionAt rs i) ≡ 0) × (oneInner (regionAt rs i) ≡ 1)
   unfolding oneLeaf oneInner
-  inner-one i c = (choose-no (eqb (regionAt rs i .children) 0) _ _ (ne→neqb (regionAt rs i .children) 0 (omega arith)), choose-no (eqb (regionAt rs i .children) 0) _ _ (ne→neqb (regionAt rs i .children) 0 (omega arith)))
+  inner-one i c = (
+    choose-no (eqb (regionAt rs i .children) 0) _ _ (ne→neqb (regionAt rs i .children) 0 (omega arith)),
+    choose-no (eqb (regionAt rs i
+        .children) 0) _ _ (ne→neqb (regionAt rs i .children) 0 (omega arith)),
+  )
 
   -- There are no more leaves than yards,
   pub leaf-count : {n i low high left e : ℕ} → Forest rs n i low high left e → sum rs oneLeaf i e ≤ left
   leaf-count (none {i = i} h z) = omega (arith, sum-none rs oneLeaf i)
   leaf-count (leaf {i = i} h x y z) = omega (arith, sum-first rs oneLeaf i (suc i) (omega arith), sum-none rs oneLeaf (suc i), leaf-one i x .0, sane .some i h)
   leaf-count (wrap {i = i} {e = e} h x y z g) = omega (arith, sum-first rs oneLeaf i e (omega (arith, rise rs g)), inner-one i (omega arith) .0, leaf-count g)
-  leaf-count (join {i = i} {m = m} {e = e} a b d z g t) = omega (arith, sum-split rs oneLeaf i m e (omega (arith, rise rs g)) (omega (arith, rise rs t)), leaf-count g, leaf-count t)
+  leaf-count (join {i = i} {m = m} {e = e} a b d z g t) = omega (
+    arith,
+    sum-split rs oneLeaf i m e (omega (arith, rise rs g)) (omega (arith, rise rs t)),
+    leaf-count g,
+    leaf-count t,
+  )
 
   -- and fewer inner regions than leaves, by one for each tree.
   pub inner-count : {n i low high left e : ℕ} → Forest rs n i low high left e → n + sum rs oneInner i e ≤ sum rs oneLeaf i e
   inner-count (none {i = i} h z) = omega (arith, sum-none rs oneInner i)
-  inner-count (leaf {i = i} h x y z) = omega (arith, sum-first rs oneLeaf i (suc i) (omega arith), sum-none rs oneLeaf (suc i), sum-first rs oneInner i (suc i) (omega arith), sum-none rs oneInner (suc i), leaf-one i x .0, leaf-one i x .1)
+  inner-count (leaf {i = i} h x y z) = omega (
+    arith,
+    sum-first rs oneLeaf i (suc i) (omega arith),
+    sum-none rs oneLeaf (suc i),
+    sum-first rs oneInner i (suc i)
+        (omega arith),
+    sum-none rs oneInner (suc i),
+    leaf-one i x .0,
+    leaf-one i x .1,
+  )
   inner-count (wrap {i = i} {e = e} h x y z g) =
-      omega (arith, sum-first rs oneLeaf i e (omega (arith, rise rs g)), sum-first rs oneInner i e (omega (arith, rise rs g)), inner-one i (omega arith) .0, inner-one i (omega arith) .1, inner-count g, sane .many i h (omega arith))
+      omega (
+        arith,
+        sum-first rs oneLeaf i e (omega (arith, rise rs g)),
+        sum-first rs oneInner i e (omega (arith, rise rs g)),
+        inner-one i (omega arith) .0,
+        inner-one i (omega arith) .1,
+        inner-count g,
+        sane .many i h (omega arith),
+      )
   inner-count (join {i = i} {m = m} {e = e} a b d z g t) =
-      omega (arith, sum-split rs oneLeaf i m e (omega (arith, rise rs g)) (omega (arith, rise rs t)), sum-split rs oneInner i m e (omega (arith, rise rs g)) (omega (arith, rise rs t)), inner-count g, inner-count t)
+      omega (
+        arith,
+        sum-split rs oneLeaf i m e (omega (arith, rise rs g)) (omega (arith, rise rs t)),
+        sum-split rs oneInner i m e (omega (arith, rise rs g))
+            (omega (arith, rise rs t)),
+        inner-count g,
+        inner-count t,
+      )

@@ -17,7 +17,11 @@ use Rattle.tree.proofs.Shaping.{EndsMeet, placed, children-are}
 numbers-add : (a b i : ℕ) → numbers (a + b) i ≡ numbers a i ++ numbers b (i + a)
 unfolding numbers
 numbers-add zero b i = rw (let e : 0 + b ≡ b = omega arith in e, let e : i + 0 ≡ i = omega arith in e) refl
-numbers-add (suc a) b i = rw (let e : suc a + b ≡ suc (a + b) = omega arith in e, let e : i + suc a ≡ suc i + a = omega arith in e) (ap (λ (l : List ℕ). i ∷ l) (numbers-add a b (suc i)))
+numbers-add (suc a) b i = rw (
+  let e : suc a + b ≡ suc (a + b) = omega arith in e,
+  let e : i + suc a ≡ suc i + a = omega arith in
+      e,
+) (ap (λ (l : List ℕ). i ∷ l) (numbers-add a b (suc i)))
 
 -- a region's number, those of its subtree, and those after it
 numbers-split : (i m e : ℕ) → suc i ≤ m → m ≤ e → i ∷ (numbers (m - suc i) (suc i) ++ numbers (e - m) m) ≡ numbers (e - i) i
@@ -45,13 +49,25 @@ module _ (rs : List Region) where
   holders-add : (a b j i : ℕ) → holders (endOf rs) (a + b) j i ≡ holders (endOf rs) a j i + holders (endOf rs) b (j + a) i
   unfolding holders
   holders-add zero b j i = rw (let e : 0 + b ≡ b = omega arith in e, let e : j + 0 ≡ j = omega arith in e) (omega arith)
-  holders-add (suc a) b j i = rw (let e : suc a + b ≡ suc (a + b) = omega arith in e, let e : j + suc a ≡ suc j + a = omega arith in e) (omega (arith, holders-add a b (suc j) i))
+  holders-add (suc a) b j i = rw (
+    let e : suc a + b ≡ suc (a + b) = omega arith in e,
+    let e : j + suc a ≡ suc j + a = omega arith in
+        e,
+  ) (omega (arith, holders-add a b (suc j) i))
 
   -- subtrees that end at or before i do not hold it
   holders-none : (n j i : ℕ) → ((r : ℕ) → j ≤ r → r < j + n → endOf rs r ≤ i) → holders (endOf rs) n j i ≡ 0
   unfolding holders
   holders-none zero j i f = refl
-  holders-none (suc n) j i f = rw (choose-no {A = ℕ} (ltb i (endOf rs j)) 1 0 (not-T (ltb i (endOf rs j)) (λ t. omega (arith, ltb→lt i (endOf rs j) t, f j (omega arith) (omega arith)))), holders-none n (suc j) i (λ r p q. f r (omega arith) (omega arith))) (omega arith)
+  holders-none (suc n) j i f = rw (
+    choose-no {A = ℕ} (ltb i (endOf rs j)) 1 0 (not-T (ltb i (endOf rs j)) (λ t. omega (
+      arith,
+      ltb→lt i (endOf rs j) t,
+      f j
+          (omega arith) (omega arith),
+    ))),
+    holders-none n (suc j) i (λ r p q. f r (omega arith) (omega arith)),
+  ) (omega arith)
 
   one-at-most : (j i : ℕ) → choose (ltb i (endOf rs j)) 1 0 ≤ 1
   one-at-most j i = choose-case (λ (x : ℕ). x ≤ 1) (ltb i (endOf rs j)) (λ t. omega arith) (λ t. omega arith)
@@ -69,7 +85,8 @@ module _ (rs : List Region) where
       z : m ≡ endOf rs i
       z = placed rs f a .next-is ∙ (ap (λ (n : ℕ). hops (endOf rs) n (suc i)) c ∙ sym (f i h))
 
-      go : Dec (i ≡ x) → Dec (x < m) → (suc i ≤ x → x < m → holders (endOf rs) (suc x - suc i) (suc i) x ≤ l) → (m ≤ x → holders (endOf rs) (suc x - m) m x ≤ suc l) → holders (endOf rs) (suc x - i) i x ≤ suc l
+      go : Dec (i ≡ x) → Dec (x < m) → (suc i ≤ x → x < m → holders (endOf rs) (suc x - suc i) (suc i) x ≤ l) → (m ≤ x
+          → holders (endOf rs) (suc x - m) m x ≤ suc l) → holders (endOf rs) (suc x - i) i x ≤ suc l
       go (yes w) v r s = rw (let y : suc x - i ≡ suc 0 = omega arith in y) (omega (arith, one-at-most i x))
       go (no w) (yes v) r s = rw (let y : suc x - i ≡ suc (suc x - suc i) = omega arith in y) (omega (arith, one-at-most i x, r (omega arith) v))
       go (no w) (no v) r s =

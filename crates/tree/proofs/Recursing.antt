@@ -17,7 +17,8 @@ use Rattle.tree.specs.Shape.{childFits, siblings, subtree, shaped}
 use Rattle.tree.specs.Arrays.{Laid, fieldsOf}
 use Rattle.tree_layout.specs.declared.Fields.{Fields}
 use Rattle.tree.proofs.Fielding.{laid-length, laid-header, laid-inside, laid-region, laid-children, laid-end}
-use Rattle.tree.proofs.Descending.{fits-yards, no-levels, no-number, inner-end, leaf-bad, leaf-good, last-left, last-none, next-bad, next-none, next-good}
+use Rattle.tree.proofs.Descending.{fits-yards, no-levels, no-number, inner-end, leaf-bad, leaf-good, last-left, last-none, next-bad, next-none}
+use Rattle.tree.proofs.Descending.{next-good}
 
 -- the fields of region i, each
 module _ (b : List ℕ) (i : ℕ) (f : Fields) (e : f ≡ fieldsOf b i) where
@@ -61,15 +62,23 @@ module _ (b places : List ℕ) (laid : Laid b places) where
       inside : i < length rs
       inside = omega (arith, laid-length b places laid)
 
-      pub at-inner : (x : ℕ) → (f .children ≡ 0 → ⊥) → x ≡ siblings rs (subtree rs (l - 1)) (f .children) (i + 1) (f .first) (f .after) (f .yards) → x ≡ subtree rs l i
+      pub at-inner : (x : ℕ) → (f .children ≡ 0 → ⊥) → x ≡ siblings rs (subtree rs (l - 1)) (f .children) (i + 1) (f .first) (f .after) (f .yards)
+          → x ≡ subtree rs l i
       at-inner x c z =
-          z ∙ sym (inner-end rs l (l - 1) i level inside (f .first) (f .after) (f .children) (f .yards) (first-is b i f e) (after-is b i f e) (children-is b i f e) (yards-is b i f e) c
+          z ∙ sym (inner-end rs l (l - 1) i level inside (f .first) (f .after) (f .children) (f .yards) (first-is b i f e) (after-is b i f e) (children-is b i
+          f e) (yards-is b i f e) c
           ∙ rw add-one refl)
 
       -- what the test of a leaf asks
       pub at-leaf : f .children ≡ 0 → (12 ≤ length b) × (fieldsAt b (f .at) .children ≡ 0)
           × (f .at + sizeAt b (landmarkCount b) (f .at) ≤ length b) × (fieldsAt b (f .at) .after ≤ 1024)
-      at-leaf c = rw (at-is b i f e) (laid-header b places laid, sym (laid-children b places laid i h) ∙ (children-is b i f e ∙ c), laid-inside b places laid i h, laid-end b places laid i h)
+      at-leaf c = rw (at-is b i f e) (
+        laid-header b places laid,
+        sym (laid-children b places laid i h) ∙ (children-is b i f e
+            ∙ c),
+        laid-inside b places laid i h,
+        laid-end b places laid i h,
+      )
 
       region-is : regionAt rs i ≡ readRegion b (landmarkCount b) (f .at)
       region-is = laid-region b places laid i h ∙ ap (λ (p : ℕ). readRegion b (landmarkCount b) p) (sym (at-is b i f e))
@@ -103,7 +112,8 @@ module _ (b places : List ℕ) (laid : Laid b places) where
       sub-none x z e = e ∙ sym (next-none rs (subtree rs l) n i low high left (n - 1) rest (sym z ∙ e))
 
       module _ (f : Fields) (e : f ≡ fieldsOf b i) where
-        fits-is : childFits low high left (f .first) (f .after) (f .yards) ≡ childFits low high left (regionAt rs i .first) (regionAt rs i .after) (regionAt rs i .yards)
+        fits-is : childFits low high left (f .first) (f .after) (f .yards)
+            ≡ childFits low high left (regionAt rs i .first) (regionAt rs i .after) (regionAt rs i .yards)
         fits-is = rw (first-is b i f e, after-is b i f e, yards-is b i f e) refl
 
         pub not-fitting : childFits low high left (f .first) (f .after) (f .yards) ≡ false → 0 ≡ answer

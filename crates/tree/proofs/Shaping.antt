@@ -13,7 +13,8 @@ use Rattle.tree.specs.Shape.{siblings, subtree, levels, shaped}
 use Rattle.tree.specs.Yards.{endOf, starts, hops, childrenOf}
 use Rattle.tree.specs.Facts.{Preorder, none as ended, tree, ChildrenOf, RangesRise, yardSum, TreeShape}
 use Rattle.tree_leaf.proofs.Named.{leaf-lists, lists-leaf}
-use Rattle.tree.proofs.Forest.{Forest, none, leaf, wrap, join, Rooted, siblings-next, siblings-step, Found, at-leaf, at-inner, subtree-found, subtree-leaf, subtree-inner, tree-forest}
+use Rattle.tree.proofs.Forest.{Forest, none, leaf, wrap, join, Rooted, siblings-next, siblings-step, Found, at-leaf, at-inner, subtree-found}
+use Rattle.tree.proofs.Forest.{subtree-leaf, subtree-inner, tree-forest}
 use Rattle.tree.proofs.ForestLaws.{Sane, end-hops, leaf-ok}
 
 module _ (rs : List Region) where
@@ -32,7 +33,8 @@ module _ (rs : List Region) where
     pub count : length roots ≡ n
     pub trees : Preorder rs l i roots e
 
-  parts-of : (l i : ℕ) → ((n j low high left : ℕ) → 0 < siblings rs (subtree rs l) n j low high left → Sibs l n j (siblings rs (subtree rs l) n j low high left)) → 0 < subtree rs (suc l) i → Parts l i (subtree rs (suc l) i)
+  parts-of : (l i : ℕ) → ((n j low high left : ℕ) → 0 < siblings rs (subtree rs l) n j low high left
+      → Sibs l n j (siblings rs (subtree rs l) n j low high left)) → 0 < subtree rs (suc l) i → Parts l i (subtree rs (suc l) i)
   parts-of l i rec p = go (subtree rs (suc l) i) p (subtree-found rs l i p)
     where
       go : (e : ℕ) → 0 < e → Found rs (subtree rs l) i e → Parts l i e
@@ -41,7 +43,8 @@ module _ (rs : List Region) where
           let s = rec (regionAt rs i .children) (suc i) (regionAt rs i .first) (regionAt rs i .after) (regionAt rs i .yards) (rw z q) in
           record { inside = h; children = s .roots; count = s .count; below = rw z at (s .trees) }
 
-  sibs-of : (l : ℕ) → ((i : ℕ) → 0 < subtree rs (suc l) i → Parts l i (subtree rs (suc l) i)) → (n i low high left : ℕ) → 0 < siblings rs (subtree rs (suc l)) n i low high left → Sibs (suc l) n i (siblings rs (subtree rs (suc l)) n i low high left)
+  sibs-of : (l : ℕ) → ((i : ℕ) → 0 < subtree rs (suc l) i → Parts l i (subtree rs (suc l) i)) → (n i low high left : ℕ)
+      → 0 < siblings rs (subtree rs (suc l)) n i low high left → Sibs (suc l) n i (siblings rs (subtree rs (suc l)) n i low high left)
   unfolding siblings
   sibs-of l rec zero i low high left p = rw (choose-positive (eqb left 0) i p .1) (record { roots = []; count = refl; trees = ended })
   sibs-of l rec (suc n) i low high left p =
@@ -102,15 +105,18 @@ module _ (rs : List Region) where
   pub inner-forest : {n i low high left e : ℕ} → Forest rs n i low high left e → (r : ℕ) → i ≤ r → r < e → 0 < regionAt rs r .children
       → Forest rs (regionAt rs r .children) (suc r) (regionAt rs r .first) (regionAt rs r .after) (regionAt rs r .yards) (endOf rs r)
   inner-forest (none h z) r p q c = absurd (omega arith)
-  inner-forest (leaf {i = i} h x y z) r p q c = absurd (let w : regionAt rs i .children ≡ regionAt rs r .children = ap (λ (j : ℕ). regionAt rs j .children) (let v : i ≡ r = omega arith in v) in omega arith)
+  inner-forest (leaf {i = i} h x y z) r p q c = absurd (let w : regionAt rs i .children
+      ≡ regionAt rs r .children = ap (λ (j : ℕ). regionAt rs j .children) (let v : i ≡ r = omega arith in v) in omega arith)
   inner-forest (wrap {n = n} {i = i} {e = e} h x y z g) r p q c = go (ℕ-discrete i r) (λ w. inner-forest g r w q c)
     where
-      go : Dec (i ≡ r) → (suc i ≤ r → Forest rs (regionAt rs r .children) (suc r) (regionAt rs r .first) (regionAt rs r .after) (regionAt rs r .yards) (endOf rs r)) → Forest rs (regionAt rs r .children) (suc r) (regionAt rs r .first) (regionAt rs r .after) (regionAt rs r .yards) (endOf rs r)
+      go : Dec (i ≡ r) → (suc i ≤ r → Forest rs (regionAt rs r .children) (suc r) (regionAt rs r .first) (regionAt rs r .after) (regionAt rs r .yards) (endOf
+          rs r)) → Forest rs (regionAt rs r .children) (suc r) (regionAt rs r .first) (regionAt rs r .after) (regionAt rs r .yards) (endOf rs r)
       go (yes w) rec = rw (← w, x, z) g
       go (no w) rec = rec (omega arith)
   inner-forest (join {m = m} a b d z g t) r p q c = go (decLt r m) (λ w. inner-forest g r p w c) (λ w. inner-forest t r w q c)
     where
-      go : Dec (r < m) → (r < m → Forest rs (regionAt rs r .children) (suc r) (regionAt rs r .first) (regionAt rs r .after) (regionAt rs r .yards) (endOf rs r)) → (m ≤ r → Forest rs (regionAt rs r .children) (suc r) (regionAt rs r .first) (regionAt rs r .after) (regionAt rs r .yards) (endOf rs r))
+      go : Dec (r < m) → (r < m → Forest rs (regionAt rs r .children) (suc r) (regionAt rs r .first) (regionAt rs r .after) (regionAt rs r .yards) (endOf rs
+          r)) → (m ≤ r → Forest rs (regionAt rs r .children) (suc r) (regionAt rs r .first) (regionAt rs r .after) (regionAt rs r .yards) (endOf rs r))
           → Forest rs (regionAt rs r .children) (suc r) (regionAt rs r .first) (regionAt rs r .after) (regionAt rs r .yards) (endOf rs r)
       go (yes w) f s = f w
       go (no w) f s = s (omega arith)
@@ -172,24 +178,35 @@ module _ (t : Tree) (f : TreeShape t) where
   nothing-below (tree h c g k) z = absurd (omega arith)
 
   -- the descent finds what the facts say
-  found : {l i e : ℕ} {ks : List ℕ} → Preorder rs′ l i ks e → (low high : ℕ) → RangesRise rs′ low high ks → siblings rs′ (subtree rs′ l) (length ks) i low high (yardSum rs′ ks) ≡ e
+  found : {l i e : ℕ} {ks : List ℕ} → Preorder rs′ l i ks e → (low high : ℕ) → RangesRise rs′ low high ks
+      → siblings rs′ (subtree rs′ l) (length ks) i low high (yardSum rs′ ks) ≡ e
   found (ended {levels = l} {i = i}) low high r = siblings-end (subtree rs′ l) i low high
   found (tree {levels = l} {i = i} {m = m} {next = e} {children = cs} {roots = ks} h c g k) low high r =
-      step (ℕ-discrete (regionAt rs′ i .children) 0) (found g (regionAt rs′ i .first) (regionAt rs′ i .after) (f .ranges i h cs kin)) (found k (regionAt rs′ i .after) high (r .2))
+      step (ℕ-discrete (regionAt rs′ i .children) 0) (found g (regionAt rs′ i .first) (regionAt rs′ i .after) (f .ranges i h cs kin)) (found k (regionAt rs′ i
+      .after) high (r .2))
     where
       kin : ChildrenOf rs′ i cs
       kin = record { count = c; levels = l; next = m; subtrees = g }
 
-      rest : subtree rs′ (suc l) i ≡ m → siblings rs′ (subtree rs′ (suc l)) (length ks) m (regionAt rs′ i .after) high (yardSum rs′ ks) ≡ e → siblings rs′ (subtree rs′ (suc l)) (suc (length ks)) i low high (regionAt rs′ i .yards + yardSum rs′ ks) ≡ e
+      rest : subtree rs′ (suc l) i ≡ m → siblings rs′ (subtree rs′ (suc l)) (length ks) m (regionAt rs′ i .after) high (yardSum rs′ ks) ≡ e
+          → siblings rs′ (subtree rs′ (suc l)) (suc (length ks)) i low high (regionAt rs′ i .yards + yardSum rs′ ks) ≡ e
       rest z x =
           let w : (regionAt rs′ i .yards + yardSum rs′ ks) - regionAt rs′ i .yards ≡ yardSum rs′ ks = omega arith in
-          siblings-step rs′ (subtree rs′ (suc l)) (length ks) i low high (regionAt rs′ i .yards + yardSum rs′ ks) (r .0) (r .1) (omega arith) (omega (arith, z, up g)) ∙ rw (z, w) x
+          siblings-step rs′ (subtree rs′ (suc l)) (length ks) i low high (regionAt rs′ i .yards + yardSum rs′ ks) (r .0) (r .1) (omega arith) (omega (
+            arith,
+            z,
+            up g,
+          )) ∙ rw (z, w) x
 
-      inner : siblings rs′ (subtree rs′ l) (length cs) (suc i) (regionAt rs′ i .first) (regionAt rs′ i .after) (yardSum rs′ cs) ≡ m → 0 < regionAt rs′ i .children → siblings rs′ (subtree rs′ l) (regionAt rs′ i .children) (suc i) (regionAt rs′ i .first) (regionAt rs′ i .after) (regionAt rs′ i .yards) ≡ m
+      inner : siblings rs′ (subtree rs′ l) (length cs) (suc i) (regionAt rs′ i .first) (regionAt rs′ i .after) (yardSum rs′ cs) ≡ m
+          → 0 < regionAt rs′ i .children → siblings rs′ (subtree rs′ l) (regionAt rs′ i .children) (suc i) (regionAt rs′ i .first) (regionAt rs′ i .after)
+          (regionAt rs′ i .yards) ≡ m
       inner x p = rw (← c, f .sums i h p cs kin) x
 
-      step : Dec (regionAt rs′ i .children ≡ 0) → siblings rs′ (subtree rs′ l) (length cs) (suc i) (regionAt rs′ i .first) (regionAt rs′ i .after) (yardSum rs′ cs) ≡ m
-          → siblings rs′ (subtree rs′ (suc l)) (length ks) m (regionAt rs′ i .after) high (yardSum rs′ ks) ≡ e → siblings rs′ (subtree rs′ (suc l)) (suc (length ks)) i low high (regionAt rs′ i .yards + yardSum rs′ ks) ≡ e
+      step : Dec (regionAt rs′ i .children ≡ 0)
+          → siblings rs′ (subtree rs′ l) (length cs) (suc i) (regionAt rs′ i .first) (regionAt rs′ i .after) (yardSum rs′ cs) ≡ m
+          → siblings rs′ (subtree rs′ (suc l)) (length ks) m (regionAt rs′ i .after) high (yardSum rs′ ks) ≡ e
+          → siblings rs′ (subtree rs′ (suc l)) (suc (length ks)) i low high (regionAt rs′ i .yards + yardSum rs′ ks) ≡ e
       step (yes x) p q = rest (subtree-leaf rs′ l i h x (lists-leaf (regionAt rs′ i) (f .leaves i h x)) ∙ sym (nothing-below g (c ∙ x))) q
       step (no x) p q = rest (subtree-inner rs′ l i h (omega arith) ∙ inner p (omega arith)) q
 
@@ -197,7 +214,12 @@ module _ (t : Tree) (f : TreeShape t) where
   unfolding siblings
   root-found =
       let x = found (f .one-tree) (regionAt rs′ 0 .first) (regionAt rs′ 0 .after) (omega arith, omega arith, tt) in
-      let n = siblings-next rs′ (subtree rs′ 8) 0 0 (regionAt rs′ 0 .first) (regionAt rs′ 0 .after) (regionAt rs′ 0 .yards + 0) (omega (arith, x, up (f .one-tree))) in
+      let n = siblings-next rs′ (subtree rs′ 8) 0 0 (regionAt rs′ 0 .first) (regionAt rs′ 0 .after) (regionAt rs′ 0 .yards + 0) (omega (
+        arith,
+        x,
+        up (f
+            .one-tree),
+      )) in
       let z = sym (n .rest) ∙ x in
       sym (choose-positive (eqb ((regionAt rs′ 0 .yards + 0) - regionAt rs′ 0 .yards) 0) (subtree rs′ 8 0) (omega (arith, z, up (f .one-tree))) .1) ∙ z
 

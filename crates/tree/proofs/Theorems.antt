@@ -1,7 +1,8 @@
 -- What is proved of a tree book: its tests accept exactly the facts of 01, and what follows from them. Assumes nothing.
 use mathlib.Core.Path.{_≡_, refl, sym, _∙_}
 use mathlib.Core.Logic.{_⊎_, inl, inr, _≢_, _↔_}
-use mathlib.Core.List.{List, [], _∷_, append-nil, List·Memᴰ as Mem, List·Memᴰ·not-nil as not-nil, List·Memᴰ·cases-cons as cases-cons, List·Memᴰ·append-cases as append-cases}
+use mathlib.Core.List.{List, [], _∷_, append-nil, List·Memᴰ as Mem, List·Memᴰ·not-nil as not-nil, List·Memᴰ·cases-cons as cases-cons}
+use mathlib.Core.List.{List·Memᴰ·append-cases as append-cases}
 use Prim.Native.Nat.{ℕ, zero, suc, _+_, _-_, _≤_, _<_}
 use native.Mathlib.Decide.{ℕ-discrete, decLt}
 use native.Mathlib.Omega.{arith}
@@ -19,12 +20,14 @@ use Rattle.tree_layout.proofs.Formed.{decode-formed, at-mem}
 use Rattle.tree_leaf.specs.Leaf.{firstList}
 use Rattle.tree.specs.Shape.{shaped, treeRefusal}
 use Rattle.tree_leaf.specs.Leaf.{yardsIn}
-use Rattle.tree.specs.Yards.{endOf, starts, hops, childrenOf, gather, reached, ownYards, yardsFrom, yardsBelow, treeYards, sumFrom, oneLeaf, oneInner, leaves, inners}
+use Rattle.tree.specs.Yards.{endOf, starts, hops, childrenOf, gather, reached, ownYards, yardsFrom, yardsBelow, treeYards, sumFrom, oneLeaf, oneInner}
+use Rattle.tree.specs.Yards.{leaves, inners}
 use Rattle.tree.specs.Facts.{Preorder}
 use Rattle.tree.specs.Theorems.{TreeFacts, LeafOf, Regions, Holdings, Whole}
 use Rattle.tree_leaf.proofs.Named.{list-facts, first-length}
 use Rattle.tree.proofs.Forest.{Forest, none, leaf, wrap, join, rise, Rooted}
-use Rattle.tree.proofs.ForestLaws.{Sane, span, sum, span-split, span-none, span-leaf, span-inner, own-leaf, own-inner, visit, child, parent, adopted, sub, leaf-ok, leaf-order, yard-count, yard-range, yard-once, leaf-count, inner-count}
+use Rattle.tree.proofs.ForestLaws.{Sane, span, sum, span-split, span-none, span-leaf, span-inner, own-leaf, own-inner, visit, child, parent, adopted}
+use Rattle.tree.proofs.ForestLaws.{sub, leaf-ok, leaf-order, yard-count, yard-range, yard-once, leaf-count, inner-count}
 use Rattle.tree.proofs.Shaping.{inner-forest, EndsMeet, root-end, root-forest, root-yards, ends-meet, ranges-of, shape-facts, facts-shaped}
 use Rattle.tree.proofs.Reaching.{Nested, reached-all, level-high, level-low}
 
@@ -40,7 +43,8 @@ sane-of t f m v = record {
   range = λ j h. at j h .range;
   many = λ j h c. many-of (regionAt rs j .children) (at j h .kind) c;
   some = λ j h. at j h .some;
-  listed = λ j h c. first-length (t .landmarks) (regionAt rs j .yards) (regionAt rs j .marks) m (f (regionAt rs j) (at-mem rs j h) .count) (λ k i. f (regionAt rs j) (at-mem rs j h) .lists c k i .1);
+  listed = λ j h c. first-length (t .landmarks) (regionAt rs j .yards) (regionAt rs j .marks) m (f (regionAt rs j) (at-mem rs j h) .count) (λ k i. f (regionAt
+      rs j) (at-mem rs j h) .lists c k i .1);
 }
   where
     rs : List Region
@@ -96,7 +100,8 @@ module _ (rs : List Region) (sane : Sane rs) where
   yard-from zero i y k = absurd (not-nil k)
   yard-from (suc n) i y k = go (append-cases (ownYards (regionAt rs i)) k) (λ j. yard-from n (suc i) y j)
     where
-      go : Mem y (ownYards (regionAt rs i)) ⊎ Mem y (yardsFrom rs n (suc i)) → (Mem y (yardsFrom rs n (suc i)) → (j : ℕ) × (suc i ≤ j) × (j < suc i + n) × Mem y (ownYards (regionAt rs j))) → (j : ℕ) × (i ≤ j) × (j < i + suc n) × Mem y (ownYards (regionAt rs j))
+      go : Mem y (ownYards (regionAt rs i)) ⊎ Mem y (yardsFrom rs n (suc i)) → (Mem y (yardsFrom rs n (suc i))
+          → (j : ℕ) × (suc i ≤ j) × (j < suc i + n) × Mem y (ownYards (regionAt rs j))) → (j : ℕ) × (i ≤ j) × (j < i + suc n) × Mem y (ownYards (regionAt rs j))
       go (inl j) rec = (i, omega arith, omega arith, j)
       go (inr j) rec = let x = rec j in (x .0, omega (arith, x .1), omega (arith, x .2), x .3)
 
@@ -171,7 +176,8 @@ module _ (t : Tree) (sane : Sane (t .regions)) (there : 1 ≤ length (t .regions
     inside = λ r y h k. yard-range rs sane (subtree-at r h) y (rw (below-span rs sane r) at k);
     once = λ r h. rw (below-span rs sane r) (yard-once rs sane (subtree-at r h));
     count = λ r h. rw (below-span rs sane r) (yard-count rs sane (subtree-at r h));
-    listed = λ r h c m k y. let f = list-facts (regionAt rs r) (leaf-ok rs sane root r (omega arith) h c) m k in ((λ j. f .from-first y (rw (leaf-below r h c) at j)), (λ j. rw (leaf-below r h c) (f .to-first y j)));
+    listed = λ r h c m k y. let f = list-facts (regionAt rs r) (leaf-ok rs sane root r (omega arith) h c) m k in
+        ((λ j. f .from-first y (rw (leaf-below r h c) at j)), (λ j. rw (leaf-below r h c) (f .to-first y j)));
     listed-once = λ r h c m k. list-facts (regionAt rs r) (leaf-ok rs sane root r (omega arith) h c) m k .once-each;
   }
 
@@ -194,7 +200,13 @@ module _ (t : Tree) (sane : Sane (t .regions)) (there : 1 ≤ length (t .regions
     where
       apart : (i e : ℕ) → LeafOf rs y i → LeafOf rs y e → i < e → ⊥
       apart i e x z h =
-          omega (arith, leaf-order rs sane root i e (omega arith) h (z .number) (x .leaf), tree-holdings .inside i y (x .number) (x .holds) .1, tree-holdings .inside e y (z .number) (z .holds) .0)
+          omega (
+            arith,
+            leaf-order rs sane root i e (omega arith) h (z .number) (x .leaf),
+            tree-holdings .inside i y (x .number) (x .holds) .1,
+            tree-holdings
+                .inside e y (z .number) (z .holds) .0,
+          )
 
       go : Dec (j < k) → Dec (k < j) → j ≡ k
       go (yes h) v = absurd (apart j k a b h)
@@ -237,4 +249,5 @@ accepted-whole b e =
     let l = layout-facts b (p .0) in
     let q = passed (shaped (decode b)) 7 0 (p .1) (omega arith) in
     let h = layout-there b l in
-    whole-of (decode b) (layout-sane b l) h (q .0) (rw (decode-yards b) (l .yards .1)) (rw (decode-junctions b) (l .values (regionAt (decode b .regions) 0) (at-mem (decode b .regions) 0 h) .within))
+    whole-of (decode b) (layout-sane b l) h (q .0) (rw (decode-yards b) (l .yards .1)) (rw (decode-junctions b) (l .values (regionAt (decode b .regions) 0)
+    (at-mem (decode b .regions) 0 h) .within))

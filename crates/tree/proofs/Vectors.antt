@@ -1,4 +1,5 @@
--- The refusals of a tree book on worked examples: net N's tree of 01, a tree of five regions, one of two landmarks, trees of eight and of nine levels. Assumes nothing.
+-- The refusals of a tree book on worked examples: net N's tree of 01, a tree of five regions, one of two landmarks, trees of eight and of nine levels. Assumes
+-- nothing.
 use mathlib.Core.Path.{_≡_, refl}
 use mathlib.Core.List.{List, [], _∷_, _++_, map}
 use Prim.Native.Nat.{ℕ, zero, suc, _+_, _*_, _/_, _%_}
@@ -7,7 +8,8 @@ use Rattle.book.specs.Choose.{choose, refuse, firstOf}
 use Rattle.book.specs.Bytes.{u8At, u16At, u32At}
 use Rattle.book.specs.Open.{openRefusal}
 use Rattle.tree_layout.specs.Values.{leafMark, innerMark, firstDistance, lastFrom, noRegion, regionAt}
-use Rattle.tree_layout.specs.Decode.{elementAt, readList, listPart, readLists, readSpans, readMarks, markSize, recordSize, sizeAt, readRegion, readRegions, junctionCount, regionCount, yardCount, landmarkCount, decode}
+use Rattle.tree_layout.specs.Decode.{elementAt, readList, listPart, readLists, readSpans, readMarks, markSize, recordSize, sizeAt, readRegion, readRegions}
+use Rattle.tree_layout.specs.Decode.{junctionCount, regionCount, yardCount, landmarkCount, decode}
 use Rattle.tree_layout.specs.Refusal.{between, all, recordsOk, near, comes, risesFrom, rises, listOk, markOk, childrenOk, regionOk, valuesOk, layoutRefusal}
 use Rattle.tree_layout.proofs.Vectors.{netN, fiveRegions}
 use Rattle.tree_leaf.specs.Leaf.{names, once, inRange, namedBy, firstList, sameYards, agreeing, leafOk}
@@ -17,7 +19,8 @@ use Rattle.tree.specs.Yards.{endOf, starts, childrenOf, ownYards, yardsF
 
 -- net N's tree with two landmarks, 0 and 2
 unfoldable pub twoLandmarks : List ℕ
-twoLandmarks = 0 ∷ 0 ∷ 0 ∷ 55 ∷ 1 ∷ 0 ∷ 5 ∷ 0 ∷ 1 ∷ 0 ∷ 3 ∷ 2 ∷ 0 ∷ 0 ∷ 0 ∷ 5 ∷ 0 ∷ 0 ∷ 3 ∷ 0 ∷ 0 ∷ 0 ∷ 0 ∷ 0 ∷ 2 ∷ 0 ∷ 1 ∷ 0 ∷ 0 ∷ 0 ∷ 9 ∷ 0 ∷ 3 ∷ 0 ∷ 0 ∷ 0 ∷ 10 ∷ 0 ∷ 4 ∷ 0 ∷ 2 ∷ 0 ∷ 0 ∷ 0 ∷ 3 ∷ 0 ∷ 1 ∷ 0 ∷ 0 ∷ 0 ∷ 4 ∷ 0 ∷ 3 ∷ 0 ∷ 0 ∷ 0 ∷ 5 ∷ 0 ∷ 4 ∷ []
+twoLandmarks = 0 ∷ 0 ∷ 0 ∷ 55 ∷ 1 ∷ 0 ∷ 5 ∷ 0 ∷ 1 ∷ 0 ∷ 3 ∷ 2 ∷ 0 ∷ 0 ∷ 0 ∷ 5 ∷ 0 ∷ 0 ∷ 3 ∷ 0 ∷ 0 ∷ 0 ∷ 0 ∷ 0 ∷ 2 ∷ 0 ∷ 1 ∷ 0 ∷ 0 ∷ 0 ∷ 9 ∷ 0 ∷ 3 ∷ 0 ∷ 0 ∷ 0 ∷
+    10 ∷ 0 ∷ 4 ∷ 0 ∷ 2 ∷ 0 ∷ 0 ∷ 0 ∷ 3 ∷ 0 ∷ 1 ∷ 0 ∷ 0 ∷ 0 ∷ 4 ∷ 0 ∷ 3 ∷ 0 ∷ 0 ∷ 0 ∷ 5 ∷ 0 ∷ 4 ∷ []
 
 -- a leaf of one junction, i
 unfoldable pub leafBytes : ℕ → List ℕ
@@ -26,7 +29,8 @@ leafBytes i = 0 ∷ i ∷ 0 ∷ suc i ∷ 0 ∷ 0 ∷ 1 ∷ 0 ∷ i ∷ 0 ∷ 0 
 -- regions whose last leaf is n levels below the first, with a leaf beside each step
 unfoldable pub ladderBytes : ℕ → ℕ → List ℕ
 ladderBytes zero i = leafBytes i
-ladderBytes (suc n) i = (0 ∷ i ∷ 0 ∷ (i + suc (suc n)) ∷ 2 ∷ 0 ∷ suc (suc n) ∷ 0 ∷ i ∷ 0 ∷ 0 ∷ 0 ∷ 0 ∷ 0 ∷ 0 ∷ 0 ∷ 0 ∷ []) ++ (leafBytes i ++ ladderBytes n (suc i))
+ladderBytes (suc n) i = (0 ∷ i ∷ 0 ∷ (i + suc (suc n)) ∷ 2 ∷ 0 ∷ suc (suc n) ∷ 0 ∷ i ∷ 0 ∷ 0 ∷ 0 ∷ 0 ∷ 0 ∷ 0 ∷ 0 ∷ 0 ∷ []) ++ (leafBytes i ++ ladderBytes n
+    (suc i))
 
 -- the tree book of 2 n + 1 such regions
 unfoldable pub ladder : ℕ → List ℕ
@@ -34,37 +38,64 @@ ladder n = (0 ∷ 0 ∷ ((23 + 32 * n) / 256) ∷ ((23 + 32 * n) % 256) ∷ 1 �
 
 -- unchanged
 pub row0 : map treeRefusal ((netN) ∷ (fiveRegions) ∷ (twoLandmarks) ∷ []) ≡ 0 ∷ 0 ∷ 0 ∷ []
-unfolding netN fiveRegions choose refuse firstOf u8At u16At u32At openRefusal leafMark innerMark firstDistance lastFrom elementAt readList listPart readLists readSpans readMarks markSize recordSize sizeAt readRegion readRegions junctionCount regionCount yardCount landmarkCount decode between all recordsOk near comes risesFrom rises listOk markOk childrenOk regionOk valuesOk layoutRefusal noRegion regionAt twoLandmarks leafBytes ladderBytes ladder names once inRange namedBy firstList sameYards agreeing leafOk childFits siblings subtree shaped treeRefusal
+unfolding netN fiveRegions choose refuse firstOf u8At u16At u32At openRefusal leafMark innerMark firstDistance lastFrom elementAt readList listPart readLists
+    readSpans readMarks markSize recordSize sizeAt readRegion readRegions junctionCount regionCount yardCount landmarkCount decode between all recordsOk near
+    comes risesFrom rises listOk markOk childrenOk regionOk valuesOk layoutRefusal noRegion regionAt twoLandmarks leafBytes ladderBytes ladder names once
+    inRange namedBy firstList sameYards agreeing leafOk childFits siblings subtree shaped treeRefusal
 row0 = refl
 
 -- the layout's refusals come first, each by its number
-pub row1 : map treeRefusal (([]) ∷ (set fiveRegions 4 2) ∷ (set fiveRegions 6 0) ∷ (take 90 (set fiveRegions 3 86)) ∷ (set (set fiveRegions 10 2) 16 1) ∷ []) ≡ 1 ∷ 2 ∷ 3 ∷ 4 ∷ 5 ∷ []
-unfolding netN fiveRegions choose refuse firstOf u8At u16At u32At openRefusal leafMark innerMark firstDistance lastFrom elementAt readList listPart readLists readSpans readMarks markSize recordSize sizeAt readRegion readRegions junctionCount regionCount yardCount landmarkCount decode between all recordsOk near comes risesFrom rises listOk markOk childrenOk regionOk valuesOk layoutRefusal noRegion regionAt twoLandmarks leafBytes ladderBytes ladder names once inRange namedBy firstList sameYards agreeing leafOk childFits siblings subtree shaped treeRefusal
+pub row1 : map treeRefusal (([]) ∷ (set fiveRegions 4 2) ∷ (set fiveRegions 6 0) ∷ (take 90 (set fiveRegions 3 86)) ∷ (set (set fiveRegions 10 2) 16 1) ∷ []) ≡
+    1 ∷ 2 ∷ 3 ∷ 4 ∷ 5 ∷ []
+unfolding netN fiveRegions choose refuse firstOf u8At u16At u32At openRefusal leafMark innerMark firstDistance lastFrom elementAt readList listPart readLists
+    readSpans readMarks markSize recordSize sizeAt readRegion readRegions junctionCount regionCount yardCount landmarkCount decode between all recordsOk near
+    comes risesFrom rises listOk markOk childrenOk regionOk valuesOk layoutRefusal noRegion regionAt twoLandmarks leafBytes ladderBytes ladder names once
+    inRange namedBy firstList sameYards agreeing leafOk childFits siblings subtree shaped treeRefusal
 row1 = refl
 
--- 7: overlapping ranges; a child past its parent; a sum that is not; the header's yards; a yard outside its range; children too many, too few; a yard twice; lists that differ
-pub row2 : map treeRefusal ((set fiveRegions 45 1) ∷ (set fiveRegions 47 4) ∷ (set fiveRegions 18 2) ∷ (set fiveRegions 10 2) ∷ (set fiveRegions 75 4) ∷ (set fiveRegions 16 3) ∷ (set fiveRegions 48 3) ∷ (set netN 38 3) ∷ (set twoLandmarks 46 0) ∷ []) ≡ 7 ∷ 7 ∷ 7 ∷ 7 ∷ 7 ∷ 7 ∷ 7 ∷ 7 ∷ 7 ∷ []
-unfolding netN fiveRegions choose refuse firstOf u8At u16At u32At openRefusal leafMark innerMark firstDistance lastFrom elementAt readList listPart readLists readSpans readMarks markSize recordSize sizeAt readRegion readRegions junctionCount regionCount yardCount landmarkCount decode between all recordsOk near comes risesFrom rises listOk markOk childrenOk regionOk valuesOk layoutRefusal noRegion regionAt twoLandmarks leafBytes ladderBytes ladder names once inRange namedBy firstList sameYards agreeing leafOk childFits siblings subtree shaped treeRefusal
+-- 7: overlapping ranges; a child past its parent; a sum that is not; the header's yards; a yard outside its range; children too many, too few; a yard twice;
+-- lists that differ
+pub row2 : map treeRefusal ((set fiveRegions 45 1) ∷ (set fiveRegions 47 4) ∷ (set fiveRegions 18 2) ∷ (set fiveRegions 10 2) ∷ (set fiveRegions 75 4) ∷ (set
+    fiveRegions 16 3) ∷ (set fiveRegions 48 3) ∷ (set netN 38 3) ∷ (set twoLandmarks 46 0) ∷ []) ≡ 7 ∷ 7 ∷ 7 ∷ 7 ∷ 7 ∷ 7 ∷ 7 ∷ 7 ∷ 7 ∷ []
+unfolding netN fiveRegions choose refuse firstOf u8At u16At u32At openRefusal leafMark innerMark firstDistance lastFrom elementAt readList listPart readLists
+    readSpans readMarks markSize recordSize sizeAt readRegion readRegions junctionCount regionCount yardCount landmarkCount decode between all recordsOk near
+    comes risesFrom rises listOk markOk childrenOk regionOk valuesOk layoutRefusal noRegion regionAt twoLandmarks leafBytes ladderBytes ladder names once
+    inRange namedBy firstList sameYards agreeing leafOk childFits siblings subtree shaped treeRefusal
 row2 = refl
 
 -- eight levels pass, nine do not
 pub row3 : map treeRefusal ((ladder 7) ∷ (ladder 8) ∷ []) ≡ 0 ∷ 7 ∷ []
-unfolding netN fiveRegions choose refuse firstOf u8At u16At u32At openRefusal leafMark innerMark firstDistance lastFrom elementAt readList listPart readLists readSpans readMarks markSize recordSize sizeAt readRegion readRegions junctionCount regionCount yardCount landmarkCount decode between all recordsOk near comes risesFrom rises listOk markOk childrenOk regionOk valuesOk layoutRefusal noRegion regionAt twoLandmarks leafBytes ladderBytes ladder names once inRange namedBy firstList sameYards agreeing leafOk childFits siblings subtree shaped treeRefusal
+unfolding netN fiveRegions choose refuse firstOf u8At u16At u32At openRefusal leafMark innerMark firstDistance lastFrom elementAt readList listPart readLists
+    readSpans readMarks markSize recordSize sizeAt readRegion readRegions junctionCount regionCount yardCount landmarkCount decode between all recordsOk near
+    comes risesFrom rises listOk markOk childrenOk regionOk valuesOk layoutRefusal noRegion regionAt twoLandmarks leafBytes ladderBytes ladder names once
+    inRange namedBy firstList sameYards agreeing leafOk childFits siblings subtree shaped treeRefusal
 row3 = refl
 
 -- the five regions' children, subtrees' ends and yards
 pub children : map (childrenOf (decode fiveRegions .regions)) (0 ∷ 1 ∷ 2 ∷ []) ≡ (1 ∷ 2 ∷ []) ∷ [] ∷ (3 ∷ 4 ∷ []) ∷ []
-unfolding netN fiveRegions choose refuse firstOf u8At u16At u32At openRefusal leafMark innerMark firstDistance lastFrom elementAt readList listPart readLists readSpans readMarks markSize recordSize sizeAt readRegion readRegions junctionCount regionCount yardCount landmarkCount decode between all recordsOk near comes risesFrom rises listOk markOk childrenOk regionOk valuesOk layoutRefusal noRegion regionAt twoLandmarks leafBytes ladderBytes ladder names once inRange namedBy firstList sameYards agreeing leafOk childFits siblings subtree shaped treeRefusal endOf starts childrenOf
+unfolding netN fiveRegions choose refuse firstOf u8At u16At u32At openRefusal leafMark innerMark firstDistance lastFrom elementAt readList listPart readLists
+    readSpans readMarks markSize recordSize sizeAt readRegion readRegions junctionCount regionCount yardCount landmarkCount decode between all recordsOk near
+    comes risesFrom rises listOk markOk childrenOk regionOk valuesOk layoutRefusal noRegion regionAt twoLandmarks leafBytes ladderBytes ladder names once
+    inRange namedBy firstList sameYards agreeing leafOk childFits siblings subtree shaped treeRefusal endOf starts childrenOf
 children = refl
 
 pub ends : map (endOf (decode fiveRegions .regions)) (0 ∷ 1 ∷ 2 ∷ 3 ∷ 4 ∷ []) ≡ 5 ∷ 2 ∷ 5 ∷ 4 ∷ 5 ∷ []
-unfolding netN fiveRegions choose refuse firstOf u8At u16At u32At openRefusal leafMark innerMark firstDistance lastFrom elementAt readList listPart readLists readSpans readMarks markSize recordSize sizeAt readRegion readRegions junctionCount regionCount yardCount landmarkCount decode between all recordsOk near comes risesFrom rises listOk markOk childrenOk regionOk valuesOk layoutRefusal noRegion regionAt twoLandmarks leafBytes ladderBytes ladder names once inRange namedBy firstList sameYards agreeing leafOk childFits siblings subtree shaped treeRefusal endOf
+unfolding netN fiveRegions choose refuse firstOf u8At u16At u32At openRefusal leafMark innerMark firstDistance lastFrom elementAt readList listPart readLists
+    readSpans readMarks markSize recordSize sizeAt readRegion readRegions junctionCount regionCount yardCount landmarkCount decode between all recordsOk near
+    comes risesFrom rises listOk markOk childrenOk regionOk valuesOk layoutRefusal noRegion regionAt twoLandmarks leafBytes ladderBytes ladder names once
+    inRange namedBy firstList sameYards agreeing leafOk childFits siblings subtree shaped treeRefusal endOf
 ends = refl
 
 pub yards : map (yardsBelow (decode fiveRegions .regions)) (0 ∷ 1 ∷ 2 ∷ []) ≡ (1 ∷ 3 ∷ 4 ∷ []) ∷ (1 ∷ []) ∷ (3 ∷ 4 ∷ []) ∷ []
-unfolding netN fiveRegions choose refuse firstOf u8At u16At u32At openRefusal leafMark innerMark firstDistance lastFrom elementAt readList listPart readLists readSpans readMarks markSize recordSize sizeAt readRegion readRegions junctionCount regionCount yardCount landmarkCount decode between all recordsOk near comes risesFrom rises listOk markOk childrenOk regionOk valuesOk layoutRefusal noRegion regionAt twoLandmarks leafBytes ladderBytes ladder names once inRange namedBy firstList sameYards agreeing leafOk childFits siblings subtree shaped treeRefusal endOf yardsIn ownYards yardsFrom yardsBelow
+unfolding netN fiveRegions choose refuse firstOf u8At u16At u32At openRefusal leafMark innerMark firstDistance lastFrom elementAt readList listPart readLists
+    readSpans readMarks markSize recordSize sizeAt readRegion readRegions junctionCount regionCount yardCount landmarkCount decode between all recordsOk near
+    comes risesFrom rises listOk markOk childrenOk regionOk valuesOk layoutRefusal noRegion regionAt twoLandmarks leafBytes ladderBytes ladder names once
+    inRange namedBy firstList sameYards agreeing leafOk childFits siblings subtree shaped treeRefusal endOf yardsIn ownYards yardsFrom yardsBelow
 yards = refl
 
 pub counts : inners (decode fiveRegions) ∷ leaves (decode fiveRegions) ∷ [] ≡ 2 ∷ 3 ∷ []
-unfolding netN fiveRegions choose refuse firstOf u8At u16At u32At openRefusal leafMark innerMark firstDistance lastFrom elementAt readList listPart readLists readSpans readMarks markSize recordSize sizeAt readRegion readRegions junctionCount regionCount yardCount landmarkCount decode between all recordsOk near comes risesFrom rises listOk markOk childrenOk regionOk valuesOk layoutRefusal noRegion regionAt twoLandmarks leafBytes ladderBytes ladder names once inRange namedBy firstList sameYards agreeing leafOk childFits siblings subtree shaped treeRefusal sumFrom oneLeaf oneInner leaves inners
+unfolding netN fiveRegions choose refuse firstOf u8At u16At u32At openRefusal leafMark innerMark firstDistance lastFrom elementAt readList listPart readLists
+    readSpans readMarks markSize recordSize sizeAt readRegion readRegions junctionCount regionCount yardCount landmarkCount decode between all recordsOk near
+    comes risesFrom rises listOk markOk childrenOk regionOk valuesOk layoutRefusal noRegion regionAt twoLandmarks leafBytes ladderBytes ladder names once
+    inRange namedBy firstList sameYards agreeing leafOk childFits siblings subtree shaped treeRefusal sumFrom oneLeaf oneInner leaves inners
 counts = refl

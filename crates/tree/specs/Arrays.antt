@@ -1,4 +1,5 @@
--- What the arrays hold that reach a region in constant time, and a region's fields. Assumes nothing: these are definitions.
+-- What the arrays hold that reach a region in constant time, and a region's fields. Assumes nothing: these are
+-- definitions.
 use mathlib.Core.Path.{_≡_}
 use mathlib.Core.List.{List}
 use Prim.Native.Nat.{ℕ, zero, suc, _<_}

@@ -1,4 +1,5 @@
--- Test 7, "Tree shape", by a descent of the regions in preorder, and the refusal of a tree book. Assumes nothing: these are definitions.
+-- Test 7, "Tree shape", by a descent of the regions in preorder, and the refusal of a tree book. Assumes nothing: these
+-- are definitions.
 use mathlib.Core.Bool.{Bool, _&&_}
 use mathlib.Core.List.{List}
 use Prim.Native.Nat.{ℕ, zero, suc, _-_}
@@ -16,8 +17,10 @@ use Rattle.tree_leaf.specs.Leaf.{leafOk}
 unfoldable pub childFits : (low high left : ℕ) → (first after yards : ℕ) → Bool
 childFits low high left first after yards = leb low first && (leb after high && leb yards left)
 
--- "children's ranges rise, don't overlap and lie inside the parent's; a parent's yards are its children's sum": of n siblings, the first of
--- number i, in the range from low to high that is left, with the yards that are left. The number after the last region of their subtrees,
+-- "children's ranges rise, don't overlap and lie inside the parent's; a parent's yards are its children's sum": of n
+-- siblings, the first of
+-- number i, in the range from low to high that is left, with the yards that are left. The number after the last region
+-- of their subtrees,
 -- or 0 if a rule doesn't hold. `f` descends to a sibling.
 unfoldable pub siblings : List Region → (ℕ → ℕ) → ℕ → ℕ → ℕ → ℕ → ℕ → ℕ
 siblings rs f zero i low high left = choose (eqb left 0) i 0
@@ -27,7 +30,8 @@ siblings rs f (suc n) i low high left =
     let rest = siblings rs f n e (c .after) high (left - c .yards) in
     choose (childFits low high left (c .first) (c .after) (c .yards)) (choose (ltb 0 e) rest 0) 0
 
--- "the child counts make all the regions one tree in preorder": the number after the last region of region i's subtree, by a descent with
+-- "the child counts make all the regions one tree in preorder": the number after the last region of region i's subtree,
+-- by a descent with
 -- the levels that remain, or 0 if a rule doesn't hold
 unfoldable pub subtree : List Region → ℕ → ℕ → ℕ
 subtree rs zero i = 0

@@ -9,7 +9,8 @@ use Rattle.tree_layout.specs.Values.{Mark, Region, Tree, regionAt}
 use Rattle.tree_layout.specs.Decode.{decode}
 use Rattle.tree_layout.specs.Facts.{TreeLayout}
 use Rattle.tree_leaf.specs.Leaf.{yardsIn}
-use Rattle.tree.specs.Yards.{endOf, hops, childrenOf, gather, reached, numbers, levelOf, yardsBelow, treeYards, leaves, inners}
+use Rattle.tree.specs.Yards.{endOf, hops, childrenOf, gather, reached, numbers, levelOf, yardsBelow, treeYards}
+use Rattle.tree.specs.Yards.{leaves, inners}
 use Rattle.tree.specs.Facts.{RangesRise, TreeShape}
 
 -- the facts of "Tree book" and of "Tree shape"
@@ -31,7 +32,8 @@ pub record Regions (rs : List Region) : Type 0 where
   pub above : (r c : ℕ) → r < length rs → Mem c (childrenOf rs r) → (r < c) × (c < length rs)
   -- every region but the root has a parent, and no region has two
   pub parent : (c : ℕ) → c < length rs → c ≢ 0 → (r : ℕ) × (r < length rs) × Mem c (childrenOf rs r)
-  pub one-parent : (r s c : ℕ) → r < length rs → s < length rs → Mem c (childrenOf rs r) → Mem c (childrenOf rs s) → r ≡ s
+  pub one-parent : (r s c : ℕ) → r < length rs → s < length rs → Mem c (childrenOf rs r) → Mem c (childrenOf rs s)
+      → r ≡ s
   -- a subtree ends where its last child's ends
   pub ends : (r : ℕ) → r < length rs → endOf rs r ≡ hops (endOf rs) (regionAt rs r .children) (suc r)
   pub ends-above : (r : ℕ) → r < length rs → (r < endOf rs r) × (endOf rs r ≤ length rs)
@@ -42,15 +44,19 @@ pub record Regions (rs : List Region) : Type 0 where
 -- regions and their yards
 pub record Holdings (rs : List Region) : Type 0 where
   -- an inner region's yards are those of its children, one child after the other in the order of their ranges
-  pub joined : (r : ℕ) → r < length rs → 0 < regionAt rs r .children → yardsBelow rs r ≡ gather (yardsBelow rs) (childrenOf rs r)
+  pub joined : (r : ℕ) → r < length rs → 0 < regionAt rs r .children
+      → yardsBelow rs r ≡ gather (yardsBelow rs) (childrenOf rs r)
   pub ranges : (r : ℕ) → r < length rs → RangesRise rs (regionAt rs r .first) (regionAt rs r .after) (childrenOf rs r)
-  pub inside : (r y : ℕ) → r < length rs → Mem y (yardsBelow rs r) → (regionAt rs r .first ≤ y) × (y < regionAt rs r .after)
+  pub inside : (r y : ℕ) → r < length rs → Mem y (yardsBelow rs r)
+      → (regionAt rs r .first ≤ y) × (y < regionAt rs r .after)
   -- each once, so that the children's are disjoint; and as many as its record says
   pub once : (r : ℕ) → r < length rs → Distinct (yardsBelow rs r)
   pub count : (r : ℕ) → r < length rs → length (yardsBelow rs r) ≡ regionAt rs r .yards
   -- a leaf's yards are in all of its lists, each once
-  pub listed : (r : ℕ) → r < length rs → regionAt rs r .children ≡ 0 → (m : Mark) → Mem m (regionAt rs r .marks) → (y : ℕ) → Mem y (yardsBelow rs r) ↔ Mem y (yardsIn (m .list))
-  pub listed-once : (r : ℕ) → r < length rs → regionAt rs r .children ≡ 0 → (m : Mark) → Mem m (regionAt rs r .marks) → Distinct (yardsIn (m .list))
+  pub listed : (r : ℕ) → r < length rs → regionAt rs r .children ≡ 0 → (m : Mark) → Mem m (regionAt rs r .marks)
+      → (y : ℕ) → Mem y (yardsBelow rs r) ↔ Mem y (yardsIn (m .list))
+  pub listed-once : (r : ℕ) → r < length rs → regionAt rs r .children ≡ 0 → (m : Mark)
+      → Mem m (regionAt rs r .marks) → Distinct (yardsIn (m .list))
 
 -- the whole tree
 pub record Whole (t : Tree) : Type 0 where

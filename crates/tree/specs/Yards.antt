@@ -1,4 +1,5 @@
--- Of a shaped tree: where subtrees end, a region's children, and the yards below it. Assumes nothing: these are definitions.
+-- Of a shaped tree: where subtrees end, a region's children, and the yards below it. Assumes nothing: these are
+-- definitions.
 use mathlib.Core.List.{List, [], _∷_, _++_}
 use Prim.Native.Nat.{ℕ, zero, suc, _+_, _-_}
 use lib.ListN.{length}

@@ -15,11 +15,14 @@ use Rattle.book.proofs.Choosing.{T-split}
 use Rattle.book.proofs.Lists.{neqb→ne}
 use Rattle.book.proofs.Writing.{Rest, rest-all, read-u8, next-u8, read-u16, next-u16, read-u32, next-u32}
 use Rattle.tree_layout.specs.Values.{Element, Mark, Region, Tree, leafMark, innerMark}
-use Rattle.tree_layout.specs.Decode.{elementAt, readList, listPart, readLists, readSpans, readMarks, readRegion, readRegions, markSize, recordSize, sizeAt, placeFrom, junctionCount, regionCount, yardCount, landmarkCount, decode}
+use Rattle.tree_layout.specs.Decode.{elementAt, readList, listPart, readLists, readSpans, readMarks, readRegion, readRegions, markSize, recordSize, sizeAt}
+use Rattle.tree_layout.specs.Decode.{placeFrom, junctionCount, regionCount, yardCount, landmarkCount, decode}
 use Rattle.tree_layout.proofs.Places.{mark-size-leaf, mark-size-inner, place-zero, place-suc}
 use Rattle.tree_layout.specs.Formed.{Formed, FormedTree}
 use Rattle.tree_layout.proofs.Formed.{marks-lists, marks-spans}
-use Rattle.tree_layout.proofs.Decoding.{element-is, read-list-none, read-list-next, list-part-is, read-lists-none, read-lists-next, read-spans-none, read-spans-next, record-size, size-of, read-region, read-regions-none, read-regions-next, count-junctions, count-regions, count-yards, count-landmarks, decode-is}
+use Rattle.tree_layout.proofs.Decoding.{element-is, read-list-none, read-list-next, list-part-is, read-lists-none, read-lists-next, read-spans-none}
+use Rattle.tree_layout.proofs.Decoding.{read-spans-next, record-size, size-of, read-region, read-regions-none, read-regions-next, count-junctions}
+use Rattle.tree_layout.proofs.Decoding.{count-regions, count-yards, count-landmarks, decode-is}
 use Rattle.tree_encode.specs.Encode.{encodeElement, encodeList, encodeMark, encodeMarks, encodeRegion, encodeRegions, encodeBody, encode}
 use Rattle.tree_encode.proofs.Sizes.{mark-leaf, mark-inner, list-length}
 
@@ -42,7 +45,8 @@ list-back b (e ∷ es) at s h =
 
 -- the part of the book that a list takes up
 part-back : (b : List ℕ) (es : List Element) (at : ℕ) (s : List ℕ) → Rest b at (encodeList es ++ s) → listPart b (length es) at ≡ encodeList es
-part-back b es at s h = list-part-is b (length es) at ∙ (ap (λ (l : List ℕ). take (6 * length es) l) (h .same) ∙ take-at (encodeList es) s (6 * length es) (list-length es))
+part-back b es at s h = list-part-is b (length es) at ∙ (ap (λ (l : List ℕ). take (6 * length es) l) (h .same)
+    ∙ take-at (encodeList es) s (6 * length es) (list-length es))
 
 rest-drop : (b w : List ℕ) (at n : ℕ) (s : List ℕ) → length w ≡ n → Rest b at (w ++ s) → Rest b (at + n) s
 rest-drop b w at n s e h = go w at n e h
@@ -57,7 +61,8 @@ record MarksBack (b : List ℕ) (ms : List Mark) (at size : ℕ) (s : List ℕ) 
   pub same : got ≡ ms
   pub next : Rest b (at + length ms * size) s
 
-lists-back : (b : List ℕ) (c yards : ℕ) → c ≡ 0 → (ms : List Mark) → ((k : Mark) → Mem k ms → (k ≡ leafMark (k .place) (k .list)) × (length (k .list) ≡ yards)) → (at : ℕ) (s : List ℕ) → Rest b at (encodeMarks c ms ++ s)
+lists-back : (b : List ℕ) (c yards : ℕ) → c ≡ 0 → (ms : List Mark) → ((k : Mark) → Mem k ms
+    → (k ≡ leafMark (k .place) (k .list)) × (length (k .list) ≡ yards)) → (at : ℕ) (s : List ℕ) → Rest b at (encodeMarks c ms ++ s)
     → MarksBack b ms at (2 + 6 * yards) s (readLists b yards (length ms) at)
 unfolding encodeMarks
 lists-back b c yards z [] f at s h = record { same = read-lists-none b yards at; next = rw (let e : at + 0 * (2 + 6 * yards) ≡ at = omega arith in e) h }
@@ -65,32 +70,56 @@ lists-back b c yards z (k ∷ ks) f at s h =
     let m = f k (head refl) in
     let rest = encodeMarks c ks ++ s in
     let h1 : Rest b at (u16Bytes (k .place) ++ (encodeList (k .list) ++ rest))
-    = rw (append-assoc (encodeMark c k) (encodeMarks c ks) s, mark-leaf c k z, append-assoc (u16Bytes (k .place)) (encodeList (k .list)) (encodeMarks c ks ++ s)) at h in
+    = rw (
+      append-assoc (encodeMark c k) (encodeMarks c ks) s,
+      mark-leaf c k z,
+      append-assoc (u16Bytes (k .place)) (encodeList (k .list)) (encodeMarks c ks ++
+          s),
+    ) at h in
     let h2 = next-u16 b at (k .place) (encodeList (k .list) ++ rest) h1 in
     let part : listPart b yards (at + 2) ≡ encodeList (k .list) = rw (← m .1) (part-back b (k .list) (at + 2) rest h2) in
     let whole : Rest (encodeList (k .list)) 0 (encodeList (k .list) ++ []) = rw (append-nil (encodeList (k .list))) (rest-all (encodeList (k .list))) in
     let got : readList (encodeList (k .list)) yards 0 ≡ k .list = rw (← m .1) (list-back (encodeList (k .list)) (k .list) 0 [] whole) in
-    let h3 : Rest b (at + (2 + 6 * yards)) rest = rw (let e : at + (2 + 6 * yards) ≡ at + 2 + 6 * yards = omega arith in e) (rest-drop b (encodeList (k .list)) (at + 2) (6 * yards) rest (omega (arith, list-length (k .list), m .1)) h2) in
+    let h3 : Rest b (at + (2 + 6 * yards)) rest = rw (let e : at + (2 + 6 * yards) ≡ at + 2 + 6 * yards = omega arith in
+    e) (rest-drop b (encodeList (k .list)) (at + 2) (6 * yards) rest (omega (arith, list-length (k .list), m .1)) h2) in
     let r = lists-back b c yards z ks (λ j i. f j (tail i)) (at + (2 + 6 * yards)) s h3 in
     record {
-      same = rw (read-lists-next b yards (length ks) at, read-u16 b at (k .place) (encodeList (k .list) ++ rest) h1, part, got, r .same) (ap (λ (x : Mark). x ∷ ks) (sym (m .0)));
-      next = rw (let e : at + suc (length ks) * (2 + 6 * yards) ≡ at + (2 + 6 * yards) + length ks * (2 + 6 * yards) = omega (arith, suc-mul (length ks) (2 + 6 * yards)) in e) (r .next);
+      same = rw (read-lists-next b yards (length ks) at, read-u16 b at (k .place) (encodeList (k .list) ++ rest) h1, part, got, r .same) (ap (λ (x : Mark). x ∷
+          ks) (sym (m .0)));
+      next = rw (let e : at + suc (length ks) * (2 + 6 * yards)
+          ≡ at + (2 + 6 * yards) + length ks * (2 + 6 * yards) = omega (arith, suc-mul (length ks) (2 + 6 * yards)) in e) (r .next);
     }
 
-spans-back : (b : List ℕ) (c : ℕ) → 0 < c → (ms : List Mark) → ((k : Mark) → Mem k ms → k ≡ innerMark (k .place) (k .least) (k .greatest)) → (at : ℕ) (s : List ℕ) → Rest b at (encodeMarks c ms ++ s)
+spans-back : (b : List ℕ) (c : ℕ) → 0 < c → (ms : List Mark) → ((k : Mark) → Mem k ms → k ≡ innerMark (k .place) (k .least) (k .greatest))
+    → (at : ℕ) (s : List ℕ) → Rest b at (encodeMarks c ms ++ s)
     → MarksBack b ms at 10 s (readSpans b (length ms) at)
 unfolding encodeMarks
 spans-back b c z [] f at s h = record { same = read-spans-none b at; next = rw (let e : at + 0 * 10 ≡ at = omega arith in e) h }
 spans-back b c z (k ∷ ks) f at s h =
     let rest = encodeMarks c ks ++ s in
     let h1 : Rest b at (u16Bytes (k .place) ++ (u32Bytes (k .least) ++ (u32Bytes (k .greatest) ++ rest)))
-    = rw (append-assoc (encodeMark c k) (encodeMarks c ks) s, mark-inner c k z, append-assoc (u16Bytes (k .place)) (u32Bytes (k .least) ++ u32Bytes (k .greatest)) (encodeMarks c ks ++ s), append-assoc (u32Bytes (k .least)) (u32Bytes (k .greatest)) (encodeMarks c ks ++ s)) at h in
+    = rw (
+      append-assoc (encodeMark c k) (encodeMarks c ks) s,
+      mark-inner c k z,
+      append-assoc (u16Bytes (k .place)) (u32Bytes (k .least) ++ u32Bytes (k
+          .greatest)) (encodeMarks c ks ++ s),
+      append-assoc (u32Bytes (k .least)) (u32Bytes (k .greatest)) (encodeMarks c ks ++ s),
+    ) at h in
     let h2 = next-u16 b at (k .place) (u32Bytes (k .least) ++ (u32Bytes (k .greatest) ++ rest)) h1 in
-    let h3 : Rest b (at + 6) (u32Bytes (k .greatest) ++ rest) = rw (let e : at + 6 ≡ at + 2 + 4 = omega arith in e) (next-u32 b (at + 2) (k .least) (u32Bytes (k .greatest) ++ rest) h2) in
+    let h3 : Rest b (at + 6) (u32Bytes (k .greatest) ++ rest) = rw (let e : at + 6 ≡ at + 2 + 4 = omega arith in
+    e) (next-u32 b (at + 2) (k .least) (u32Bytes (k .greatest) ++ rest) h2) in
     let h4 : Rest b (at + 10) rest = rw (let e : at + 10 ≡ at + 6 + 4 = omega arith in e) (next-u32 b (at + 6) (k .greatest) rest h3) in
     let r = spans-back b c z ks (λ j i. f j (tail i)) (at + 10) s h4 in
     record {
-      same = rw (read-spans-next b (length ks) at, read-u16 b at (k .place) (u32Bytes (k .least) ++ (u32Bytes (k .greatest) ++ rest)) h1, read-u32 b (at + 2) (k .least) (u32Bytes (k .greatest) ++ rest) h2, read-u32 b (at + 6) (k .greatest) rest h3, r .same) (ap (λ (x : Mark). x ∷ ks) (sym (f k (head refl))));
+      same = rw (
+        read-spans-next b (length ks) at,
+        read-u16 b at (k .place) (u32Bytes (k .least) ++ (u32Bytes (k .greatest) ++ rest)) h1,
+        read-u32 b (at + 2)
+            (k .least) (u32Bytes (k .greatest) ++ rest) h2,
+        read-u32 b (at + 6) (k .greatest) rest h3,
+        r .same,
+      ) (ap (λ (x : Mark). x ∷ ks) (sym (f k (head
+          refl))));
       next = rw (let e : at + suc (length ks) * 10 ≡ at + 10 + length ks * 10 = omega arith in e) (r .next);
     }
 
@@ -98,7 +127,8 @@ marks-back : (b : List ℕ) (m : ℕ) (r : Region) → Formed m r → (at : ℕ)
     → (readMarks b m (r .children) (r .yards) at ≡ r .marks) × Rest b (at + m * markSize (r .children) (r .yards)) s
 marks-back b m r f at s h = go (T-split (eqb (r .children) 0))
   where
-    go : T (eqb (r .children) 0) ⊎ T (not (eqb (r .children) 0)) → (readMarks b m (r .children) (r .yards) at ≡ r .marks) × Rest b (at + m * markSize (r .children) (r .yards)) s
+    go : T (eqb (r .children) 0) ⊎ T (not (eqb (r .children) 0))
+        → (readMarks b m (r .children) (r .yards) at ≡ r .marks) × Rest b (at + m * markSize (r .children) (r .yards)) s
     go (inl t) =
         let e = eqb→eq (r .children) 0 t in
         let x = lists-back b (r .children) (r .yards) e (r .marks) (f .lists e) at s h in
@@ -120,10 +150,17 @@ unfolding encodeRegion
 region-back b m r f at s h =
     let marks = encodeMarks (r .children) (r .marks) ++ s in
     let h1 : Rest b at (u16Bytes (r .first) ++ (u16Bytes (r .after) ++ (r .children ∷ (u16Bytes (r .yards) ++ marks))))
-    = rw (append-assoc (u16Bytes (r .first)) (u16Bytes (r .after) ++ (r .children ∷ (u16Bytes (r .yards) ++ encodeMarks (r .children) (r .marks)))) s, append-assoc (u16Bytes (r .after)) (r .children ∷ (u16Bytes (r .yards) ++ encodeMarks (r .children) (r .marks))) s, append-assoc (u16Bytes (r .yards)) (encodeMarks (r .children) (r .marks)) s) at h in
+    = rw (
+      append-assoc (u16Bytes (r .first)) (u16Bytes (r .after) ++ (r .children ∷ (u16Bytes (r .yards) ++ encodeMarks (r .children) (r .marks)))) s,
+      append-assoc (u16Bytes (r .after)) (r .children ∷ (u16Bytes (r .yards) ++ encodeMarks (r .children) (r .marks))) s,
+      append-assoc (u16Bytes (r .yards))
+          (encodeMarks (r .children) (r .marks)) s,
+    ) at h in
     let h2 = next-u16 b at (r .first) (u16Bytes (r .after) ++ (r .children ∷ (u16Bytes (r .yards) ++ marks))) h1 in
-    let h3 : Rest b (at + 4) (r .children ∷ (u16Bytes (r .yards) ++ marks)) = rw (let e : at + 4 ≡ at + 2 + 2 = omega arith in e) (next-u16 b (at + 2) (r .after) (r .children ∷ (u16Bytes (r .yards) ++ marks)) h2) in
-    let h4 : Rest b (at + 5) (u16Bytes (r .yards) ++ marks) = rw (let e : at + 5 ≡ at + 4 + 1 = omega arith in e) (next-u8 b (at + 4) (r .children) (u16Bytes (r .yards) ++ marks) h3) in
+    let h3 : Rest b (at + 4) (r .children ∷ (u16Bytes (r .yards) ++ marks)) = rw (let e : at + 4 ≡ at + 2 + 2 = omega arith in
+    e) (next-u16 b (at + 2) (r .after) (r .children ∷ (u16Bytes (r .yards) ++ marks)) h2) in
+    let h4 : Rest b (at + 5) (u16Bytes (r .yards) ++ marks) = rw (let e : at + 5 ≡ at + 4 + 1 = omega arith in
+    e) (next-u8 b (at + 4) (r .children) (u16Bytes (r .yards) ++ marks) h3) in
     let h5 : Rest b (at + 7) marks = rw (let e : at + 7 ≡ at + 5 + 2 = omega arith in e) (next-u16 b (at + 5) (r .yards) marks h4) in
     let x = marks-back b m r f (at + 7) s h5 in
     let e1 = read-u16 b at (r .first) (u16Bytes (r .after) ++ (r .children ∷ (u16Bytes (r .yards) ++ marks))) h1 in
@@ -133,7 +170,11 @@ region-back b m r f at s h =
     record {
       same = rw (read-region b m at, e1, e2, e3, e4, x .0) refl;
       size = rw (size-of b m at, e3, e4) refl;
-      next = rw (record-size m (r .children) (r .yards), let e : at + (7 + m * markSize (r .children) (r .yards)) ≡ at + 7 + m * markSize (r .children) (r .yards) = omega arith in e) (x .1);
+      next = rw (
+        record-size m (r .children) (r .yards),
+        let e : at + (7 + m * markSize (r .children) (r .yards))
+            ≡ at + 7 + m * markSize (r .children) (r .yards) = omega arith in e,
+      ) (x .1);
     }
 
 -- the regions are read back, and their records take up the book to its end
@@ -141,7 +182,8 @@ pub record RegionsBack (b : List ℕ) (m : ℕ) (rs : List Region) (at : ℕ) : 
   pub same : readRegions b m (length rs) at ≡ rs
   pub filled : placeFrom b m (length rs) at ≡ length b
 
-pub regions-back : (b : List ℕ) (m : ℕ) (rs : List Region) → ((r : Region) → Mem r rs → Formed m r) → (at : ℕ) → Rest b at (encodeRegions rs) → RegionsBack b m rs at
+pub regions-back : (b : List ℕ) (m : ℕ) (rs : List Region) → ((r : Region) → Mem r rs → Formed m r) → (at : ℕ) → Rest b at (encodeRegions rs)
+    → RegionsBack b m rs at
 unfolding encodeRegions
 regions-back b m [] f at h = record { same = read-regions-none b m at; filled = place-zero b m at ∙ omega (arith, h .whole) }
 regions-back b m (r ∷ rs) f at h =

@@ -19,7 +19,8 @@ use Rattle.tree_layout.specs.Formed.{Formed, FormedTree}
 use Rattle.tree_layout.proofs.Decoding.{record-size}
 use Rattle.tree.specs.Yards.{sumFrom}
 use Rattle.tree.proofs.Sums.{sum-nothing, sum-cons}
-use Rattle.tree_encode.specs.Encode.{encodeElement, encodeList, encodeLeafMark, encodeInnerMark, encodeMark, encodeMarks, encodeRegion, encodeRegions, encodeBody, encode}
+use Rattle.tree_encode.specs.Encode.{encodeElement, encodeList, encodeLeafMark, encodeInnerMark, encodeMark, encodeMarks, encodeRegion, encodeRegions}
+use Rattle.tree_encode.specs.Encode.{encodeBody, encode}
 use Rattle.tree_encode.specs.Facts.{sizeOf}
 
 -- ---- a landmark by its region's kind
@@ -44,16 +45,36 @@ list-length [] = refl
 list-length (e ∷ es) = omega (arith, length-append (encodeElement e) (encodeList es), element-length e, list-length es)
 
 leaf-mark-length : (c y : ℕ) (k : Mark) → c ≡ 0 → length (k .list) ≡ y → length (encodeMark c k) ≡ 2 + 6 * y
-leaf-mark-length c y k e h = rw (mark-leaf c k e) (omega (arith, length-append (u16Bytes (k .place)) (encodeList (k .list)), u16-length (k .place), list-length (k .list)))
+leaf-mark-length c y k e h = rw (mark-leaf c k e) (omega (
+  arith,
+  length-append (u16Bytes (k .place)) (encodeList (k .list)),
+  u16-length (k .place),
+  list-length
+      (k .list),
+))
 
 inner-mark-length : (c : ℕ) (k : Mark) → 0 < c → length (encodeMark c k) ≡ 10
 inner-mark-length c k h =
-    rw (mark-inner c k h) (omega (arith, length-append (u16Bytes (k .place)) (u32Bytes (k .least) ++ u32Bytes (k .greatest)), length-append (u32Bytes (k .least)) (u32Bytes (k .greatest)), u16-length (k .place), u32-length (k .least), u32-length (k .greatest)))
+    rw (mark-inner c k h) (omega (
+      arith,
+      length-append (u16Bytes (k .place)) (u32Bytes (k .least) ++ u32Bytes (k .greatest)),
+      length-append (u32Bytes (k
+          .least)) (u32Bytes (k .greatest)),
+      u16-length (k .place),
+      u32-length (k .least),
+      u32-length (k .greatest),
+    ))
 
 marks-length : (c z : ℕ) (ms : List Mark) → ((k : Mark) → Mem k ms → length (encodeMark c k) ≡ z) → length (encodeMarks c ms) ≡ length ms * z
 unfolding encodeMarks
 marks-length c z [] f = omega arith
-marks-length c z (k ∷ ks) f = omega (arith, length-append (encodeMark c k) (encodeMarks c ks), f k (head refl), marks-length c z ks (λ j i. f j (tail i)), suc-mul (length ks) z)
+marks-length c z (k ∷ ks) f = omega (
+  arith,
+  length-append (encodeMark c k) (encodeMarks c ks),
+  f k (head refl),
+  marks-length c z ks (λ j i. f j (tail i)),
+  suc-mul (length ks) z,
+)
 
 -- the landmarks of a region take the bytes that its record's size says
 formed-length : (m : ℕ) (r : Region) → Formed m r → length (encodeMarks (r .children) (r .marks)) ≡ m * markSize (r .children) (r .yards)
@@ -80,13 +101,21 @@ region-length m r f =
 pub regions-length : (m : ℕ) (rs : List Region) → ((r : Region) → Mem r rs → Formed m r) → length (encodeRegions rs) ≡ sumFrom rs (sizeOf m) (length rs) 0
 unfolding encodeRegions
 regions-length m [] f = sym (sum-nothing [] (sizeOf m) 0)
-regions-length m (r ∷ rs) f = omega (arith, length-append (encodeRegion r) (encodeRegions rs), region-length m r (f r (head refl)), regions-length m rs (λ j i. f j (tail i)), sum-cons r rs (sizeOf m))
+regions-length m (r ∷ rs) f = omega (
+  arith,
+  length-append (encodeRegion r) (encodeRegions rs),
+  region-length m r (f r (head refl)),
+  regions-length m rs (λ j i.
+      f j (tail i)),
+  sum-cons r rs (sizeOf m),
+)
 
 -- one list of regions after another
 pub encode-append : (rs ss : List Region) → encodeRegions (rs ++ ss) ≡ encodeRegions rs ++ encodeRegions ss
 unfolding encodeRegions
 encode-append [] ss = refl
-encode-append (r ∷ rs) ss = ap (λ (l : List ℕ). encodeRegion r ++ l) (encode-append rs ss) ∙ sym (append-assoc (encodeRegion r) (encodeRegions rs) (encodeRegions ss))
+encode-append (r ∷ rs) ss = ap (λ (l : List ℕ). encodeRegion r ++ l) (encode-append rs ss)
+    ∙ sym (append-assoc (encodeRegion r) (encodeRegions rs) (encodeRegions ss))
 
 pub body-length : (t : Tree) → length (encodeBody t) ≡ 8 + length (encodeRegions (t .regions))
 unfolding encodeBody
@@ -125,7 +154,8 @@ pub encode-cons : (r : Region) (rs : List Region) → encodeRegions (r ∷ rs) �
 unfolding encodeRegions
 encode-cons r rs = refl
 
-pub region-is : (r : Region) → encodeRegion r ≡ u16Bytes (r .first) ++ (u16Bytes (r .after) ++ (r .children ∷ (u16Bytes (r .yards) ++ encodeMarks (r .children) (r .marks))))
+pub region-is : (r : Region) → encodeRegion r
+    ≡ u16Bytes (r .first) ++ (u16Bytes (r .after) ++ (r .children ∷ (u16Bytes (r .yards) ++ encodeMarks (r .children) (r .marks))))
 unfolding encodeRegion
 region-is r = refl
 
@@ -139,6 +169,7 @@ marks-next c m ms = refl
 
 -- ---- the book: twelve bytes of header, then the regions
 
-pub encode-is : (t : Tree) → encode t ≡ u32Bytes (length (encodeBody t)) ++ (1 ∷ (u16Bytes (t .junctions) ++ (u16Bytes (length (t .regions)) ++ (u16Bytes (t .yards) ++ (t .landmarks ∷ encodeRegions (t .regions))))))
+pub encode-is : (t : Tree) → encode t ≡ u32Bytes (length (encodeBody t)) ++ (1 ∷ (u16Bytes (t .junctions) ++ (u16Bytes (length (t .regions)) ++ (u16Bytes (t
+    .yards) ++ (t .landmarks ∷ encodeRegions (t .regions))))))
 unfolding encode encodeBody
 encode-is t = refl

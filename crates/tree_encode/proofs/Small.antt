@@ -11,7 +11,8 @@ use Rattle.book.proofs.Choosing.{choose-case}
 use Rattle.book.proofs.Lists.{neqb→ne}
 use Rattle.book.proofs.Writing.{bytes-none, bytes-cons, bytes-append, u16-bytes, u32-bytes}
 use Rattle.tree_layout.specs.Values.{Element, Mark, Region, Tree}
-use Rattle.tree_encode.specs.Encode.{encodeElement, encodeList, encodeLeafMark, encodeInnerMark, encodeMark, encodeMarks, encodeRegion, encodeRegions, encodeBody, encode}
+use Rattle.tree_encode.specs.Encode.{encodeElement, encodeList, encodeLeafMark, encodeInnerMark, encodeMark, encodeMarks, encodeRegion, encodeRegions}
+use Rattle.tree_encode.specs.Encode.{encodeBody, encode}
 use Rattle.tree_encode.specs.Facts.{SmallRegion, Small}
 
 list-bytes : (es : List Element) → ((e : Element) → Mem e es → (e .distance < 4294967296) × (e .yard < 65536)) → Bytes (encodeList es)
@@ -27,7 +28,8 @@ unfolding encodeMark encodeLeafMark encodeInnerMark
 mark-bytes r s m k =
     choose-case (λ (l : List ℕ). Bytes l) (eqb (r .children) 0)
     (λ t. bytes-append (u16Bytes (m .place)) (encodeList (m .list)) place (list-bytes (m .list) (s .pairs (eqb→eq (r .children) 0 t) m k)))
-    (λ t. bytes-append (u16Bytes (m .place)) (u32Bytes (m .least) ++ u32Bytes (m .greatest)) place (both (s .spans (omega (arith, neqb→ne (r .children) 0 t)) m k)))
+    (λ t. bytes-append (u16Bytes (m .place)) (u32Bytes (m .least) ++ u32Bytes (m .greatest)) place (both (s .spans (omega (arith, neqb→ne (r .children) 0 t)) m
+    k)))
   where
     place : Bytes (u16Bytes (m .place))
     place = u16-bytes (m .place) (s .places m k)

@@ -49,7 +49,8 @@ module _ (t : Tree) (s : SoundTree t) where
         regions = rw (h .regions) (s .limits .regions);
         yards = rw (h .yards) (s .limits .yards);
         landmarks = rw (h .landmarks) (s .limits .landmarks);
-        filled = rw (place-is (encode t) (regionCount (encode t)), h .regions, h .landmarks) (regions-back (encode t) (t .landmarks) (t .regions) (s .formed) 12 (h .body) .filled);
+        filled = rw (place-is (encode t) (regionCount (encode t)), h .regions, h .landmarks) (regions-back (encode t) (t .landmarks) (t .regions) (s .formed)
+            12 (h .body) .filled);
         values = rw (h .junctions, back) (s .values);
       }
 
@@ -62,19 +63,31 @@ module _ (rs : List Region) (sane : Sane rs) (m : ℕ) (h4 : m ≤ 4) where
   leaf-size : (i : ℕ) → regionAt rs i .children ≡ 0 → sizeOf m (regionAt rs i) ≤ 15 + 24 * regionAt rs i .yards
   leaf-size i c =
       let a = record-size m (regionAt rs i .children) (regionAt rs i .yards) in
-      let b : m * markSize (regionAt rs i .children) (regionAt rs i .yards) ≡ m * (2 + 6 * regionAt rs i .yards) = ap (λ (x : ℕ). m * x) (mark-size-leaf (regionAt rs i .children) (regionAt rs i .yards) c) in
+      let b : m * markSize (regionAt rs i .children) (regionAt rs i .yards)
+      ≡ m * (2 + 6 * regionAt rs i .yards) = ap (λ (x : ℕ). m * x) (mark-size-leaf (regionAt rs i .children) (regionAt rs i .yards) c) in
       omega (arith, a, b, mul-le-mul-right (2 + 6 * regionAt rs i .yards) h4)
 
   inner-size : (i : ℕ) → 0 < regionAt rs i .children → sizeOf m (regionAt rs i) ≤ 47
   inner-size i c =
       let a = record-size m (regionAt rs i .children) (regionAt rs i .yards) in
-      let b : m * markSize (regionAt rs i .children) (regionAt rs i .yards) ≡ m * 10 = ap (λ (x : ℕ). m * x) (mark-size-inner (regionAt rs i .children) (regionAt rs i .yards) c) in
+      let b : m * markSize (regionAt rs i .children) (regionAt rs i .yards)
+      ≡ m * 10 = ap (λ (x : ℕ). m * x) (mark-size-inner (regionAt rs i .children) (regionAt rs i .yards) c) in
       omega (arith, a, b)
 
-  size-bound : {n i low high left e : ℕ} → Forest rs n i low high left e → sum rs (sizeOf m) i e ≤ 15 * sum rs oneLeaf i e + 47 * sum rs oneInner i e + 24 * left
+  size-bound : {n i low high left e : ℕ} → Forest rs n i low high left e
+      → sum rs (sizeOf m) i e ≤ 15 * sum rs oneLeaf i e + 47 * sum rs oneInner i e + 24 * left
   size-bound (none {i = i} h z) = omega (arith, sum-none rs (sizeOf m) i)
   size-bound (leaf {i = i} h x y z) =
-      omega (arith, sum-first rs (sizeOf m) i (suc i) (omega arith), sum-none rs (sizeOf m) (suc i), sum-first rs oneLeaf i (suc i) (omega arith), sum-none rs oneLeaf (suc i), leaf-one rs sane i x .0, leaf-size i x)
+      omega (
+        arith,
+        sum-first rs (sizeOf m) i (suc i) (omega arith),
+        sum-none rs (sizeOf m) (suc i),
+        sum-first rs oneLeaf i (suc i) (omega arith),
+        sum-none rs
+            oneLeaf (suc i),
+        leaf-one rs sane i x .0,
+        leaf-size i x,
+      )
   size-bound (wrap {i = i} {e = e} h x y z g) =
       let a = sum-first rs (sizeOf m) i e (omega (arith, rise rs g)) in
       let b = sum-first rs oneLeaf i e (omega (arith, rise rs g)) in
@@ -96,7 +109,17 @@ module _ (t : Tree) (s : SoundTree t) where
   pub encode-short : length (encode t) ≤ 21981
   encode-short =
       let b = size-bound (t .regions) sane (t .landmarks) (s .limits .landmarks .1) root in
-      omega (arith, encode-sizes t (s .formed), sum-all (t .regions) (sizeOf (t .landmarks)), b, leaf-count (t .regions) sane root, inner-count (t .regions) sane root, root-yards t sane (s .limits .regions .0) (facts-shaped t (s .shape)), s .limits .yards .1)
+      omega (
+        arith,
+        encode-sizes t (s .formed),
+        sum-all (t .regions) (sizeOf (t .landmarks)),
+        b,
+        leaf-count (t .regions) sane root,
+        inner-count (t .regions)
+            sane root,
+        root-yards t sane (s .limits .regions .0) (facts-shaped t (s .shape)),
+        s .limits .yards .1,
+      )
 
 -- ---- all of it
 

@@ -32,16 +32,19 @@ encodeMarks children (m ∷ ms) = encodeMark children m ++ encodeMarks children 
 
 -- "A region: first junction u16, junction after the last u16, children u8 .., yards u16 ..; then per landmark .."
 unfoldable pub encodeRegion : Region → List ℕ
-encodeRegion r = u16Bytes (r .first) ++ (u16Bytes (r .after) ++ (r .children ∷ (u16Bytes (r .yards) ++ encodeMarks (r .children) (r .marks))))
+encodeRegion r = u16Bytes (r .first) ++ (u16Bytes (r .after) ++ (r .children ∷ (u16Bytes (r .yards) ++ encodeMarks (r
+    .children) (r .marks))))
 
 -- "then regions in preorder"
 unfoldable pub encodeRegions : List Region → List ℕ
 encodeRegions [] = []
 encodeRegions (r ∷ rs) = encodeRegion r ++ encodeRegions rs
 
--- "a version byte (1), then fields": "junctions u16 .., regions u16 .., yards u16 .., landmarks per region m u8 ..; then regions in preorder"
+-- "a version byte (1), then fields": "junctions u16 .., regions u16 .., yards u16 .., landmarks per region m u8 ..;
+-- then regions in preorder"
 unfoldable pub encodeBody : Tree → List ℕ
-encodeBody t = 1 ∷ (u16Bytes (t .junctions) ++ (u16Bytes (length (t .regions)) ++ (u16Bytes (t .yards) ++ (t .landmarks ∷ encodeRegions (t .regions)))))
+encodeBody t = 1 ∷ (u16Bytes (t .junctions) ++ (u16Bytes (length (t .regions)) ++ (u16Bytes (t .yards) ++ (t .landmarks
+    ∷ encodeRegions (t .regions)))))
 
 -- "Each book is a 4-byte count of the bytes after it"
 unfoldable pub encode : Tree → List ℕ

@@ -1,4 +1,5 @@
--- Trees that a tree book can hold, and what holds of the bytes that are written of them. Assumes nothing: these are statements.
+-- Trees that a tree book can hold, and what holds of the bytes that are written of them. Assumes nothing: these are
+-- statements.
 use mathlib.Core.Path.{_≡_}
 use mathlib.Core.List.{List·Memᴰ as Mem}
 use Prim.Native.Nat.{ℕ, _+_, _≤_, _<_}
@@ -34,7 +35,8 @@ pub record SmallRegion (r : Region) : Type 0 where
   pub children : r .children < 256
   pub yards : r .yards < 65536
   pub places : (m : Mark) → Mem m (r .marks) → m .place < 65536
-  pub pairs : r .children ≡ 0 → (m : Mark) → Mem m (r .marks) → (e : Element) → Mem e (m .list) → (e .distance < 4294967296) × (e .yard < 65536)
+  pub pairs : r .children ≡ 0 → (m : Mark) → Mem m (r .marks) → (e : Element) → Mem e (m .list)
+      → (e .distance < 4294967296) × (e .yard < 65536)
   pub spans : 0 < r .children → (m : Mark) → Mem m (r .marks) → (m .least < 4294967296) × (m .greatest < 4294967296)
 
 -- the fields of a tree fit theirs
@@ -54,7 +56,8 @@ pub record Written (t : Tree) : Type 0 where
   -- "reading it back gives the regions and numbers that were written"
   pub back : FormedTree t → decode (encode t) ≡ t
   -- its length is the header's and the records'
-  pub sizes : FormedTree t → length (encode t) ≡ 12 + sumFrom (t .regions) (sizeOf (t .landmarks)) (length (t .regions)) 0
+  pub sizes : FormedTree t → length (encode t)
+      ≡ 12 + sumFrom (t .regions) (sizeOf (t .landmarks)) (length (t .regions)) 0
   -- it is accepted, and at most 21,981 bytes long
   pub accepted : SoundTree t → treeRefusal (encode t) ≡ 0
   pub short : SoundTree t → length (encode t) ≤ 21981

@@ -5,7 +5,8 @@ use Prim.Native.Nat.{ℕ, suc, _+_, _*_}
 use lib.ListN.{take, drop}
 use Rattle.book.specs.Bytes.{u8At, u16At, u32At}
 use Rattle.tree_layout.specs.Values.{leafMark, innerMark}
-use Rattle.tree_layout.specs.Decode.{elementAt, readList, listPart, readLists, readSpans, readMarks, readRegion, readRegions, markSize, recordSize, sizeAt, junctionCount, regionCount, yardCount, landmarkCount, placeFrom, placeOf, decode}
+use Rattle.tree_layout.specs.Decode.{elementAt, readList, listPart, readLists, readSpans, readMarks, readRegion, readRegions, markSize, recordSize}
+use Rattle.tree_layout.specs.Decode.{sizeAt, junctionCount, regionCount, yardCount, landmarkCount, placeFrom, placeOf, decode}
 
 -- ---- a list
 
@@ -31,7 +32,8 @@ pub read-lists-none : (b : List ℕ) (yards at : ℕ) → readLists b yards 0 at
 unfolding readLists
 read-lists-none b yards at = refl
 
-pub read-lists-next : (b : List ℕ) (yards k at : ℕ) → readLists b yards (suc k) at ≡ leafMark (u16At b at) (readList (listPart b yards (at + 2)) yards 0) ∷ readLists b yards k (at + (2 + 6 * yards))
+pub read-lists-next : (b : List ℕ) (yards k at : ℕ)
+    → readLists b yards (suc k) at ≡ leafMark (u16At b at) (readList (listPart b yards (at + 2)) yards 0) ∷ readLists b yards k (at + (2 + 6 * yards))
 unfolding readLists
 read-lists-next b yards k at = refl
 
@@ -53,7 +55,14 @@ pub size-of : (b : List ℕ) (m at : ℕ) → sizeAt b m at ≡ recordSize m (u8
 unfolding sizeAt
 size-of b m at = refl
 
-pub read-region : (b : List ℕ) (m at : ℕ) → readRegion b m at ≡ record { first = u16At b at; after = u16At b (at + 2); children = u8At b (at + 4); yards = u16At b (at + 5); marks = readMarks b m (u8At b (at + 4)) (u16At b (at + 5)) (at + 7) }
+pub read-region : (b : List ℕ) (m at : ℕ)
+    → readRegion b m at ≡ record {
+      first = u16At b at;
+      after = u16At b (at + 2);
+      children = u8At b (at + 4);
+      yards = u16At b (at + 5);
+      marks = readMarks b m (u8At b (at + 4)) (u16At b (at + 5)) (at + 7);
+    }
 unfolding readRegion
 read-region b m at = refl
 
@@ -83,7 +92,12 @@ pub count-landmarks : (b : List ℕ) → landmarkCount b ≡ u8At b 11
 unfolding landmarkCount
 count-landmarks b = refl
 
-pub decode-is : (b : List ℕ) → decode b ≡ record { junctions = junctionCount b; yards = yardCount b; landmarks = landmarkCount b; regions = readRegions b (landmarkCount b) (regionCount b) 12 }
+pub decode-is : (b : List ℕ) → decode b ≡ record {
+  junctions = junctionCount b;
+  yards = yardCount b;
+  landmarks = landmarkCount b;
+  regions = readRegions b (landmarkCount b) (regionCount b) 12;
+}
 unfolding decode
 decode-is b = refl
 

@@ -11,7 +11,8 @@ use Rattle.book.specs.Bytes.{u8At, u16At, u32At}
 use Rattle.book.proofs.Choosing.{choose-yes, choose-no, T-split}
 use Rattle.book.proofs.Lists.{eq→eqb, ne→neqb, neqb→ne, getD-mem}
 use Rattle.tree_layout.specs.Values.{Mark, Region, leafMark, innerMark, noRegion, regionAt}
-use Rattle.tree_layout.specs.Decode.{readList, listPart, readLists, readSpans, readMarks, readRegion, readRegions, sizeAt, decode, landmarkCount, regionCount}
+use Rattle.tree_layout.specs.Decode.{readList, listPart, readLists, readSpans, readMarks, readRegion, readRegions, sizeAt, decode, landmarkCount}
+use Rattle.tree_layout.specs.Decode.{regionCount}
 use Rattle.tree_layout.specs.Formed.{Formed, FormedTree}
 
 pub readList-length : (p : List ℕ) (n at : ℕ) → length (readList p n at) ≡ n
@@ -34,7 +35,8 @@ unfolding readLists leafMark
 readLists-form b yards zero at k j = absurd (not-nil j)
 readLists-form b yards (suc n) at k j = go (cases-cons j) (λ i. readLists-form b yards n (at + (2 + 6 * yards)) k i)
   where
-    go : (k ≡ leafMark (u16At b at) (readList (listPart b yards (at + 2)) yards 0)) ⊎ Mem k (readLists b yards n (at + (2 + 6 * yards))) → (Mem k (readLists b yards n (at + (2 + 6 * yards))) → (k ≡ leafMark (k .place) (k .list)) × (length (k .list) ≡ yards))
+    go : (k ≡ leafMark (u16At b at) (readList (listPart b yards (at + 2)) yards 0)) ⊎ Mem k (readLists b yards n (at + (2 + 6 * yards)))
+        → (Mem k (readLists b yards n (at + (2 + 6 * yards))) → (k ≡ leafMark (k .place) (k .list)) × (length (k .list) ≡ yards))
         → (k ≡ leafMark (k .place) (k .list)) × (length (k .list) ≡ yards)
     go (inl e) rec = rw e (refl, readList-length (listPart b yards (at + 2)) yards 0)
     go (inr i) rec = rec i
@@ -44,7 +46,8 @@ unfolding readSpans innerMark
 readSpans-form b zero at k j = absurd (not-nil j)
 readSpans-form b (suc n) at k j = go (cases-cons j) (λ i. readSpans-form b n (at + 10) k i)
   where
-    go : (k ≡ innerMark (u16At b at) (u32At b (at + 2)) (u32At b (at + 6))) ⊎ Mem k (readSpans b n (at + 10)) → (Mem k (readSpans b n (at + 10)) → k ≡ innerMark (k .place) (k .least) (k .greatest)) → k ≡ innerMark (k .place) (k .least) (k .greatest)
+    go : (k ≡ innerMark (u16At b at) (u32At b (at + 2)) (u32At b (at + 6))) ⊎ Mem k (readSpans b n (at + 10)) → (Mem k (readSpans b n (at + 10))
+        → k ≡ innerMark (k .place) (k .least) (k .greatest)) → k ≡ innerMark (k .place) (k .least) (k .greatest)
     go (inl e) rec = rw e refl
     go (inr i) rec = rec i
 

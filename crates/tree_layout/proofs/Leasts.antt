@@ -17,11 +17,13 @@ unfolding readSpans innerMark
 spans-small b h zero at k j = absurd (not-nil j)
 spans-small b h (suc n) at k j = go (cases-cons j) (λ i. spans-small b h n (at + 10) k i)
   where
-    go : (k ≡ record { place = u16At b at; least = u32At b (at + 2); greatest = u32At b (at + 6); list = [] }) ⊎ Mem k (readSpans b n (at + 10)) → (Mem k (readSpans b n (at + 10)) → k .least < 4294967296) → k .least < 4294967296
+    go : (k ≡ record { place = u16At b at; least = u32At b (at + 2); greatest = u32At b (at + 6); list = [] }) ⊎ Mem k (readSpans b n (at + 10))
+        → (Mem k (readSpans b n (at + 10)) → k .least < 4294967296) → k .least < 4294967296
     go (inl e) rec = rw e (u32-small b h (at + 2))
     go (inr i) rec = rec i
 
-pub least-small : (b : List ℕ) → Bytes b → (j : ℕ) → j < regionCount b → 0 < regionAt (decode b .regions) j .children → (k : Mark) → Mem k (regionAt (decode b .regions) j .marks) → k .least < 4294967296
+pub least-small : (b : List ℕ) → Bytes b → (j : ℕ) → j < regionCount b → 0 < regionAt (decode b .regions) j .children → (k : Mark)
+    → Mem k (regionAt (decode b .regions) j .marks) → k .least < 4294967296
 unfolding readRegion
 least-small b h j s c k m =
     let e = region-at b j s in

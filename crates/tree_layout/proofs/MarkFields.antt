@@ -31,7 +31,9 @@ pub leaf-form : (place : ℕ) (list : List Element) → leafMark place list ≡ 
 unfolding leafMark
 leaf-form place list = refl
 
-pub inner-form : (place least greatest : ℕ) → innerMark place least greatest ≡ innerMark (innerMark place least greatest .place) (innerMark place least greatest .least) (innerMark place least greatest .greatest)
+pub inner-form : (place least greatest : ℕ)
+    → innerMark place least greatest ≡ innerMark (innerMark place least greatest .place) (innerMark place least greatest .least) (innerMark place least
+    greatest .greatest)
 unfolding innerMark
 inner-form place least greatest = refl
 

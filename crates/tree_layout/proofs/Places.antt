@@ -9,7 +9,8 @@ use Rattle.book.specs.Bytes.{u8At, u16At}
 use Rattle.book.proofs.Choosing.{choose-yes, choose-no, and-right, and-both}
 use Rattle.book.proofs.Lists.{eq→eqb, ne→neqb}
 use Rattle.tree_layout.specs.Values.{noRegion, regionAt}
-use Rattle.tree_layout.specs.Decode.{readRegion, readRegions, markSize, recordSize, sizeAt, placeFrom, placeOf, landmarkCount, regionCount, junctionCount, yardCount, decode}
+use Rattle.tree_layout.specs.Decode.{readRegion, readRegions, markSize, recordSize, sizeAt, placeFrom, placeOf, landmarkCount, regionCount, junctionCount}
+use Rattle.tree_layout.specs.Decode.{yardCount, decode}
 use Rattle.tree_layout.specs.Refusal.{recordsOk}
 
 -- ---- sizes
@@ -66,7 +67,8 @@ place-later b m (suc i) (suc n) at h = place-later b m i n (at + sizeAt b m at) 
 pub records-filled : (b : List ℕ) (m n at : ℕ) → T (recordsOk b m n at) → placeFrom b m n at ≡ length b
 unfolding recordsOk placeFrom
 records-filled b m zero at t = eqb→eq at (length b) t
-records-filled b m (suc n) at t = records-filled b m n (at + sizeAt b m at) (and-right (leb (at + sizeAt b m at) (length b)) _ (and-right (leb (at + 7) (length b)) _ t))
+records-filled b m (suc n) at t = records-filled b m n (at + sizeAt b m at) (and-right (leb (at + sizeAt b m at) (length b)) _ (and-right (leb (at + 7) (length
+    b)) _ t))
 
 pub filled-records : (b : List ℕ) (m n at : ℕ) → placeFrom b m n at ≡ length b → T (recordsOk b m n at)
 unfolding recordsOk placeFrom

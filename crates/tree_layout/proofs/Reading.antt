@@ -66,7 +66,8 @@ unfolding innerMark
 inner-greatest place least greatest = refl
 
 pub lists-turn : (b : List ℕ) (yards m k at : ℕ) → k < m
-    → readLists b yards (m - k) at ≡ leafMark (u16At b at) (readList (listPart b yards (at + 2)) yards 0) ∷ readLists b yards (m - (k + 1)) (at + (2 + 6 * yards))
+    → readLists b yards (m - k) at ≡ leafMark (u16At b at) (readList (listPart b yards (at + 2)) yards 0) ∷ readLists b yards (m - (k + 1)) (at + (2 + 6 *
+    yards))
 unfolding readLists
 lists-turn b yards m k at h = let s : m - k ≡ suc (m - (k + 1)) = omega arith in rw s refl
 

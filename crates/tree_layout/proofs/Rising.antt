@@ -45,7 +45,8 @@ ends-enclose (g ∷ gs) r e k = go (cases-cons k)
     go (inr j) = (from-low g gs r e j, from-high g gs r e j)
 
 -- a leaf's landmark: its least and greatest enclose the distances of its list
-pub leaf-encloses : (m : Mark) → m ≡ leafMark (m .place) (m .list) → Rising (m .list) → (e : Element) → Mem e (m .list) → (m .least ≤ e .distance) × (e .distance ≤ m .greatest)
+pub leaf-encloses : (m : Mark) → m ≡ leafMark (m .place) (m .list) → Rising (m .list) → (e : Element) → Mem e (m .list)
+    → (m .least ≤ e .distance) × (e .distance ≤ m .greatest)
 unfolding leafMark
 leaf-encloses m f r e k =
     let x = ends-enclose (m .list) r e k in

@@ -2,7 +2,8 @@
 use mathlib.Core.Path.{_≡_, refl}
 use mathlib.Core.Logic.{_⊎_, inl, inr}
 use mathlib.Core.Bool.{Bool, _&&_}
-use mathlib.Core.List.{List, [], _∷_, List·Memᴰ as Mem, List·Memᴰ·head as head, List·Memᴰ·tail as tail, List·Memᴰ·not-nil as not-nil, List·Memᴰ·cases-cons as cases-cons}
+use mathlib.Core.List.{List, [], _∷_, List·Memᴰ as Mem, List·Memᴰ·head as head, List·Memᴰ·tail as tail, List·Memᴰ·not-nil as not-nil}
+use mathlib.Core.List.{List·Memᴰ·cases-cons as cases-cons}
 use Prim.Native.Nat.{ℕ, _≤_, _<_}
 use native.Mathlib.Omega.{arith}
 use lib.Dec.{T, ltb, leb, eqb, eqb→eq, leb→le, ltb→lt, le→leb, lt→ltb}
@@ -47,12 +48,17 @@ comes-before e g t = go (or-cases (ltb (e .distance) (g .distance)) _ t)
   where
     go : T (ltb (e .distance) (g .distance)) ⊎ T (eqb (e .distance) (g .distance) && ltb (e .yard) (g .yard)) → Before e g
     go (inl s) = inl (ltb→lt (e .distance) (g .distance) s)
-    go (inr s) = inr (eqb→eq (e .distance) (g .distance) (and-left (eqb (e .distance) (g .distance)) _ s), ltb→lt (e .yard) (g .yard) (and-right (eqb (e .distance) (g .distance)) _ s))
+    go (inr s) = inr (
+      eqb→eq (e .distance) (g .distance) (and-left (eqb (e .distance) (g .distance)) _ s),
+      ltb→lt (e .yard) (g .yard) (and-right (eqb (e
+          .distance) (g .distance)) _ s),
+    )
 
 pub before-comes : (e g : Element) → Before e g → T (comes e g)
 unfolding comes
 before-comes e g (inl h) = or-left (ltb (e .distance) (g .distance)) _ (lt→ltb (e .distance) (g .distance) h)
-before-comes e g (inr h) = or-right (ltb (e .distance) (g .distance)) _ (and-both (eqb (e .distance) (g .distance)) _ (eq→eqb (e .distance) (g .distance) (h .0)) (lt→ltb (e .yard) (g .yard) (h .1)))
+before-comes e g (inr h) = or-right (ltb (e .distance) (g .distance)) _ (and-both (eqb (e .distance) (g .distance)) _ (eq→eqb (e .distance) (g .distance) (h
+    .0)) (lt→ltb (e .yard) (g .yard) (h .1)))
 
 from-rising : (e : Element) (es : List Element) → T (risesFrom e es) → RisingFrom e es
 unfolding risesFrom
@@ -89,7 +95,8 @@ mark-values r m t = record {
   placed = (leb→le (r .first) (m .place) (and-left (leb (r .first) (m .place)) _ t), ltb→lt (m .place) (r .after) (and-left (ltb (m .place) (r .after)) _ t1));
   near-all = λ c e k. leb→le (e .distance) 67042305 (all-mem near (m .list) (and-left (all near (m .list)) _ (list c)) e k);
   rising = λ c. rises-rising (m .list) (and-right (all near (m .list)) _ (list c));
-  span = λ h. leb→le (m .least) (m .greatest) (rw (choose-no (eqb (r .children) 0) (listOk (m .list)) (leb (m .least) (m .greatest)) (ne→neqb (r .children) 0 (omega arith))) at t2);
+  span = λ h. leb→le (m .least) (m .greatest) (rw (choose-no (eqb (r .children) 0) (listOk (m .list)) (leb (m .least) (m .greatest)) (ne→neqb (r .children) 0
+      (omega arith))) at t2);
 }
   where
     t1 : T (ltb (m .place) (r .after) && choose (eqb (r .children) 0) (listOk (m .list)) (leb (m .least) (m .greatest)))
@@ -108,7 +115,8 @@ values-mark r m v =
     (and-both (ltb (m .place) (r .after)) _ (lt→ltb (m .place) (r .after) (v .placed .1))
     (choose-case (λ (b : Bool). T b) (eqb (r .children) 0)
     (λ t. let c = eqb→eq (r .children) 0 t in
-    and-both (all near (m .list)) (rises (m .list)) (all-intro near (m .list) (λ e k. le→leb (e .distance) 67042305 (v .near-all c e k))) (rising-rises (m .list) (v .rising c)))
+    and-both (all near (m .list)) (rises (m .list)) (all-intro near (m .list) (λ e k. le→leb (e .distance) 67042305 (v .near-all c e k))) (rising-rises (m
+    .list) (v .rising c)))
     (λ t. le→leb (m .least) (m .greatest) (v .span (omega (arith, neqb→ne (r .children) 0 t))))))
 
 -- ---- a region
@@ -158,7 +166,12 @@ values-region j r v =
     (and-both (leb (r .after) j) _ (le→leb (r .after) j (v .within))
     (and-both (childrenOk (r .children)) _ (of-kind (r .children) (v .kind))
     (and-both (leb 1 (r .yards)) _ (le→leb 1 (r .yards) (v .some))
-    (all-intro (markOk r) (r .marks) (λ m k. values-mark r m (record { placed = v .placed m k; near-all = λ c. v .near c m k; rising = λ c. v .rising c m k; span = λ h. v .span h m k }))))))
+    (all-intro (markOk r) (r .marks) (λ m k. values-mark r m (record {
+      placed = v .placed m k;
+      near-all = λ c. v .near c m k;
+      rising = λ c. v .rising c m k;
+      span = λ h. v .span h m k;
+    }))))))
 
 -- ---- test 5
 

@@ -6,7 +6,8 @@ use lib.Dec.{eqb}
 use Rattle.book.specs.Choose.{choose}
 use Rattle.book.specs.Bytes.{u8At, u16At, u32At}
 use Rattle.tree_layout.specs.Values.{Element, Mark, Region, Tree, leafMark, innerMark}
-use Rattle.tree_layout.specs.Sizes.{headerSize, fieldsSize, junctionSize, elementSize, leafMarkSize, innerMarkSize}
+use Rattle.tree_layout.specs.Sizes.{headerSize, fieldsSize, junctionSize, elementSize, leafMarkSize}
+use Rattle.tree_layout.specs.Sizes.{innerMarkSize}
 
 -- ---- a list
 

@@ -1,4 +1,5 @@
--- The facts of 01's "Tree book", as they stand in a book that tests 1 to 5 accept. Assumes nothing: these are statements.
+-- The facts of 01's "Tree book", as they stand in a book that tests 1 to 5 accept. Assumes nothing: these are
+-- statements.
 use mathlib.Core.Path.{_≡_}
 use mathlib.Core.Logic.{_⊎_}
 use mathlib.Core.List.{List, [], _∷_, List·Memᴰ as Mem}
@@ -48,7 +49,8 @@ pub record TreeLayout (b : List ℕ) : Type 0 where
   pub regions : (1 ≤ regionCount b) × (regionCount b ≤ 511)
   pub yards : (1 ≤ yardCount b) × (yardCount b ≤ 256)
   pub landmarks : (1 ≤ landmarkCount b) × (landmarkCount b ≤ 4)
-  -- no record is incomplete and no bytes follow the last one: the records, one after the other, take up the book to its end
+  -- no record is incomplete and no bytes follow the last one: the records, one after the other, take up the book to its
+  -- end
   pub filled : placeOf b (regionCount b) ≡ length b
   -- each record's values are in their ranges and order
   pub values : (r : Region) → Mem r (decode b .regions) → RegionValues (junctionCount b) r

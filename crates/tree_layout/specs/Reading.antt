@@ -17,7 +17,12 @@ bounded first after children = record { first = first; after = after; children =
 
 -- the header of a book
 unfoldable pub headerOf : List ℕ → Header
-headerOf b = record { junctions = junctionCount b; regions = regionCount b; yards = yardCount b; landmarks = landmarkCount b }
+headerOf b = record {
+  junctions = junctionCount b;
+  regions = regionCount b;
+  yards = yardCount b;
+  landmarks = landmarkCount b;
+}
 
 -- the answer for a refusal's number and a header: 0 gives the header
 unfoldable pub treeBook : ℕ → Header → TreeBook

@@ -23,7 +23,8 @@ all f (x ∷ xs) = f x && all f xs
 -- "A record is incomplete, or bytes follow the last one.": of n records from a place on
 unfoldable pub recordsOk : List ℕ → ℕ → ℕ → ℕ → Bool
 recordsOk b m zero at = eqb at (length b)
-recordsOk b m (suc n) at = leb (at + 7) (length b) && (leb (at + sizeAt b m at) (length b) && recordsOk b m n (at + sizeAt b m at))
+recordsOk b m (suc n) at = leb (at + 7) (length b) && (leb (at + sizeAt b m at) (length b)
+    && recordsOk b m n (at + sizeAt b m at))
 
 -- ---- test 5
 
@@ -50,7 +51,8 @@ listOk es = all near es && rises es
 
 -- "Landmarks lie in their range"; a leaf's lists rise; in an inner region "least not above greatest"
 unfoldable pub markOk : Region → Mark → Bool
-markOk r m = leb (r .first) (m .place) && (ltb (m .place) (r .after) && choose (eqb (r .children) 0) (listOk (m .list)) (leb (m .least) (m .greatest)))
+markOk r m = leb (r .first) (m .place) && (ltb (m .place) (r .after)
+    && choose (eqb (r .children) 0) (listOk (m .list)) (leb (m .least) (m .greatest)))
 
 -- "children u8 (0 for a leaf, else 2 to 4)"
 unfoldable pub childrenOk : ℕ → Bool
@@ -58,7 +60,8 @@ childrenOk c = eqb c 0 || between 2 4 c
 
 -- "A range isn't empty and ends at or below the junction count"; children; "yards u16 (at least 1)"; then the landmarks
 unfoldable pub regionOk : ℕ → Region → Bool
-regionOk junctions r = ltb (r .first) (r .after) && (leb (r .after) junctions && (childrenOk (r .children) && (leb 1 (r .yards) && all (markOk r) (r .marks))))
+regionOk junctions r = ltb (r .first) (r .after) && (leb (r .after) junctions && (childrenOk (r .children)
+    && (leb 1 (r .yards) && all (markOk r) (r .marks))))
 
 -- "A record's value is outside its range or order."
 unfoldable pub valuesOk : Tree → Bool

@@ -1,4 +1,5 @@
--- The bytes of a tree book's parts, version 1. Another version is another value of these. Assumes nothing: these are definitions.
+-- The bytes of a tree book's parts, version 1. Another version is another value of these. Assumes nothing: these are
+-- definitions.
 use Prim.Native.Nat.{ℕ, _+_, _*_}
 
 -- the count, the version, and the header's counts: the first region's record stands after them

@@ -8,7 +8,8 @@ pub record Element : Type 0 where
   pub distance : ℕ
   pub yard : ℕ
 
--- a landmark of a region: its junction, the least and the greatest distance to the region's yards ("in a leaf, its list's first and last"), and a leaf's list
+-- a landmark of a region: its junction, the least and the greatest distance to the region's yards ("in a leaf, its
+-- list's first and last"), and a leaf's list
 pub record Mark : Type 0 where
   pub place : ℕ
   pub least : ℕ

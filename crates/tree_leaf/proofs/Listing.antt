@@ -82,14 +82,17 @@ parts-agree b low high n start at first p e f = rw (e, f) refl
 -- the landmark at a place, and the m - (k + 1) landmarks after it
 module _ (b : List ℕ) (yards m k at low high : ℕ) (ref : List Element) where
   agree-here : k < m → agreeing low high ref (readLists b yards (m - k) at)
-      ≡ (sameYards low high ref (readList (listPart b yards (at + 2)) yards 0) && agreeing low high ref (readLists b yards (m - (k + 1)) (at + (2 + 6 * yards))))
+      ≡ (sameYards low high ref (readList (listPart b yards (at + 2)) yards 0)
+      && agreeing low high ref (readLists b yards (m - (k + 1)) (at + (2 + 6 * yards))))
   unfolding agreeing
   agree-here h =
       rw (lists-turn b yards m k at h)
-      (all-next (λ (x : Mark). sameYards low high ref (x .list)) (leafMark (u16At b at) (readList (listPart b yards (at + 2)) yards 0)) (readLists b yards (m - (k + 1)) (at + (2 + 6 * yards)))
+      (all-next (λ (x : Mark). sameYards low high ref (x .list)) (leafMark (u16At b at) (readList (listPart b yards (at + 2)) yards 0)) (readLists b yards (m -
+      (k + 1)) (at + (2 + 6 * yards)))
       ∙ rw (leaf-list (u16At b at) (readList (listPart b yards (at + 2)) yards 0)) refl)
 
-  pub agree-stop : (x : List Element) → ref ≡ x → k < m → sameYards low high x (readList (listPart b yards (at + 2)) yards 0) ≡ false → agreeing low high ref (readLists b yards (m - k) at) ≡ false
+  pub agree-stop : (x : List Element) → ref ≡ x → k < m → sameYards low high x (readList (listPart b yards (at + 2)) yards 0) ≡ false
+      → agreeing low high ref (readLists b yards (m - k) at) ≡ false
   agree-stop x z h e = agree-here h ∙ rw (z, e) refl
 
   pub agree-next : (x : List Element) → ref ≡ x → k < m → sameYards low high x (readList (listPart b yards (at + 2)) yards 0) ≡ true

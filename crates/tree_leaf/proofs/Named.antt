@@ -2,7 +2,8 @@
 use mathlib.Core.Path.{_≡_, refl, sym, ap, _∙_}
 use mathlib.Core.Logic.{_⊎_, inl, inr}
 use mathlib.Core.Bool.{Bool, not, _&&_, _||_}
-use mathlib.Core.List.{List, [], _∷_, List·Memᴰ as Mem, List·Memᴰ·head as head, List·Memᴰ·tail as tail, List·Memᴰ·not-nil as not-nil, List·Memᴰ·cases-cons as cases-cons, Memᴰ·cast as cast}
+use mathlib.Core.List.{List, [], _∷_, List·Memᴰ as Mem, List·Memᴰ·head as head, List·Memᴰ·tail as tail, List·Memᴰ·not-nil as not-nil}
+use mathlib.Core.List.{List·Memᴰ·cases-cons as cases-cons, Memᴰ·cast as cast}
 use Prim.Native.Nat.{ℕ, suc, _-_, _≤_, _<_}
 use native.Mathlib.Omega.{arith}
 use lib.ListN.{length}
@@ -70,7 +71,11 @@ yards-length (e ∷ es) = ap suc (yards-length es)
 pub once-distinct : (es : List Element) → T (once es) → Distinct (yardsIn es)
 unfolding once yardsIn
 once-distinct [] t = tt
-once-distinct (e ∷ es) t = ((λ k. T-not (names es (e .yard)) (and-left (not (names es (e .yard))) (once es) t) (mem-names es (e .yard) k)), once-distinct es (and-right (not (names es (e .yard))) (once es) t))
+once-distinct (e ∷ es) t = (
+  (λ k. T-not (names es (e .yard)) (and-left (not (names es (e .yard))) (once es) t) (mem-names es (e .yard) k)),
+  once-distinct es
+      (and-right (not (names es (e .yard))) (once es) t),
+)
 
 -- In such a list an element is known by its yard.
 pub once-listed : (es : List Element) → Distinct (yardsIn es) → (e g : Element) → Mem e es → Mem g es → e .yard ≡ g .yard → e ≡ g
@@ -142,7 +147,8 @@ facts-same : (r : Region) (ref : List Element) (m : Mark) → ListFacts r ref m 
 unfolding sameYards inRange
 facts-same r ref m f =
     and-both (once (m .list)) _ (distinct-once (m .list) (f .once-each))
-    (and-both (all (inRange (r .first) (r .after)) (m .list)) _ (all-intro (inRange (r .first) (r .after)) (m .list) (λ e k. let x = f .in-range (e .yard) (yards-of (m .list) e k) in and-both (leb (r .first) (e .yard)) _ (le→leb (r .first) (e .yard) (x .0)) (lt→ltb (e .yard) (r .after) (x .1))))
+    (and-both (all (inRange (r .first) (r .after)) (m .list)) _ (all-intro (inRange (r .first) (r .after)) (m .list) (λ e k. let x = f .in-range (e .yard)
+    (yards-of (m .list) e k) in and-both (leb (r .first) (e .yard)) _ (le→leb (r .first) (e .yard) (x .0)) (lt→ltb (e .yard) (r .after) (x .1))))
     (and-both (namedBy ref (m .list)) _ (by-named ref (m .list) (f .to-first)) (by-named (m .list) ref (f .from-first))))
 
 pub list-facts : (r : Region) → T (leafOk r) → (m : Mark) → Mem m (r .marks) → ListFacts r (firstList (r .marks)) m
@@ -159,9 +165,11 @@ leaf-lists r t = record {
 
 pub lists-leaf : (r : Region) → LeafLists r → T (leafOk r)
 unfolding leafOk agreeing firstList
-lists-leaf r f = all-intro (listTest r (firstList (r .marks))) (r .marks) (λ m i. facts-same r (firstList (r .marks)) m (go (r .marks) m i (λ k j. f .same m k i j) (λ k j. f .same k m j i) (f .once m i) (f .inside m i)))
+lists-leaf r f = all-intro (listTest r (firstList (r .marks))) (r .marks) (λ m i. facts-same r (firstList (r .marks)) m (go (r .marks) m i (λ k j. f .same m k
+    i j) (λ k j. f .same k m j i) (f .once m i) (f .inside m i)))
   where
-    go : (ms : List Mark) (m : Mark) → Mem m ms → ((k : Mark) → Mem k ms → (y : ℕ) → Mem y (yardsIn (m .list)) → Mem y (yardsIn (k .list))) → ((k : Mark) → Mem k ms → (y : ℕ) → Mem y (yardsIn (k .list)) → Mem y (yardsIn (m .list)))
+    go : (ms : List Mark) (m : Mark) → Mem m ms → ((k : Mark) → Mem k ms → (y : ℕ) → Mem y (yardsIn (m .list)) → Mem y (yardsIn (k .list))) → ((k : Mark)
+        → Mem k ms → (y : ℕ) → Mem y (yardsIn (k .list)) → Mem y (yardsIn (m .list)))
         → Distinct (yardsIn (m .list)) → ((y : ℕ) → Mem y (yardsIn (m .list)) → (r .first ≤ y) × (y < r .after)) → ListFacts r (firstList ms) m
     go [] m i g h p q = absurd (not-nil i)
     go (x ∷ xs) m i g h p q = record { once-each = p; in-range = q; to-first = g x (head refl); from-first = h x (head refl) }

@@ -95,7 +95,8 @@ module _ (p : List ℕ) (n low high : ℕ) where
           rw (← a, ← b) g
 
   -- no pair is done
-  pub none-done : (k : ℕ) (table : List Bool) → k ≡ n → table ≡ replicate 1024 false → (table ≡ tableOf (readList p (n - k) (6 * k))) × (fits low high (readList p (n - k) (6 * k)) ≡ true)
+  pub none-done : (k : ℕ) (table : List Bool) → k ≡ n → table ≡ replicate 1024 false
+      → (table ≡ tableOf (readList p (n - k) (6 * k))) × (fits low high (readList p (n - k) (6 * k)) ≡ true)
   unfolding tableOf fits once
   none-done k table e f = rw (list-none p n k (6 * k) (omega arith)) (f, all-none (inRange low high))
 
@@ -107,7 +108,8 @@ module _ (p : List ℕ) (n low high : ℕ) where
       (sym (rw (← q) (d .1)), λ z. rw (← q) (d .0))
 
   -- a failure, as the loop answers it
-  pub failed : (table : List Bool) → fits low high (readList p n 0) ≡ false → (false ≡ fits low high (readList p n 0)) × (false ≡ true → table ≡ tableOf (readList p n 0))
+  pub failed : (table : List Bool) → fits low high (readList p n 0) ≡ false → (false ≡ fits low high (readList p n 0)) × (false ≡ true
+      → table ≡ tableOf (readList p n 0))
   failed table f = (sym f, λ z. let y : _≡_ {A = ℕ} 0 1 = cc in absurd (omega arith))
 
   -- the pair before the k of which those after are done
@@ -145,7 +147,12 @@ module _ (p : List ℕ) (n low high : ℕ) where
       unfolding fits tableOf
       one-more t q s = (
         rw (list-turn p n (k - 1) (6 * (k - 1)) earlier, ← e, rest-is, d .0) refl,
-        rw (sym (once-next p n (k - 1) (6 * (k - 1)) v (n - (k - 1 + 1)) earlier e refl (sym named ∙ t)), sym (range-next p n (k - 1) (6 * (k - 1)) low high v earlier e q s), rest-is) (d .1),
+        rw (
+          sym (once-next p n (k - 1) (6 * (k - 1)) v (n - (k - 1 + 1)) earlier e refl (sym named
+              ∙ t)),
+          sym (range-next p n (k - 1) (6 * (k - 1)) low high v earlier e q s),
+          rest-is,
+        ) (d .1),
       )
 
 -- ---- two lists by their tables
@@ -155,7 +162,8 @@ unfolding inRange
 range-below low high e t = ltb→lt (e .yard) high (and-right (leb low (e .yard)) _ t)
 
 -- a list's yards are below 1,024
-small : (low high : ℕ) (es : List Element) → high ≤ 1024 → all (inRange low high) es ≡ true → (other : List Element) → all (inTable (tableOf other)) es ≡ namedBy other es
+small : (low high : ℕ) (es : List Element) → high ≤ 1024 → all (inRange low high) es ≡ true → (other : List Element)
+    → all (inTable (tableOf other)) es ≡ namedBy other es
 unfolding inTable namedBy
 small low high [] h a other = all-none (inTable (tableOf other)) ∙ sym (all-none (λ (x : Element). names other (x .yard)))
 small low high (e ∷ es) h a other =
@@ -200,7 +208,8 @@ module _ (low high : ℕ) (ref es : List Element) (h : high ≤ 1024) (f : fits 
     pub same-not-named : (named : List Bool) → named ≡ tableOf ref → all (inTable named) es ≡ false → sameYards low high ref es ≡ false
     same-not-named named e q = same-to low high ref es es-once es-range (sym (small low high es h es-range ref) ∙ rw (← e) q)
 
-    pub same-by-table : (named table : List Bool) → named ≡ tableOf ref → all (inTable named) es ≡ true → table ≡ tableOf es → sameYards low high ref es ≡ all (inTable table) ref
+    pub same-by-table : (named table : List Bool) → named ≡ tableOf ref → all (inTable named) es ≡ true → table ≡ tableOf es
+        → sameYards low high ref es ≡ all (inTable table) ref
     same-by-table named table e q t =
         same-from low high ref es es-once es-range (sym (small low high es h es-range ref) ∙ rw (← e) q) ∙ rw t (sym (small low high ref h ref-range es))
 
@@ -213,7 +222,8 @@ module _ (b : List ℕ) (n m start low high : ℕ) (some : 0 < m) (r : Bool) (na
   first-fails q =
       let g : fits low high (readList (listPart b n (start + 2)) n 0) ≡ false = rw (← part) (sym t ∙ q) in
       let z : m - 0 ≡ m = omega arith in
-      rw (← z) (agree-stop b n m 0 start low high (firstList (readLists b n (m - 0) start)) (readList (listPart b n (start + 2)) n 0) (rw z (first-list b n m start some)) some (list-fails low high (readList (listPart b n (start + 2)) n 0) (readList (listPart b n (start + 2)) n 0) g))
+      rw (← z) (agree-stop b n m 0 start low high (firstList (readLists b n (m - 0) start)) (readList (listPart b n (start + 2)) n 0) (rw z (first-list b n m
+      start some)) some (list-fails low high (readList (listPart b n (start + 2)) n 0) (readList (listPart b n (start + 2)) n 0) g))
 
   pub first-fits : r ≡ true → (fits low high (readList (listPart b n (start + 2)) n 0) ≡ true) × (named ≡ tableOf (readList (listPart b n (start + 2)) n 0))
   first-fits q = (rw (← part) (sym t ∙ q), rw (← part) (w q))

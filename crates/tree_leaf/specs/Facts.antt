@@ -8,7 +8,8 @@ use Rattle.tree_leaf.specs.Leaf.{yardsIn}
 -- a leaf's lists
 pub record LeafLists (r : Region) : Type 0 where
   -- "all of a leaf's lists name the same yards"
-  pub same : (m k : Mark) → Mem m (r .marks) → Mem k (r .marks) → (y : ℕ) → Mem y (yardsIn (m .list)) → Mem y (yardsIn (k .list))
+  pub same : (m k : Mark) → Mem m (r .marks) → Mem k (r .marks) → (y : ℕ) → Mem y (yardsIn (m .list))
+      → Mem y (yardsIn (k .list))
   -- "each yard once"
   pub once : (m : Mark) → Mem m (r .marks) → Distinct (yardsIn (m .list))
   -- "inside its range"

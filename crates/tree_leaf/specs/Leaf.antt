@@ -1,4 +1,5 @@
--- The shape's rules for a leaf: "all of a leaf's lists name the same yards, each yard once, inside its range". Assumes nothing: these are definitions.
+-- The shape's rules for a leaf: "all of a leaf's lists name the same yards, each yard once, inside its range". Assumes
+-- nothing: these are definitions.
 use mathlib.Core.Bool.{Bool, true, false, not, _&&_, _||_}
 use mathlib.Core.List.{List, [], _∷_}
 use Prim.Native.Nat.{ℕ}

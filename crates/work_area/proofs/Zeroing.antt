@@ -1,13 +1,11 @@
 -- The work area's test, and the area after a call. Assumes nothing.
-use mathlib.Core.Path.{_≡_, refl, sym, ap, _∙_}
-use mathlib.Core.Bool.{Bool}
+use mathlib.Core.Path.{_≡_, sym, ap, _∙_}
 use mathlib.Core.List.{List, _++_}
 use Prim.Native.Nat.{ℕ, _≤_, _<_}
 use native.Mathlib.Omega.{arith}
 use lib.ListN.{length, replicate, drop, length-append, length-drop}
 use lib.Seq.{drop-at}
-use lib.Dec.{T, leb, eqb, leb→le, le→leb, not-T}
-use Rattle.book.specs.Choose.{choose}
+use lib.Dec.{leb, eqb, leb→le, le→leb, not-T}
 use Rattle.book.proofs.Choosing.{passes, fails, passed, choose-yes, choose-no, choose-map}
 use Rattle.book.proofs.Lists.{eq→eqb, ne→neqb}
 use Rattle.book.proofs.Filling.{filled, filled-parts}

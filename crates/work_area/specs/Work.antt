@@ -1,4 +1,5 @@
--- The lent work area: "Check, build and search zero the first 16,384 words of the work area and leave any after them." Assumes nothing: these are definitions.
+-- The lent work area: "Check, build and search zero the first 16,384 words of the work area and leave any after them."
+-- Assumes nothing: these are definitions.
 use mathlib.Core.List.{List, _++_}
 use Prim.Native.Nat.{ℕ}
 use lib.ListN.{replicate, drop}

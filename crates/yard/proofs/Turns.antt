@@ -35,7 +35,11 @@ drop-from : (b : List ℕ) (n i f : ℕ) → f ≤ n → drop f (yardsFrom b n i
 unfolding yardsFrom
 drop-from b n i zero h = rw (let e : n - 0 ≡ n = omega arith in e, let e : i + 0 ≡ i = omega arith in e) refl
 drop-from b zero i (suc f) h = absurd (omega arith)
-drop-from b (suc n) i (suc f) h = drop-from b n (suc i) f (omega arith) ∙ rw (let e : suc n - suc f ≡ n - f = omega arith in e, let e : i + suc f ≡ suc i + f = omega arith in e) refl
+drop-from b (suc n) i (suc f) h = drop-from b n (suc i) f (omega arith) ∙ rw (
+  let e : suc n - suc f ≡ n - f = omega arith in
+      e,
+  let e : i + suc f ≡ suc i + f = omega arith in e,
+) refl
 
 -- the yards of number f up to t
 pub yards-slice : (b : List ℕ) (f t : ℕ) → f ≤ t → t ≤ yardCount b → slice f t (yardsOf b) ≡ yardsFrom b (t - f) f

@@ -107,7 +107,14 @@ layout-zero b y =
       sized = y .sized;
       rise = facts-rises 0 (yardsOf b) (λ h. omega arith)
           (λ i h. omega (arith, yards-length b, yards-at b i (omega (arith, yards-length b)), y .below i (omega (arith, yards-length b))))
-          (λ i h. omega (arith, yards-length b, yards-at b i (omega (arith, yards-length b)), yards-at b (i + 1) (omega (arith, yards-length b)), y .rising i (omega (arith, yards-length b))));
+          (λ i h. omega (
+            arith,
+            yards-length b,
+            yards-at b i (omega (arith, yards-length b)),
+            yards-at b (i + 1) (omega (arith, yards-length b)),
+            y .rising i
+                (omega (arith, yards-length b)),
+          ));
     })
 
 -- no test fails if and only if the book is laid out as 01 says
@@ -218,4 +225,14 @@ yard-eight b n = (to, from)
     from y =
         let i = y .1 .0 in
         outside b n (layout-zero b (y .0))
-        (not-T (inside n (yardsOf b)) (λ t. omega (arith, y .1 .1, y .1 .2, yards-at b i (y .1 .1), inside-all n (yardsOf b) t i (omega (arith, yards-length b, y .1 .1)))))
+        (not-T (inside n (yardsOf b)) (λ t. omega (
+          arith,
+          y .1 .1,
+          y .1 .2,
+          yards-at b i (y .1 .1),
+          inside-all n (yardsOf b) t i (omega (
+            arith,
+            yards-length b,
+            y .1 .1,
+          )),
+        )))

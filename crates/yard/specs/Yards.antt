@@ -1,4 +1,5 @@
--- The yard book: "yards u16 (1 to 256), then junctions u16, below 1,024, rising strictly." Assumes nothing: these are definitions.
+-- The yard book: "yards u16 (1 to 256), then junctions u16, below 1,024, rising strictly." Assumes nothing: these are
+-- definitions.
 use mathlib.Core.Path.{_≡_}
 use mathlib.Core.Bool.{Bool, true, _&&_}
 use mathlib.Core.List.{List, [], _∷_}
@@ -28,7 +29,8 @@ yardsFrom b (suc n) i = yardAt b i ∷ yardsFrom b n (suc i)
 unfoldable pub yardsOf : List ℕ → List ℕ
 yardsOf b = yardsFrom b (yardCount b) 0
 
--- "below 1,024, rising strictly": every yard is below 1,024 and above the one before; `low` is the least number that the first may bear
+-- "below 1,024, rising strictly": every yard is below 1,024 and above the one before; `low` is the least number that
+-- the first may bear
 unfoldable pub rises : ℕ → List ℕ → Bool
 rises low [] = true
 rises low (y ∷ ys) = leb low y && (ltb y 1024 && rises (suc y) ys)

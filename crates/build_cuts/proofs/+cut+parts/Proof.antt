@@ -76,9 +76,13 @@ cut-put-own-requires : (t : ℕ) → cut-lts.Need-put-own-requires (cut-calls t)
 cut-put-own-requires t c κs =
     let p = c .before .before .before .before .before .before .before .pre .1 in
     let r = p .0 in
-    let k = p .3 in
-    (range-ready _ _ _ r (k .book) (k .adjacent) (p .1), p .2, λ z. absurd (omega (arith, z)), λ z. leaf-fits _ _ (r .passes) _ _ _ _ _ _ _ _
-        (r .numbers .first) (r .numbers .after) _ (c .before .before .stays .ensures) (c .before .if1 .taken) _ (k .fits))
+    let k = p .3 in (
+      range-ready _ _ _ r (k .book) (k .adjacent) (p .1),
+      p .2,
+      λ z. absurd (omega (arith, z)),
+      λ z. leaf-fits _ _ (r .passes) _ _ _ _ _ _ _ _
+          (r .numbers .first) (r .numbers .after) _ (c .before .before .stays .ensures) (c .before .if1 .taken) _ (k .fits),
+    )
 
 cut-same-length : (t : ℕ) → cut-lts.Need-same-length (cut-calls t) (cut-at t) cut.Post
 cut-same-length t c = c .before .before .put-own .kept .1 .1 .1 .1 .1 .0
@@ -87,7 +91,7 @@ cut-returns : (t : ℕ) → cut-lts.Need-returns (cut-calls t) (cut-at t) cut.Po
 cut-returns t c =
     let r = c .before .before .before .before .before .before .before .before .before .before .pre .1 .0 in
     λ road a. leaf-done _ _ (r .passes) _ _ _ _ _ _ _ _ (r .numbers .first) (r .numbers .after) _ (c .before .before .before .before .before .stays .ensures)
-        (c .before .before .before .before .if1 .taken) _ _ _ _ (c .before .before .put-own .ensures road _ a)
+    (c .before .before .before .before .if1 .taken) _ _ _ _ (c .before .before .put-own .ensures road _ a)
 
 cut-part-count-requires : (t : ℕ) → cut-lts.Need-part-count-requires (cut-calls t) (cut-at t) cut.Post
 cut-part-count-requires t c κs =
@@ -112,11 +116,14 @@ cut-sub-parts : (t : ℕ) → cut-lts.Need-sub-parts (cut-calls t) (cut-at t) cu
 cut-sub-parts t c =
     let p = c .before .before .before .before .before .before .before .before .before .before .before .pre .1 in
     let r = p .0 in
-    omega (arith, level-left (p .3 .book) _ (r .passes)
-        (c .before .before .before .before .before .before .before .before .before .before .before .args .levels) _ _
-        (c .before .before .before .before .before .before .before .before .before .before .before .args .plan .limit)
-        (c .before .before .before .before .before .before .before .before .before .before .before .args .plan .landmarks) 0 _ _ (r .numbers .first)
-        (r .numbers .after) _ (c .before .before .before .before .before .before .stays .ensures) (c .before .before .before .before .before .if1 .left))
+    omega (
+      arith,
+      level-left (p .3 .book) _ (r .passes)
+          (c .before .before .before .before .before .before .before .before .before .before .before .args .levels) _ _
+          (c .before .before .before .before .before .before .before .before .before .before .before .args .plan .limit)
+          (c .before .before .before .before .before .before .before .before .before .before .before .args .plan .landmarks) 0 _ _ (r .numbers .first)
+          (r .numbers .after) _ (c .before .before .before .before .before .before .stays .ensures) (c .before .before .before .before .before .if1 .left),
+    )
 
 cut-parts-requires : (t : ℕ) → cut-lts.Need-parts-requires (cut-calls t) (cut-at t) cut.Post
 cut-parts-requires t c κs =
@@ -125,8 +132,8 @@ cut-parts-requires t c κs =
     let r = p .0 in
     let k = p .3 in
     let left = level-left (k .book) _ (r .passes) (s .args .levels) _ _ (s .args .plan .limit) (s .args .plan .landmarks) 0 _ _ (r .numbers .first)
-        (r .numbers .after) _ (c .before .before .before .before .before .before .before .stays .ensures)
-        (c .before .before .before .before .before .before .if1 .left) in
+    (r .numbers .after) _ (c .before .before .before .before .before .before .before .stays .ensures)
+    (c .before .before .before .before .before .before .if1 .left) in
     let w = c .before .before .before .put-own2 in (
       falls-cut _ _ left (s .pre .0),
       (
@@ -168,21 +175,26 @@ cut-same-length-2 t c =
 
 cut-returns-2 : (t : ℕ) → cut-lts.Need-returns-2 (cut-calls t) (cut-at t) cut.Post
 cut-returns-2 t c =
-    let r = c .before .before .before .before .before .before .before .before .before .before .before .before .before .before .before .before .before .pre .1 .0 in
+    let s = c .before .before .before .before .before .before .before .before .before .before .before .before .before .before .before .before .before in
+    let r = s .pre .1 .0 in
     λ road a. cut-done _ _ (r .passes) _ _ _ _ _ _ _ _ (r .numbers .first) (r .numbers .after) _
-        (c .before .before .before .before .before .before .before .before .before .before .before .before .stays .ensures)
-        (c .before .before .before .before .before .before .before .before .before .before .before .if1 .left) _
-        (c .before .before .before .before .before .before .before .before .before .before .part-count .ensures) _ _ _ _
-        (c .before .before .before .before .before .before .before .before .put-own2 .ensures road _ a) _ _ _
-        (c .before .before .before .before .parts .ensures road a)
+    (c .before .before .before .before .before .before .before .before .before .before .before .before .stays .ensures)
+    (c .before .before .before .before .before .before .before .before .before .before .before .if1 .left) _
+    (c .before .before .before .before .before .before .before .before .before .before .part-count .ensures) _ _ _ _
+    (c .before .before .before .before .before .before .before .before .put-own2 .ensures road _ a) _ _ _
+    (c .before .before .before .before .parts .ensures road a)
 
 parts-returns : (t : ℕ) → parts-lts.Need-returns (parts-calls t) (parts-at t) parts.Post
 parts-returns t c = λ road a. parts-over _ _ (c .before .before .before .before .pre .1 .0 .passes) _ _ _ _ _ _ _ _ (c .if1 .taken)
 
 parts-part-requires : (t : ℕ) → parts-lts.Need-part-requires (parts-calls t) (parts-at t) parts.Post
 parts-part-requires t c κs =
-    let p = c .before .before .before .before .pre .1 in (p .0 .passes, omega (arith, p .0 .inside, few-junctions (p .3 .adjacent)), omega
-    (arith, p .1, c .if1 .left))
+    let p = c .before .before .before .before .pre .1 in (
+      p .0 .passes,
+      omega (arith, p .0 .inside, few-junctions (p .3 .adjacent)),
+      omega
+          (arith, p .1, c .if1 .left),
+    )
 
 parts-add-parts : (t : ℕ) → parts-lts.Need-add-parts (parts-calls t) (parts-at t) parts.Post
 parts-add-parts t c = omega (arith, c .before .before .before .before .before .before .before .pre .1 .1)
@@ -197,9 +209,13 @@ parts-parts-requires t c κs =
         p .0,
         omega (arith, p .1, c .before .before .before .before .if1 .left),
         p .2,
-        record { book = k .book; adjacent = k .adjacent; fits = drop-fits _ _ (p .0 .passes) _ _ _ _ _ _ _ (p .1)
-            (c .before .before .before .before .if1 .left) _ _ (c .before .before .before .part .ensures .0) (c .before .before .before .part .ensures .1) _ _
-            (c .before .before .before .part .ensures .2 .first) (c .before .before .before .part .ensures .2 .after) (c .before .if2 .taken) _ (k .fits) },
+        record {
+          book = k .book;
+          adjacent = k .adjacent;
+          fits = drop-fits _ _ (p .0 .passes) _ _ _ _ _ _ _ (p .1)
+              (c .before .before .before .before .if1 .left) _ _ (c .before .before .before .part .ensures .0) (c .before .before .before .part .ensures .1) _ _
+              (c .before .before .before .part .ensures .2 .first) (c .before .before .before .part .ensures .2 .after) (c .before .if2 .taken) _ (k .fits);
+        },
       ),
     )
 
@@ -210,10 +226,10 @@ parts-returns-2 : (t : ℕ) → parts-lts.Need-returns-2 (parts-calls t) (parts-
 parts-returns-2 t c =
     let p = c .before .before .before .before .before .before .before .before .before .before .before .pre .1 in
     λ road a. drop-done _ _ (p .0 .passes) _ _ _ _ _ _ _ (p .1) (c .before .before .before .before .before .before .before .if1 .left) _ _
-        (c .before .before .before .before .before .before .part .ensures .0) (c .before .before .before .before .before .before .part .ensures .1) _ _
-        (c .before .before .before .before .before .before .part .ensures .2 .first)
-        (c .before .before .before .before .before .before .part .ensures .2 .after) (c .before .before .before .before .if2 .taken) _ _ _ _
-        (c .before .before .parts .ensures road a)
+    (c .before .before .before .before .before .before .part .ensures .0) (c .before .before .before .before .before .before .part .ensures .1) _ _
+    (c .before .before .before .before .before .before .part .ensures .2 .first)
+    (c .before .before .before .before .before .before .part .ensures .2 .after) (c .before .before .before .before .if2 .taken) _ _ _ _
+    (c .before .before .parts .ensures road a)
 
 parts-cut-requires : (t : ℕ) → parts-lts.Need-cut-requires (parts-calls t) (parts-at t) parts.Post
 parts-cut-requires t c κs =
@@ -223,14 +239,22 @@ parts-cut-requires t c κs =
     let q = c .before .before .before .part .ensures in (
       falls-part _ _ _ (s .pre .0),
       (
-        record { passes = p .0 .passes; inside = part-top (k .book) _ (p .0 .passes) (s .args .levels) _ _ _ (s .args .plan .limit) (s .args .plan .landmarks)
-            0 (p .1) (c .before .before .before .before .if1 .left) _ _ (q .0) (q .1) _ _ (q .2 .first) (q .2 .after) _ (p .0 .inside); numbers = q .2 },
+        record {
+          passes = p .0 .passes;
+          inside = part-top (k .book) _ (p .0 .passes) (s .args .levels) _ _ _ (s .args .plan .limit) (s .args .plan .landmarks)
+              0 (p .1) (c .before .before .before .before .if1 .left) _ _ (q .0) (q .1) _ _ (q .2 .first) (q .2 .after) _ (p .0 .inside);
+          numbers = q .2;
+        },
         part-size (k .book) _ (p .0 .passes) (s .args .levels) _ _ _ (s .args .plan .limit) (s .args .plan .landmarks) 0 (p .1)
             (c .before .before .before .before .if1 .left) _ _ (q .0) (q .1) _ _ (q .2 .first) (q .2 .after) (c .before .if2 .left),
         p .2,
-        record { book = k .book; adjacent = k .adjacent; fits = part-fits _ _ (p .0 .passes) _ _ _ _ _ _ _ (p .1)
-            (c .before .before .before .before .if1 .left) _ _ (c .before .before .before .part .ensures .0) (c .before .before .before .part .ensures .1) _ _
-            (c .before .before .before .part .ensures .2 .first) (c .before .before .before .part .ensures .2 .after) (c .before .if2 .left) _ (k .fits) },
+        record {
+          book = k .book;
+          adjacent = k .adjacent;
+          fits = part-fits _ _ (p .0 .passes) _ _ _ _ _ _ _ (p .1)
+              (c .before .before .before .before .if1 .left) _ _ (c .before .before .before .part .ensures .0) (c .before .before .before .part .ensures .1) _ _
+              (c .before .before .before .part .ensures .2 .first) (c .before .before .before .part .ensures .2 .after) (c .before .if2 .left) _ (k .fits);
+        },
       ),
     )
 
@@ -291,14 +315,14 @@ parts-returns-3 : (t : ℕ) → parts-lts.Need-returns-3 (parts-calls t) (parts-
 parts-returns-3 t c =
     let p = c .before .before .before .before .before .before .before .before .before .before .before .before .before .before .before .before .before .pre .1 in
     λ road a. rest-done _ _ (p .0 .passes) _ _ _ _ _ _ _ (p .1)
-        (c .before .before .before .before .before .before .before .before .before .before .before .before .before .if1 .left) _ _
-        (c .before .before .before .before .before .before .before .before .before .before .before .before .part .ensures .0)
-        (c .before .before .before .before .before .before .before .before .before .before .before .before .part .ensures .1) _ _
-        (c .before .before .before .before .before .before .before .before .before .before .before .before .part .ensures .2 .first)
-        (c .before .before .before .before .before .before .before .before .before .before .before .before .part .ensures .2 .after)
-        (c .before .before .before .before .before .before .before .before .before .before .if2 .left) _ _ _ _
-        (c .before .before .before .before .before .before .before .before .cut .ensures road a) _ _ _ (c .before .before .before .before .parts2 .ensures road
-        a)
+    (c .before .before .before .before .before .before .before .before .before .before .before .before .before .if1 .left) _ _
+    (c .before .before .before .before .before .before .before .before .before .before .before .before .part .ensures .0)
+    (c .before .before .before .before .before .before .before .before .before .before .before .before .part .ensures .1) _ _
+    (c .before .before .before .before .before .before .before .before .before .before .before .before .part .ensures .2 .first)
+    (c .before .before .before .before .before .before .before .before .before .before .before .before .part .ensures .2 .after)
+    (c .before .before .before .before .before .before .before .before .before .before .if2 .left) _ _ _ _
+    (c .before .before .before .before .before .before .before .before .cut .ensures road a) _ _ _ (c .before .before .before .before .parts2 .ensures road
+    a)
 
 pub +cut+parts-spec : {M : Type 1} → statement M
 +cut+parts-spec = close μ-cut μ-parts (λ t. cut-lts.spec (cut-calls t)

@@ -6,7 +6,7 @@ use lib.ListN.{length}
 use Rattle.road_layout.specs.Road.{roads}
 use Rattle.adjacency.specs.Adjacency.{Adjacency}
 use Rattle.adjacency.proofs.Linking.{few-junctions}
-use Rattle.cut_tree.specs.Cut.{borders}
+use Rattle.build_rules.specs.Cut.{borders}
 use Rattle.build_records.specs.Marks.{markBytes}
 use Rattle.build_records.proofs.Numbered.{yards-few}
 use Rattle.build_records.proofs.Writing.{mark-length}
@@ -32,10 +32,10 @@ known : (c : tie.In-loop Inv-loop μ-loop) → Marking (markBytes (c .before .be
     (c .before .before .before .before .before .before .before .before .args .p .start)
     (c .before .before .before .before .before .before .before .before .args .p .size)
     (borders (roads (c .before .before .before .before .before .before .before .before .pre .0 .adjacency .book))
-        (c .before .before .before .before .before .before .before .before .args .p .start)
-        (c .before .before .before .before .before .before .before .before .args .p .size))
-        (c .before .before .before .before .before .before .before .before .args .tree .now)
-        (c .before .before .before .before .before .before .before .before .args .start) (c .before .loop .tree) (c .before .loop .at) (c .before .loop .j)
+    (c .before .before .before .before .before .before .before .before .args .p .start)
+    (c .before .before .before .before .before .before .before .before .args .p .size))
+    (c .before .before .before .before .before .before .before .before .args .tree .now)
+    (c .before .before .before .before .before .before .before .before .args .start) (c .before .loop .tree) (c .before .loop .at) (c .before .loop .j)
 known c =
     c .before .loop .inv (c .before .before .before .before .before .before .before .before .pre .0 .adjacency .book)
     (c .before .before .before .before .before .before .before .before .pre .0 .adjacency .adjacent)
@@ -65,19 +65,30 @@ put-mark-requires c κs = let p = c .before .before .before .before .before .bef
   p .4,
   landmark-low _ _ _ _ _ _ _ _ (p .1 (p .0 .adjacency .book) (p .0 .adjacency .adjacent)) (p .0 .some) (c .before .before .loop-test .taken) (p .0 .inside)
       (c .before .landmark-of .ensures),
-  omega (arith, marking-room _ _ _ _ _ _ _ _ _ _ _ (known (c .before .before)) (c .before .before .loop-test .taken),
-      c .before .before .before .before .mark-size .ensures),
+  omega (
+    arith,
+    marking-room _ _ _ _ _ _ _ _ _ _ _ (known (c .before .before)) (c .before .before .loop-test .taken),
+    c .before .before .before .before .mark-size .ensures,
+  ),
 )
 
 add-at : tie.Need-add-at Inv-loop μ-loop
 add-at c =
-    let s = c .before .before .before .before .before .before .before .before .before .before .before .before .before in omega (arith, fits
-    (c .before .before .before .before .before), s .good, s .fits)
+    let s = c .before .before .before .before .before .before .before .before .before .before .before .before .before in omega (
+      arith,
+      fits
+          (c .before .before .before .before .before),
+      s .good,
+      s .fits,
+    )
 
 add-j : tie.Need-add-j Inv-loop μ-loop
 add-j c =
-    omega (arith, c .before .before .before .before .before .before .before .before .before .before .before .before .before .pre .3,
-    c .before .before .before .before .before .loop-test .taken)
+    omega (
+      arith,
+      c .before .before .before .before .before .before .before .before .before .before .before .before .before .pre .3,
+      c .before .before .before .before .before .loop-test .taken,
+    )
 
 loop-less : tie.Need-loop-less Inv-loop μ-loop
 loop-less c = omega (arith, c .before .before .before .before .before .loop-test .taken)
@@ -87,8 +98,8 @@ loop-again c = let s = c .before .before .before .before .before .before .before
     let x = c .before .before .put-mark in
     λ road b.
     marking-turn _ _ _ _ _ _ _ _ _ _ _ _ _ (c .before .before .before .before .before .before .loop .inv road b)
-        (c .before .before .before .before .before .loop-test .taken) (mark-length _ _ _ _ _ _ ∙ sym
-        (c .before .before .before .before .before .before .before .mark-size .ensures))
+    (c .before .before .before .before .before .loop-test .taken) (mark-length _ _ _ _ _ _ ∙ sym
+    (c .before .before .before .before .before .before .before .mark-size .ensures))
     (landmark-same _ _ _ _ _ _ _ (s .pre .1 road b) (c .before .before .before .before .landmark-of .ensures)) (x .ensures road b) (omega (arith, x .kept))
 
 same-length : tie.Need-same-length Inv-loop μ-loop
@@ -99,9 +110,11 @@ same-length c =
 returns : tie.Need-returns Inv-loop μ-loop
 returns c = let p = c .before .before .before .before .before .before .before .before .pre in
     let l = c .before .loop in
-    let k = l .inv (p .0 .adjacency .book) (p .0 .adjacency .adjacent) in
-    (marking-place _ _ _ _ _ _ _ _ _ _ _ _ k (c .loop-test .left) (c .before .before .mark-size .ensures), λ road b. marking-end _ _ _ _ _ _ _ _ _ _ _
-        (l .inv road b) (c .loop-test .left))
+    let k = l .inv (p .0 .adjacency .book) (p .0 .adjacency .adjacent) in (
+      marking-place _ _ _ _ _ _ _ _ _ _ _ _ k (c .loop-test .left) (c .before .before .mark-size .ensures),
+      λ road b. marking-end _ _ _ _ _ _ _ _ _ _ _
+          (l .inv road b) (c .loop-test .left),
+    )
 
 pub put-marks-spec : {M : Type 1} → statement M
 put-marks-spec =

@@ -23,13 +23,21 @@ cast-t16 c =
 
 add-t17 : tie.Need-add-t17
 add-t17 c =
-    let p = c .before .before .before .before .before .before .before .before .before .pre in omega (arith, p .0 .inside, few-junctions
-    (p .0 .adjacency .adjacent))
+    let p = c .before .before .before .before .before .before .before .before .before .pre in omega (
+      arith,
+      p .0 .inside,
+      few-junctions
+          (p .0 .adjacency .adjacent),
+    )
 
 cast-t18 : tie.Need-cast-t18
 cast-t18 c =
-    let p = c .before .before .before .before .before .before .before .before .before .pre in omega (arith, p .0 .inside, few-junctions
-    (p .0 .adjacency .adjacent))
+    let p = c .before .before .before .before .before .before .before .before .before .pre in omega (
+      arith,
+      p .0 .inside,
+      few-junctions
+          (p .0 .adjacency .adjacent),
+    )
 
 sub-t19 : tie.Need-sub-t19
 sub-t19 c = omega (arith, c .before .before .before .before .before .before .before .before .before .before .pre .0 .yards .order)
@@ -39,19 +47,35 @@ cast-t20 c = omega (arith, yards-few _ _ _ (c .before .before .before .before .b
 
 put-fields-requires : tie.Need-put-fields-requires
 put-fields-requires c κs =
-    let s = c .before .before .before .before .before .before .before .before .before .before in omega (arith, s .pre .3, record-size (s .args .m)
-    (s .args .children) (s .args .p .end - s .args .p .from))
+    let s = c .before .before .before .before .before .before .before .before .before .before in omega (
+      arith,
+      s .pre .3,
+      record-size (s .args .m)
+          (s .args .children) (s .args .p .end - s .args .p .from),
+    )
 
 marks-at-requires : tie.Need-marks-at-requires
 marks-at-requires c κs =
-    let s = c .before .before .before .before .before .before .before .before .before .before .before .before .before in omega (arith, s .pre .3, record-size
-    (s .args .m) (s .args .children) (s .args .p .end - s .args .p .from), s .good, s .fits)
+    let s = c .before .before .before .before .before .before .before .before .before .before .before .before .before in omega (
+      arith,
+      s .pre .3,
+      record-size
+          (s .args .m) (s .args .children) (s .args .p .end - s .args .p .from),
+      s .good,
+      s .fits,
+    )
 
 array-share-prefix-list : tie.Need-array-share-prefix-list
 array-share-prefix-list c =
     let p = c .before .before .before .before .before .before .before .before .before .before .before .before .before .before .pre in let l =
-    c .before .before .before .before .before .before .before .before .before .border-list in omega (arith, l .ensures .0, l .kept, p .0 .inside, few-junctions
-    (p .0 .adjacency .adjacent))
+    c .before .before .before .before .before .before .before .before .before .border-list in omega (
+      arith,
+      l .ensures .0,
+      l .kept,
+      p .0 .inside,
+      few-junctions
+          (p .0 .adjacency .adjacent),
+    )
 
 slice-aggregate-put-marks : tie.Need-slice-aggregate-put-marks
 slice-aggregate-put-marks c =
@@ -63,18 +87,26 @@ put-marks-requires : tie.Need-put-marks-requires
 put-marks-requires c κs =
     let p = c .before .before .before .before .before .before .before .before .before .before .before .before .before .before .before .before .pre in
     let l = c .before .before .before .before .before .before .before .before .before .before .before .border-list in
-    let few : l .result ≤ 1024 = omega (arith, l .ensures .0, p .0 .inside, few-junctions (p .0 .adjacency .adjacent)) in
-    (p .0, l .ensures .1, part-few _ _ few (omega (arith, few, l .kept)), p .1, p .2, room _ _ _ _ _ _ _ (c .before .before .marks-at .ensures) (p .3)
-        (omega (arith, c .before .before .before .before .before .put-fields .kept)))
+    let few : l .result ≤ 1024 = omega (arith, l .ensures .0, p .0 .inside, few-junctions (p .0 .adjacency .adjacent)) in (
+      p .0,
+      l .ensures .1,
+      part-few _ _ few (omega (arith, few, l .kept)),
+      p .1,
+      p .2,
+      room _ _ _ _ _ _ _ (c .before .before .marks-at .ensures) (p .3)
+          (omega (arith, c .before .before .before .before .before .put-fields .kept)),
+    )
 
 same-length : tie.Need-same-length
 same-length c = search needs
 
 returns : tie.Need-returns
 returns c = let w = c .before .before .put-marks in
-    let s = c .before .before .before .before .before .marks-at .ensures in
-    (ends _ _ _ _ _ _ s (w .ensures .0), λ road limit b. record-written _ _ _ _ _ _ _ _ _ _ _ _ _ _ s
-        (c .before .before .before .before .before .before .before .before .put-fields .ensures) (w .ensures .1 road b))
+    let s = c .before .before .before .before .before .marks-at .ensures in (
+      ends _ _ _ _ _ _ s (w .ensures .0),
+      λ road limit b. record-written _ _ _ _ _ _ _ _ _ _ _ _ _ _ s
+          (c .before .before .before .before .before .before .before .before .put-fields .ensures) (w .ensures .1 road b),
+    )
 
 pub put-record-spec : {M : Type 1} → statement M
 put-record-spec =

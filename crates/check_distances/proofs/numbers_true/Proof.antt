@@ -13,7 +13,7 @@ use Rattle.tree_layout.specs.Refusal.{all}
 use Rattle.tree_layout.proofs.Accepting.{layout-facts}
 use Rattle.tree_layout.proofs.Places.{place-first}
 use Rattle.tree_layout.proofs.RecordFields.{fields-inside}
-use Rattle.tree_truth.specs.Truth.{trueBesideRegion, trueBeside}
+use Rattle.check_rules.specs.Truth.{trueBesideRegion, trueBeside}
 use Rattle.check_distances.proofs.Records.{header-counts, record-here, record-end, record-next, regions-on, regions-off, regions-done}
 use Rattle.check_distances.proofs.Regions.{region-marked, region-held, tree-test}
 use Rattle.check_distances.proofs.numbers_true.Statement.{statement}

@@ -61,8 +61,19 @@ slice-aggregate-lines-2 c =
 lines-requires : tie.Need-lines-requires
 lines-requires c κs =
     let o = c .before .before .before .before .before in
-    let r = o .before .before .before .before in
-    (places-laid _ _ _ (r .read .ensures .0) (o .o .given .1) _ _ (search needs) (r .read .ensures .1 .0), omega (arith, place-length _ _ _ (r .read .ensures .0) (o .o .given .1) _ _ (search needs) (r .read .ensures .1 .0)), omega (arith, end-length _ _ _ (r .read .ensures .0) (o .o .given .1) _ _ (search needs) (r .read .ensures .1 .1)))
+    let r = o .before .before .before .before in (
+      places-laid _ _ _ (r .read .ensures .0) (o .o .given .1) _ _ (search needs) (r .read .ensures .1 .0),
+      omega (
+        arith,
+        place-length _ _ _ (r .read .ensures
+            .0) (o .o .given .1) _ _ (search needs) (r .read .ensures .1 .0),
+      ),
+      omega (
+        arith,
+        end-length _ _ _ (r .read .ensures .0) (o .o .given .1) _ _ (search needs)
+            (r .read .ensures .1 .1),
+      ),
+    )
 
 returns-2 : tie.Need-returns-2
 returns-2 c = search needs

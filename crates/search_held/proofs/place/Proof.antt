@@ -33,7 +33,8 @@ after-requires : tie.Need-after-requires Inv-loop μ-loop
 after-requires c κs = search needs
 
 returns : tie.Need-returns Inv-loop μ-loop
-returns c = seen-here _ _ _ _ (c .before .before .before .before .before .loop .j) (omega arith) (c .before .before .before .before .before .loop .inv .1) (sym (c .before .after .ensures) ∙ c .if1 .taken)
+returns c = seen-here _ _ _ _ (c .before .before .before .before .before .loop .j) (omega arith) (c .before .before .before .before .before .loop .inv .1) (sym
+    (c .before .after .ensures) ∙ c .if1 .taken)
 
 add-j : tie.Need-add-j Inv-loop μ-loop
 add-j c = search needs
@@ -42,7 +43,11 @@ loop-less : tie.Need-loop-less Inv-loop μ-loop
 loop-less c = search needs
 
 loop-again : tie.Need-loop-again Inv-loop μ-loop
-loop-again c = (omega arith, seen-on _ _ _ _ (c .before .before .before .before .before .loop .j) (omega arith) (c .before .before .before .before .before .loop .inv .1) (sym (c .before .after .ensures) ∙ c .if1 .left))
+loop-again c = (
+  omega arith,
+  seen-on _ _ _ _ (c .before .before .before .before .before .loop .j) (omega arith) (c .before .before .before .before .before
+      .loop .inv .1) (sym (c .before .after .ensures) ∙ c .if1 .left),
+)
 
 returns-2 : tie.Need-returns-2 Inv-loop μ-loop
 returns-2 c = seen-all _ _ _ _ (c .before .loop .j) (omega arith) (c .before .loop .inv .1)

@@ -1,6 +1,6 @@
 use mathlib.Core.Path.{refl}
 use Rattle.tree_layout.proofs.RecordFields.{fields-inside}
-use Rattle.search_leaves.proofs.Opening.{list-whole, list-near, header-junctions-are, header-words}
+use Rattle.search_leaf.proofs.ElementsOpening.{list-whole, list-near, header-junctions-are, header-words}
 use Rattle.search_leaf.proofs.Landmarks.{yards-of, slot, words-are, region-inside, record-here, pick-inside, list-room, list-near as elements-near}
 use Rattle.search_leaf.proofs.Leaving.{list-some, leaf-cached, leaf-taken}
 use borrow.Author.Needs.{needs}

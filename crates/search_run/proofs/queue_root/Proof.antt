@@ -3,7 +3,7 @@ use mathlib.Core.Path.{refl}
 use native.Mathlib.Omega.{arith}
 use lib.ListN.{length-set}
 use Rattle.tree.proofs.Fielding.{laid-header, laid-few}
-use Rattle.search_inner.proofs.Queueing.{counted}
+use Rattle.search_step.proofs.Queueing.{counted}
 use Rattle.search_run.proofs.Starts.{some-place, root-put}
 use Rattle.search_run.proofs.queue_root.Statement.{statement}
 use Rattle.search_run.proofs.queue_root.Tie as tie

@@ -51,8 +51,11 @@ returns-3 : tie.Need-returns-3
 returns-3 c =
     let q = c .before .before .before .before .before in
     let o = q .before .before .before .before in
-    let r = o .before .before in
-    (shaped-answer _ _ _ (q .shape-refusal .ensures .0) (c .if1 .left) (laid-number _ _ _ (sym (r .read .ensures) ∙ o .o .given .1) .1), (q .shape-refusal .ensures .1 .0, q .shape-refusal .ensures .1 .1))
+    let r = o .before .before in (
+      shaped-answer _ _ _ (q .shape-refusal .ensures .0) (c .if1 .left) (laid-number _ _ _ (sym (r .read .ensures)
+          ∙ o .o .given .1) .1),
+      (q .shape-refusal .ensures .1 .0, q .shape-refusal .ensures .1 .1),
+    )
 
 pub read-spec : {M : Type 1} → statement M
 read-spec =

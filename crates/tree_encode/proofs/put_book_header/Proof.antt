@@ -42,7 +42,17 @@ put-u16-requires-3 c κs =
 slice-write-tree-2 : tie.Need-slice-write-tree-2
 slice-write-tree-2 c =
     let at-put-u163 = c .before .before in let at-put-u162 = at-put-u163 .before .before .before .before in
-    let at-put-u16 = at-put-u162 .before .before .before .before in let at-put-u32 = at-put-u16 .before .before .before .before in let s = at-put-u32 .before .before .before in omega (arith, at-put-u163 .put-u163 .kept .0, at-put-u162 .put-u162 .kept .0, simp length-set at (at-put-u16 .put-u16 .kept .0), at-put-u32 .put-u32 .kept .0, s .pre)
+    let at-put-u16 = at-put-u162 .before .before .before .before in let at-put-u32 = at-put-u16 .before .before .before .before in
+    let s = at-put-u32 .before .before .before in
+    omega (
+      arith,
+      at-put-u163 .put-u163 .kept .0,
+      at-put-u162 .put-u162 .kept .0,
+      simp length-set at (at-put-u16 .put-u16 .kept .0),
+      at-put-u32 .put-u32
+          .kept .0,
+      s .pre,
+    )
 
 same-length : tie.Need-same-length
 same-length c =
@@ -54,7 +64,9 @@ same-length c =
 returns : tie.Need-returns
 returns c =
     let at-put-u163 = c .before .before in let at-put-u162 = at-put-u163 .before .before .before .before in
-    let at-put-u16 = at-put-u162 .before .before .before .before in let at-put-u32 = at-put-u16 .before .before .before .before in header-written _ _ _ _ _ _ _ _ _ _ _ _ (at-put-u32 .put-u32 .ensures) refl (at-put-u16 .put-u16 .ensures) (at-put-u162 .put-u162 .ensures) (at-put-u163 .put-u163 .ensures) refl
+    let at-put-u16 = at-put-u162 .before .before .before .before in let at-put-u32 = at-put-u16 .before .before .before .before in
+    header-written _ _ _ _ _ _ _ _ _ _ _ _ (at-put-u32 .put-u32 .ensures) refl (at-put-u16 .put-u16 .ensures) (at-put-u162 .put-u162 .ensures) (at-put-u163
+    .put-u163 .ensures) refl
 
 pub put-book-header-spec : {M : Type 1} → statement M
 put-book-header-spec =

@@ -10,7 +10,8 @@ use Rattle.book.proofs.Opening.{opened-body, opened-refused, opens}
 use Rattle.tree_layout.specs.Decode.{junctionCount, regionCount, yardCount, landmarkCount}
 use Rattle.tree_layout.specs.Refusal.{between, recordsOk}
 use Rattle.tree_layout.proofs.Tests.{between-both}
-use Rattle.tree_layout.proofs.Refusing.{unopened, junctions-out, regions-out, yards-out, landmarks-out, records-out, values-out, laid-out, limit, records-read, values-read, junctions-read, regions-read, yards-read, landmarks-read}
+use Rattle.tree_layout.proofs.Refusing.{unopened, junctions-out, regions-out, yards-out, landmarks-out, records-out, values-out, laid-out, limit}
+use Rattle.tree_layout.proofs.Refusing.{records-read, values-read, junctions-read, regions-read, yards-read, landmarks-read}
 use borrow.Author.Needs.{needs}
 use Rattle.tree_layout.proofs.layout.Statement.{statement}
 use Rattle.tree_layout.proofs.layout.Tie as tie
@@ -25,26 +26,42 @@ whole c = opens _ _ (body c) .headed
 
 -- the counts that are within their limits
 junctions-in : (c : tie.Else1) → between 1 1024 (junctionCount (c .before .before .before .before .before .before .before .before .before .args .b .now)) ≡ true
-junctions-in c = limit _ _ _ _ _ _ (c .before .within .ensures) (c .before .before .before .before .u16-at .ensures ∙ junctions-read _) (not-false _ (c .if1 .left))
+junctions-in c = limit _ _ _ _ _ _ (c .before .within .ensures) (c .before .before .before .before .u16-at .ensures
+    ∙ junctions-read _) (not-false _ (c .if1 .left))
 
-regions-in : (c : tie.Else2) → between 1 511 (regionCount (c .before .before .before .before .before .before .before .before .before .before .before .args .b .now)) ≡ true
-regions-in c = limit _ _ _ _ _ _ (c .before .within2 .ensures) (c .before .before .before .before .before .u16-at2 .ensures ∙ regions-read _) (not-false _ (c .if2 .left))
+regions-in : (c : tie.Else2) → between 1 511 (regionCount (c .before .before .before .before .before .before .before .before .before .before .before .args .b
+    .now)) ≡ true
+regions-in c = limit _ _ _ _ _ _ (c .before .within2 .ensures) (c .before .before .before .before .before .u16-at2 .ensures
+    ∙ regions-read _) (not-false _ (c .if2 .left))
 
-yards-in : (c : tie.Else3) → between 1 256 (yardCount (c .before .before .before .before .before .before .before .before .before .before .before .before .before .before .args .b .now)) ≡ true
+yards-in : (c : tie.Else3) → between 1 256 (yardCount (c .before .before .before .before .before .before .before .before .before .before .before .before
+    .before .before .args .b .now)) ≡ true
 yards-in c = limit _ _ _ _ _ _ (c .before .within3 .ensures) (c .before .before .u16-at3 .ensures ∙ yards-read _) (not-false _ (c .if3 .left))
 
-landmarks-in : (c : tie.Else4) → between 1 4 (landmarkCount (c .before .before .before .before .before .before .before .before .before .before .before .before .before .before .before .before .args .b .now)) ≡ true
-landmarks-in c = limit _ _ _ _ _ _ (c .before .within4 .ensures) (c .before .before .before .before .before .before .before .before .before .u8-at .ensures ∙ landmarks-read _) (not-false _ (c .if4 .left))
+landmarks-in : (c : tie.Else4) → between 1 4 (landmarkCount (c .before .before .before .before .before .before .before .before .before .before .before .before
+    .before .before .before .before .args .b .now)) ≡ true
+landmarks-in c = limit _ _ _ _ _ _ (c .before .within4 .ensures) (c .before .before .before .before .before .before .before .before .before .u8-at .ensures
+    ∙ landmarks-read _) (not-false _ (c .if4 .left))
 
 -- a region has at most four landmarks
 few : (c : tie.Else4) → c .before .before .before .before .before .before .before .before .before .u8-at .result ≤ 4
-few c = omega (arith, between-both 1 4 _ (true-T (landmarks-in c)), c .before .before .before .before .before .before .before .before .before .u8-at .ensures ∙ landmarks-read _)
+few c = omega (
+  arith,
+  between-both 1 4 _ (true-T (landmarks-in c)),
+  c .before .before .before .before .before .before .before .before .before .u8-at .ensures ∙
+      landmarks-read _,
+)
 
 -- the records take up the book
-records-in : (c : tie.Else5) → recordsOk (c .before .before .before .before .before .before .before .before .before .before .before .before .before .before .before .before .before .before .args .b .now) (landmarkCount (c .before .before .before .before .before .before .before .before .before .before .before .before .before .before .before .before .before .before .args .b .now)) (regionCount (c .before .before .before .before .before .before .before .before .before .before .before .before .before .before .before .before .before .before .args .b .now)) 12 ≡ true
+records-in : (c : tie.Else5) → recordsOk (c .before .before .before .before .before .before .before .before .before .before .before .before .before .before
+    .before .before .before .before .args .b .now) (landmarkCount (c .before .before .before .before .before .before .before .before .before .before .before
+    .before .before .before .before .before .before .before .args .b .now)) (regionCount (c .before .before .before .before .before .before .before .before
+    .before .before .before .before .before .before .before .before .before .before .args .b .now)) 12 ≡ true
 records-in c =
     let s = c .before .before in
-    records-read _ _ _ (s .before .before .before .before .before .before .before .before .before .u8-at .ensures ∙ landmarks-read _) (s .before .before .before .before .before .before .before .before .before .before .u16-at2 .ensures ∙ regions-read _) _ _ (not-false _ (c .if5 .left)) (c .before .records-ok .ensures)
+    records-read _ _ _ (s .before .before .before .before .before .before .before .before .before .u8-at .ensures
+    ∙ landmarks-read _) (s .before .before .before .before .before .before .before .before .before .before .u16-at2 .ensures
+    ∙ regions-read _) _ _ (not-false _ (c .if5 .left)) (c .before .records-ok .ensures)
 
 open-requires : tie.Need-open-requires
 open-requires c κs = search needs
@@ -94,7 +111,8 @@ within-requires-2 c κs = search needs
 
 returns-4 : tie.Need-returns-4
 returns-4 c = sym (regions-out _ (body (c .before .before .before .before .before .before .before)) (junctions-in (c .before .before))
-    (limit _ _ _ _ _ _ (c .before .within2 .ensures) (c .before .before .before .before .before .u16-at2 .ensures ∙ regions-read _) (not-true _ (c .if2 .taken))))
+    (limit _ _ _ _ _ _ (c .before .within2 .ensures) (c .before .before .before .before .before .u16-at2 .ensures
+    ∙ regions-read _) (not-true _ (c .if2 .taken))))
 
 u16-at-requires-3 : tie.Need-u16-at-requires-3
 u16-at-requires-3 c κs = omega (arith, whole (c .before .before .before .before .before .before .before))
@@ -116,7 +134,8 @@ returns-6 c =
     let q = c .before .before in
     let p = q .before .before .before in
     sym (landmarks-out _ (body (p .before .before .before .before .before .before .before)) (junctions-in (p .before .before)) (regions-in p) (yards-in q)
-    (limit _ _ _ _ _ _ (c .before .within4 .ensures) (c .before .before .before .before .before .before .before .before .before .u8-at .ensures ∙ landmarks-read _) (not-true _ (c .if4 .taken))))
+    (limit _ _ _ _ _ _ (c .before .within4 .ensures) (c .before .before .before .before .before .before .before .before .before .u8-at .ensures
+    ∙ landmarks-read _) (not-true _ (c .if4 .taken))))
 
 cast-m : tie.Need-cast-m
 cast-m c = search needs
@@ -133,8 +152,11 @@ returns-7 c =
     let s = c .before .before in
     let q = s .before .before in
     let p = q .before .before .before in
-    sym (records-out _ (body (p .before .before .before .before .before .before .before)) (junctions-in (p .before .before)) (regions-in p) (yards-in q) (landmarks-in s)
-    (records-read _ _ _ (s .before .before .before .before .before .before .before .before .before .u8-at .ensures ∙ landmarks-read _) (s .before .before .before .before .before .before .before .before .before .before .u16-at2 .ensures ∙ regions-read _) _ _ (not-true _ (c .if5 .taken)) (c .before .records-ok .ensures)))
+    sym (records-out _ (body (p .before .before .before .before .before .before .before)) (junctions-in (p .before .before)) (regions-in p) (yards-in q)
+    (landmarks-in s)
+    (records-read _ _ _ (s .before .before .before .before .before .before .before .before .before .u8-at .ensures
+    ∙ landmarks-read _) (s .before .before .before .before .before .before .before .before .before .before .u16-at2 .ensures
+    ∙ regions-read _) _ _ (not-true _ (c .if5 .taken)) (c .before .records-ok .ensures)))
 
 values-ok-requires : tie.Need-values-ok-requires
 values-ok-requires c κs =
@@ -146,9 +168,13 @@ returns-8 c =
     let s = t .before .before in
     let q = s .before .before in
     let p = q .before .before .before in
-    sym (values-out _ (body (p .before .before .before .before .before .before .before)) (junctions-in (p .before .before)) (regions-in p) (yards-in q) (landmarks-in s) (records-in t)
-    (values-read _ _ _ (s .before .before .before .before .before .before .before .before .before .u8-at .ensures ∙ landmarks-read _) (s .before .before .before .before .before .before .before .before .before .before .u16-at2 .ensures ∙ regions-read _) _ _ (not-true _ (c .if6 .taken))
-    _ (s .before .before .before .before .before .before .before .before .before .before .before .u16-at .ensures ∙ junctions-read _) (c .before .values-ok .ensures)))
+    sym (values-out _ (body (p .before .before .before .before .before .before .before)) (junctions-in (p .before .before)) (regions-in p) (yards-in q)
+    (landmarks-in s) (records-in t)
+    (values-read _ _ _ (s .before .before .before .before .before .before .before .before .before .u8-at .ensures
+    ∙ landmarks-read _) (s .before .before .before .before .before .before .before .before .before .before .u16-at2 .ensures
+    ∙ regions-read _) _ _ (not-true _ (c .if6 .taken))
+    _ (s .before .before .before .before .before .before .before .before .before .before .before .u16-at .ensures
+    ∙ junctions-read _) (c .before .values-ok .ensures)))
 
 returns-9 : tie.Need-returns-9
 returns-9 c =
@@ -156,9 +182,13 @@ returns-9 c =
     let s = t .before .before in
     let q = s .before .before in
     let p = q .before .before .before in
-    sym (laid-out _ (body (p .before .before .before .before .before .before .before)) (junctions-in (p .before .before)) (regions-in p) (yards-in q) (landmarks-in s) (records-in t)
-    (values-read _ _ _ (s .before .before .before .before .before .before .before .before .before .u8-at .ensures ∙ landmarks-read _) (s .before .before .before .before .before .before .before .before .before .before .u16-at2 .ensures ∙ regions-read _) _ _ (not-false _ (c .if6 .left))
-    _ (s .before .before .before .before .before .before .before .before .before .before .before .u16-at .ensures ∙ junctions-read _) (c .before .values-ok .ensures)))
+    sym (laid-out _ (body (p .before .before .before .before .before .before .before)) (junctions-in (p .before .before)) (regions-in p) (yards-in q)
+    (landmarks-in s) (records-in t)
+    (values-read _ _ _ (s .before .before .before .before .before .before .before .before .before .u8-at .ensures
+    ∙ landmarks-read _) (s .before .before .before .before .before .before .before .before .before .before .u16-at2 .ensures
+    ∙ regions-read _) _ _ (not-false _ (c .if6 .left))
+    _ (s .before .before .before .before .before .before .before .before .before .before .before .u16-at .ensures
+    ∙ junctions-read _) (c .before .values-ok .ensures)))
 
 pub layout-spec : {M : Type 1} → statement M
 layout-spec =

@@ -60,7 +60,8 @@ returns-3 : tie.Need-returns-3 Inv-loop μ-loop
 returns-3 c =
     let w = c .before .before .before in
     let i = w .before .before in
-    sym (list-order _ _ _ _ _ _ _ (i .loop-test .taken) (w .before .u32-at2 .ensures) (w .u16-at2 .ensures) (sym (c .before .after .ensures) ∙ not-true _ (c .if3 .taken)))
+    sym (list-order _ _ _ _ _ _ _ (i .loop-test .taken) (w .before .u32-at2 .ensures) (w .u16-at2 .ensures) (sym (c .before .after .ensures)
+    ∙ not-true _ (c .if3 .taken)))
     ∙ i .before .loop .inv .1
 
 add-k : tie.Need-add-k Inv-loop μ-loop
@@ -75,7 +76,8 @@ loop-again c =
     let w = v .before in
     let i = w .before .before in (
       omega arith,
-      list-next _ _ _ _ _ _ _ (i .loop-test .taken) (w .before .u32-at2 .ensures) (w .u16-at2 .ensures) (v .if2 .left) (sym (c .before .after .ensures) ∙ not-false _ (c .if3 .left))
+      list-next _ _ _ _ _ _ _ (i .loop-test .taken) (w .before .u32-at2 .ensures) (w .u16-at2 .ensures) (v .if2 .left) (sym (c .before .after .ensures)
+          ∙ not-false _ (c .if3 .left))
           ∙ i .before .loop .inv .1,
     )
 

@@ -33,7 +33,8 @@ u8-at-requires c κs = whole (c .before .before .before)
 returns-2 : tie.Need-returns-2
 returns-2 c =
     let w = c .before .before .before .before in
-    answers-laid _ _ _ _ _ (sym (w .before .layout .ensures) ∙ w .if1 .left) (c .before .before .before .u16-at .ensures) (c .before .before .u16-at2 .ensures) (c .before .u16-at3 .ensures) (c .u8-at .ensures)
+    answers-laid _ _ _ _ _ (sym (w .before .layout .ensures)
+    ∙ w .if1 .left) (c .before .before .before .u16-at .ensures) (c .before .before .u16-at2 .ensures) (c .before .u16-at3 .ensures) (c .u8-at .ensures)
 
 pub read-spec : {M : Type 1} → statement M
 read-spec =

@@ -41,12 +41,14 @@ cast-yards c = search needs
 returns : tie.Need-returns
 returns c =
     let w = c .before in
-    sym (region-empty _ _ _ _ _ _ _ _ (w .before .before .before .u16-at .ensures) (w .before .before .u16-at2 .ensures) (w .before .u8-at .ensures) (w .u16-at3 .ensures) (c .if1 .taken))
+    sym (region-empty _ _ _ _ _ _ _ _ (w .before .before .before .u16-at .ensures) (w .before .before .u16-at2 .ensures) (w .before .u8-at .ensures) (w
+    .u16-at3 .ensures) (c .if1 .taken))
 
 returns-2 : tie.Need-returns-2
 returns-2 c =
     let w = c .before .before in
-    sym (region-past _ _ _ _ _ _ _ _ (w .before .before .before .u16-at .ensures) (w .before .before .u16-at2 .ensures) (w .before .u8-at .ensures) (w .u16-at3 .ensures) (c .before .if1 .left) (c .if2 .taken))
+    sym (region-past _ _ _ _ _ _ _ _ (w .before .before .before .u16-at .ensures) (w .before .before .u16-at2 .ensures) (w .before .u8-at .ensures) (w .u16-at3
+    .ensures) (c .before .if1 .left) (c .if2 .taken))
 
 children-ok-requires : tie.Need-children-ok-requires
 children-ok-requires c κs = search needs
@@ -54,13 +56,15 @@ children-ok-requires c κs = search needs
 returns-3 : tie.Need-returns-3
 returns-3 c =
     let w = c .before .before .before .before in
-    sym (region-children _ _ _ _ _ _ _ _ (w .before .before .before .u16-at .ensures) (w .before .before .u16-at2 .ensures) (w .before .u8-at .ensures) (w .u16-at3 .ensures) (c .before .before .before .if1 .left) (c .before .before .if2 .left)
+    sym (region-children _ _ _ _ _ _ _ _ (w .before .before .before .u16-at .ensures) (w .before .before .u16-at2 .ensures) (w .before .u8-at .ensures) (w
+    .u16-at3 .ensures) (c .before .before .before .if1 .left) (c .before .before .if2 .left)
     (sym (c .before .children-ok .ensures) ∙ not-true _ (c .if3 .taken)))
 
 returns-4 : tie.Need-returns-4
 returns-4 c =
     let w = c .before .before .before .before .before in
-    sym (region-none _ _ _ _ _ _ _ _ (w .before .before .before .u16-at .ensures) (w .before .before .u16-at2 .ensures) (w .before .u8-at .ensures) (w .u16-at3 .ensures) (c .before .before .before .before .if1 .left) (c .before .before .before .if2 .left)
+    sym (region-none _ _ _ _ _ _ _ _ (w .before .before .before .u16-at .ensures) (w .before .before .u16-at2 .ensures) (w .before .u8-at .ensures) (w .u16-at3
+    .ensures) (c .before .before .before .before .if1 .left) (c .before .before .before .if2 .left)
     (sym (c .before .before .children-ok .ensures) ∙ not-false _ (c .before .if3 .left)) (c .if4 .taken))
 
 add-lists-ok : tie.Need-add-lists-ok
@@ -77,7 +81,8 @@ returns-5 c =
     let v = c .before .before in
     let w = v .before .before .before .before .before in
     c .lists-ok .ensures
-    ∙ sym (region-leaf _ _ _ _ _ _ _ _ (w .before .before .before .u16-at .ensures) (w .before .before .u16-at2 .ensures) (w .before .u8-at .ensures) (w .u16-at3 .ensures) (v .before .before .before .before .if1 .left) (v .before .before .before .if2 .left)
+    ∙ sym (region-leaf _ _ _ _ _ _ _ _ (w .before .before .before .u16-at .ensures) (w .before .before .u16-at2 .ensures) (w .before .u8-at .ensures) (w
+    .u16-at3 .ensures) (v .before .before .before .before .if1 .left) (v .before .before .before .if2 .left)
     (sym (v .before .before .children-ok .ensures) ∙ not-false _ (v .before .if3 .left)) (v .if4 .left) (c .before .if5 .taken))
 
 add-spans-ok : tie.Need-add-spans-ok
@@ -94,7 +99,8 @@ returns-6 c =
     let v = c .before .before in
     let w = v .before .before .before .before .before in
     c .spans-ok .ensures
-    ∙ sym (region-inner _ _ _ _ _ _ _ _ (w .before .before .before .u16-at .ensures) (w .before .before .u16-at2 .ensures) (w .before .u8-at .ensures) (w .u16-at3 .ensures) (v .before .before .before .before .if1 .left) (v .before .before .before .if2 .left)
+    ∙ sym (region-inner _ _ _ _ _ _ _ _ (w .before .before .before .u16-at .ensures) (w .before .before .u16-at2 .ensures) (w .before .u8-at .ensures) (w
+    .u16-at3 .ensures) (v .before .before .before .before .if1 .left) (v .before .before .before .if2 .left)
     (sym (v .before .before .children-ok .ensures) ∙ not-false _ (v .before .if3 .left)) (v .if4 .left) (c .before .if5 .left))
 
 pub region-ok-spec : {M : Type 1} → statement M

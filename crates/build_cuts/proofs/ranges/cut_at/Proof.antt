@@ -1,7 +1,7 @@
 use mathlib.Core.Path.{sym}
 use native.Mathlib.Omega.{arith}
 use native.Mathlib.Nat.{mul-le-mul-right}
-use Rattle.cut_tree.proofs.Parts.{cut-is}
+use Rattle.build_rules.proofs.Parts.{cut-is}
 use Rattle.build_cuts.proofs.ranges.cut_at.Statement.{statement}
 use Rattle.build_cuts.proofs.ranges.cut_at.Tie as tie
 

@@ -37,8 +37,13 @@ mul-list c = omega (arith, known (c .before .before) .few, c .before .before .lo
 
 slice-write-list : tie.Need-slice-write-list Inv-loop μ-loop
 slice-write-list c =
-    omega (arith, known (c .before .before) .few, known (c .before .before) .room, c .before .before .loop-test .taken,
-    c .before .before .before .before .before .before .pre .1)
+    omega (
+      arith,
+      known (c .before .before) .few,
+      known (c .before .before) .room,
+      c .before .before .loop-test .taken,
+      c .before .before .before .before .before .before .pre .1,
+    )
 
 add-n : tie.Need-add-n Inv-loop μ-loop
 add-n c = omega (arith, known (c .before .before) .few, c .before .before .loop-test .taken, c .before .before .before .before .before .before .pre .1)
@@ -56,16 +61,18 @@ loop-again c = λ road b.
     let h = c .before .before .loop-test .taken in
     let e = c .before .is-border .ensures road b in
     ⊎-elim (λ w. bordering-yes _ _ _ _ _ _ f i h _ _ (sym e ∙ w .0 .taken) (w .1) (w .2)) (λ w. bordering-no _ _ _ _ _ _ f i h _ _ (sym e ∙ w .0 .left) (w .1)
-        (w .2)) (c .if1 .came)
+    (w .2)) (c .if1 .came)
 
 same-length : tie.Need-same-length Inv-loop μ-loop
 same-length c = let p = c .before .before .before .before .pre in c .before .loop .inv (p .0 .book) (p .0 .adjacent) .room ∙ sym (p .2)
 
 returns : tie.Need-returns Inv-loop μ-loop
 returns c = let p = c .before .before .before .before .pre in
-    let l = c .before .loop in
-    (bordering-end _ _ _ _ _ _ (p .1) (l .inv (p .0 .book) (p .0 .adjacent)) (c .loop-test .left) .0, λ road b. bordering-end _ _ _ _ _ _ (p .1)
-        (l .inv road b) (c .loop-test .left) .1)
+    let l = c .before .loop in (
+      bordering-end _ _ _ _ _ _ (p .1) (l .inv (p .0 .book) (p .0 .adjacent)) (c .loop-test .left) .0,
+      λ road b. bordering-end _ _ _ _ _ _ (p .1)
+          (l .inv road b) (c .loop-test .left) .1,
+    )
 
 pub border-list-spec : {M : Type 1} → statement M
 border-list-spec =

@@ -6,7 +6,7 @@ use native.Mathlib.Omega.{arith}
 use Rattle.road_layout.specs.Road.{roads}
 use Rattle.adjacency.specs.Adjacency.{Adjacency}
 use Rattle.adjacency.proofs.Chains.{ChainAt, ChainStep, chain-step, chain-done}
-use Rattle.cut_tree.specs.Cut.{outside, isBorder}
+use Rattle.build_rules.specs.Cut.{outside, isBorder}
 use Rattle.build_records.proofs.Scanning.{border-begin, border-low, border-high, border-on}
 use Rattle.build_records.proofs.borders.is_border.Statement.{statement}
 use Rattle.build_records.proofs.borders.is_border.Tie as tie
@@ -20,9 +20,9 @@ abbrev μ-loop : tie.MeasureT-loop
 -- what is known of the arc that the loop has come to, for any book
 facts : (c : tie.In-loop Inv-loop μ-loop) (road : List ℕ) → Adjacency road (c .before .before .before .before .args .adj .now)
     → ChainStep (outside (c .before .before .before .before .args .a) (c .before .before .before .before .args .s))
-        (c .before .before .before .before .args .v) (c .before .before .before .before .args .adj .now) (isBorder (roads road)
-        (c .before .before .before .before .args .a) (c .before .before .before .before .args .s) (c .before .before .before .before .args .v))
-        (c .before .loop .x)
+    (c .before .before .before .before .args .v) (c .before .before .before .before .args .adj .now) (isBorder (roads road)
+    (c .before .before .before .before .args .a) (c .before .before .before .before .args .s) (c .before .before .before .before .args .v))
+    (c .before .loop .x)
 facts c road a = chain-step _ _ _ _ _ (c .before .loop .inv road a) (c .loop-test .taken)
 
 -- and of the one that there is
@@ -55,9 +55,12 @@ returns-2 c =
     λ road a. sym (facts (c .before .before .before) road a .stop (border-high _ _ _ _ (c .before .before .to .ensures) (omega (arith, c .if2 .taken))))
 
 next-requires : tie.Need-next-requires Inv-loop μ-loop
-next-requires c κs =
-    (c .before .before .before .before .before .before .before .pre .0 .adjacent .size, known (c .before .before .before) .some, known
-    (c .before .before .before) .inside)
+next-requires c κs = (
+  c .before .before .before .before .before .before .before .pre .0 .adjacent .size,
+  known (c .before .before .before) .some,
+  known
+      (c .before .before .before) .inside,
+)
 
 loop-less : tie.Need-loop-less Inv-loop μ-loop
 loop-less c = omega (arith, known (c .before .before .before .before) .falls, c .next .ensures)

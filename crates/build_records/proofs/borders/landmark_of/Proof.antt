@@ -2,7 +2,7 @@ use borrow.Author.Needs.{needs}
 use mathlib.Core.Path.{refl}
 use native.Mathlib.Omega.{arith}
 use lib.ListN.{length}
-use Rattle.cut_tree.proofs.Landmarks.{share}
+use Rattle.build_rules.proofs.Landmarks.{share}
 use Rattle.build_records.proofs.Scanning.{landmark-from, landmark-at, product-small}
 use Rattle.build_records.proofs.borders.landmark_of.Statement.{statement}
 use Rattle.build_records.proofs.borders.landmark_of.Tie as tie
@@ -34,8 +34,11 @@ mul-result-2 c =
 
 shared-slice-read-result : tie.Need-shared-slice-read-result
 shared-slice-read-result c =
-    let p = c .before .before .pre in let a = c .before .before .args in omega (arith, share (a .j) (a .m) (length (a .list .now)) (p .1)
-    (omega (arith, c .before .if1 .left)))
+    let p = c .before .before .pre in let a = c .before .before .args in omega (
+      arith,
+      share (a .j) (a .m) (length (a .list .now)) (p .1)
+          (omega (arith, c .before .if1 .left)),
+    )
 
 returns-2 : tie.Need-returns-2
 returns-2 c = landmark-at _ _ _ _ _ _ (c .before .if1 .left) refl

@@ -28,9 +28,11 @@ sub-put-list c = omega (arith, c .before .before .before .before .before .before
 
 put-list-requires : tie.Need-put-list-requires
 put-list-requires c κs = let s = c .before .before .before .before .before .before .before .before .before .before .before .before in
-    let r = c .before .before .before .before .before .before .before .rank in
-    (omega (arith, yards-few _ _ _ (s .pre .0), r .kept), omega (arith, s .pre .2, c .before .before .before .before .put-leaf-mark-junction .kept),
-        r .ensures .small)
+    let r = c .before .before .before .before .before .before .before .rank in (
+      omega (arith, yards-few _ _ _ (s .pre .0), r .kept),
+      omega (arith, s .pre .2, c .before .before .before .before .put-leaf-mark-junction .kept),
+      r .ensures .small,
+    )
 
 same-length : tie.Need-same-length
 same-length c = search needs
@@ -38,8 +40,8 @@ same-length c = search needs
 returns : tie.Need-returns
 returns c = let s = c .before .before .before .before .before .before .before .before .before .before .before .before .before .before .before in
     λ road e. leaf-written _ _ _ _ _ _ e (s .pre .1) (s .pre .0) _ _ _ _ _
-        (c .before .before .before .before .before .before .before .before .before .before .rank .ensures)
-        (c .before .before .before .before .before .before .before .put-leaf-mark-junction .ensures) (c .before .before .put-list .ensures)
+    (c .before .before .before .before .before .before .before .before .before .before .rank .ensures)
+    (c .before .before .before .before .before .before .before .put-leaf-mark-junction .ensures) (c .before .before .put-list .ensures)
 
 pub put-leaf-mark-spec : {M : Type 1} → statement M
 put-leaf-mark-spec =

@@ -17,9 +17,16 @@ slice-aggregate-put-leaf-mark : tie.Need-slice-aggregate-put-leaf-mark
 slice-aggregate-put-leaf-mark c = search needs
 
 put-leaf-mark-requires : tie.Need-put-leaf-mark-requires
-put-leaf-mark-requires c κs = let s = c .before .before .before .before .before .before .before .before .before in
-    (s .pre .0 .yards, omega (arith, c .before .before .before .before .distances .kept), omega (arith, s .pre .3, mark-size-leaf (s .args .children)
-        (s .args .p .end - s .args .p .from) (c .before .before .if1 .taken)))
+put-leaf-mark-requires c κs = let s = c .before .before .before .before .before .before .before .before .before in (
+  s .pre .0 .yards,
+  omega (arith, c .before .before .before .before .distances .kept),
+  omega (
+    arith,
+    s .pre .3,
+    mark-size-leaf (s .args .children)
+        (s .args .p .end - s .args .p .from) (c .before .before .if1 .taken),
+  ),
+)
 
 same-length : tie.Need-same-length
 same-length c = search needs
@@ -34,9 +41,17 @@ slice-aggregate-put-inner-mark c = search needs
 
 put-inner-mark-requires : tie.Need-put-inner-mark-requires
 put-inner-mark-requires c κs = let s = c .before .before .before .before .before .before .before .before .before in
-    let some : 0 < s .args .children = omega (arith, c .before .before .if1 .left) in
-    (s .pre .0 .yards, s .pre .1 some, omega (arith, c .before .before .before .before .distances .kept), omega (arith, s .pre .3, mark-size-inner
-        (s .args .children) (s .args .p .end - s .args .p .from) some))
+    let some : 0 < s .args .children = omega (arith, c .before .before .if1 .left) in (
+      s .pre .0 .yards,
+      s .pre .1 some,
+      omega (arith, c .before .before .before .before .distances .kept),
+      omega (
+        arith,
+        s .pre .3,
+        mark-size-inner
+            (s .args .children) (s .args .p .end - s .args .p .from) some,
+      ),
+    )
 
 same-length-2 : tie.Need-same-length-2
 same-length-2 c = search needs

@@ -24,8 +24,11 @@ mul-low c = search needs
 
 shared-slice-read-low : tie.Need-shared-slice-read-low Inv-loop μ-loop
 shared-slice-read-low c =
-    let s = c .before .before .before .before .before in omega (arith, yard-fits _ _ _ (s .pre .0) _ _ (s .pre .1) (c .before .before .yard-at .ensures),
-    s .pre .2)
+    let s = c .before .before .before .before .before in omega (
+      arith,
+      yard-fits _ _ _ (s .pre .0) _ _ (s .pre .1) (c .before .before .yard-at .ensures),
+      s .pre .2,
+    )
 
 add-k : tie.Need-add-k Inv-loop μ-loop
 add-k c = let s = c .before .before .before .before .before in omega (arith, s .pre .1, yards-few _ _ _ (s .pre .0))
@@ -46,8 +49,12 @@ mul-d c = search needs
 
 shared-slice-read-d : tie.Need-shared-slice-read-d Inv-loop μ-loop
 shared-slice-read-d c =
-    let s = c .before .before .before .before .before .before .before .before .before .before in omega (arith, yard-fits _ _ _ (s .pre .0) _ _
-    (c .before .before .before .loop-test .taken) (c .before .before .yard-at2 .ensures), s .pre .2)
+    let s = c .before .before .before .before .before .before .before .before .before .before in omega (
+      arith,
+      yard-fits _ _ _ (s .pre .0) _ _
+          (c .before .before .before .loop-test .taken) (c .before .before .yard-at2 .ensures),
+      s .pre .2,
+    )
 
 lesser-requires : tie.Need-lesser-requires Inv-loop μ-loop
 lesser-requires c κs = search needs
@@ -57,8 +64,12 @@ greater-requires c κs = search needs
 
 add-k-2 : tie.Need-add-k-2 Inv-loop μ-loop
 add-k-2 c =
-    omega (arith, c .before .before .before .before .before .loop-test .taken, yards-few _ _ _
-    (c .before .before .before .before .before .before .before .before .before .before .before .before .pre .0))
+    omega (
+      arith,
+      c .before .before .before .before .before .loop-test .taken,
+      yards-few _ _ _
+          (c .before .before .before .before .before .before .before .before .before .before .before .before .pre .0),
+    )
 
 loop-less : tie.Need-loop-less Inv-loop μ-loop
 loop-less c = omega (arith, c .before .before .before .before .before .loop-test .taken)
@@ -66,8 +77,8 @@ loop-less c = omega (arith, c .before .before .before .before .before .loop-test
 loop-again : tie.Need-loop-again Inv-loop μ-loop
 loop-again c = let h = c .before .before .before .before .before .loop-test .taken in
     measuring-turn _ _ _ _ _ _ _ _ _ _ _ (c .before .before .before .before .before .before .loop .inv) h (yard-read _ _ _
-        (c .before .before .before .before .before .before .before .before .before .before .before .before .pre .0) _ _ h
-        (c .before .before .before .before .yard-at2 .ensures)) refl (c .before .lesser .ensures) (c .greater .ensures)
+    (c .before .before .before .before .before .before .before .before .before .before .before .before .pre .0) _ _ h
+    (c .before .before .before .before .yard-at2 .ensures)) refl (c .before .lesser .ensures) (c .greater .ensures)
 
 returns : tie.Need-returns Inv-loop μ-loop
 returns c = measuring-end _ _ _ _ _ _ _ (c .before .loop .inv) (c .loop-test .left)

@@ -10,7 +10,7 @@ use Rattle.road.specs.Dijkstra.{dist}
 use Rattle.tree_layout.specs.Decode.{landmarkCount}
 use Rattle.tree_layout.specs.Marks.{marksAt}
 use Rattle.tree_layout.specs.Refusal.{all}
-use Rattle.tree_truth.specs.Truth.{trueList}
+use Rattle.check_rules.specs.Truth.{trueList}
 use Rattle.check_distances.specs.Row.{RowFrom}
 use Rattle.check_distances.proofs.Rows.{few}
 use Rattle.check_distances.proofs.Records.{marks-done}

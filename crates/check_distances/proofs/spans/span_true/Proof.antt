@@ -6,7 +6,7 @@ use lib.ListN.{length, drop}
 use Rattle.road.specs.Dijkstra.{far, at}
 use Rattle.yard.specs.Yards.{yardsOf}
 use Rattle.yard.proofs.YardLayout.{yards-length}
-use Rattle.tree_truth.specs.Truth.{leastFrom, greatestFrom, within}
+use Rattle.check_rules.specs.Truth.{leastFrom, greatestFrom, within}
 use Rattle.check_distances.proofs.Spanning.{least-turn, least-end, greatest-turn, greatest-end, least-other, greatest-decides}
 use Rattle.check_distances.proofs.spans.span_true.Statement.{statement}
 use Rattle.check_distances.proofs.spans.span_true.Tie as tie

@@ -2,7 +2,7 @@ use mathlib.Core.Path.{refl, _∙_}
 use native.Mathlib.Omega.{arith}
 use lib.ListN.{set, length-set}
 use Rattle.tree_layout.proofs.RecordFields.{fields-inside}
-use Rattle.search_leaves.proofs.Opening.{header-landmarks-are, header-rows}
+use Rattle.search_leaf.proofs.ElementsOpening.{header-landmarks-are, header-rows}
 use Rattle.search_leaf.proofs.Landmarks.{yards-of, driven-of, sheet-crews, pick-of, words-are, pick-room, slot, record-here, pick-inside}
 use Rattle.search_leaf.proofs.Landmarks.{list-room, place-near, list-near, driven-to, same-queue, open-leaf}
 use borrow.Author.Needs.{needs}

@@ -50,8 +50,11 @@ loop-again : tie.Need-loop-again Inv-loop μ-loop
 loop-again c =
     let f = c .before .before in
     let l = f .before .before in
-    let s = l .before .before .before .before in
-    (omega arith, ends-step _ _ (s .pre .0) (s .pre .1) _ _ (omega arith) (omega arith) _ _ (s .pre .2) (l .loop .inv .1) _ (f .fields .ensures) _ (c .after-siblings .ensures))
+    let s = l .before .before .before .before in (
+      omega arith,
+      ends-step _ _ (s .pre .0) (s .pre .1) _ _ (omega arith) (omega arith) _ _ (s .pre .2) (l .loop .inv .1) _ (f .fields .ensures) _ (c
+          .after-siblings .ensures),
+    )
 
 same-length : tie.Need-same-length Inv-loop μ-loop
 same-length c = search needs

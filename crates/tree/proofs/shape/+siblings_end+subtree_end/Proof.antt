@@ -2,7 +2,8 @@
 -- that are left; along siblings, at one level, it is how many of them are left, of which there are fewer than a thousand. Assumes nothing.
 use mathlib.Core.Path.{sym, _∙_}
 use borrow.Author.Tests.{not-true, not-false}
-use Rattle.tree.proofs.Recursing.{none-left, past-end, at-inner, at-leaf, at-bad, at-good, sum-over, sum-done, none-there, sub-none, not-fitting, fitting, goes-on}
+use Rattle.tree.proofs.Recursing.{none-left, past-end, at-inner, at-leaf, at-bad, at-good, sum-over, sum-done, none-there, sub-none, not-fitting}
+use Rattle.tree.proofs.Recursing.{fitting, goes-on}
 use borrow.Author.Needs.{needs}
 use Prim.Native.Nat.{ℕ, _+_, _*_, _-_, _<_}
 use borrow.Fn.Kinds.{In}
@@ -120,7 +121,8 @@ siblings-end-sub-siblings-end-2 t c =
     let f = d .before .before .before in
     let e = f .before .before .before in
     let s = e .before .before .before in
-    fitting _ _ (s .pre .1) 0 _ _ _ _ _ (e .if1 .left) _ (f .fields .ensures) (sym (d .before .before .child-fits .ensures) ∙ not-false _ (d .before .if4 .left))
+    fitting _ _ (s .pre .1) 0 _ _ _ _ _ (e .if1 .left) _ (f .fields .ensures) (sym (d .before .before .child-fits .ensures)
+    ∙ not-false _ (d .before .if4 .left))
 
 siblings-end-siblings-end-requires : (t : ℕ) → siblings-end-lts.Need-siblings-end-requires (siblings-end-calls t) (siblings-end-at t) siblings-end.Post
 siblings-end-siblings-end-requires t c κs = search needs
@@ -132,7 +134,8 @@ siblings-end-returns-6 t c =
     let f = d .before .before .before in
     let e = f .before .before .before in
     let s = e .before .before .before in
-    c .siblings-end .ensures ∙ goes-on _ _ (s .pre .1) _ _ _ _ _ _ (e .if1 .left) _ (f .fields .ensures) (sym (d .before .before .child-fits .ensures) ∙ not-false _ (d .before .if4 .left)) _ (d .subtree-end .ensures) (x .if5 .left)
+    c .siblings-end .ensures ∙ goes-on _ _ (s .pre .1) _ _ _ _ _ _ (e .if1 .left) _ (f .fields .ensures) (sym (d .before .before .child-fits .ensures)
+    ∙ not-false _ (d .before .if4 .left)) _ (d .subtree-end .ensures) (x .if5 .left)
 
 subtree-end-returns : (t : ℕ) → subtree-end-lts.Need-returns (subtree-end-calls t) (subtree-end-at t) subtree-end.Post
 subtree-end-returns t c =
@@ -179,7 +182,8 @@ subtree-end-returns-4 t c =
     let f = g .before .before .before in
     let e = f .before .before .before in
     let s = e .before .before .before in
-    at-bad _ _ (s .pre .1) _ _ (e .if1 .left) (f .before .if2 .left) _ (f .fields .ensures) (g .if3 .left) (sym (c .before .leaf-ok .ensures) ∙ not-true _ (c .if4 .taken))
+    at-bad _ _ (s .pre .1) _ _ (e .if1 .left) (f .before .if2 .left) _ (f .fields .ensures) (g .if3 .left) (sym (c .before .leaf-ok .ensures)
+    ∙ not-true _ (c .if4 .taken))
 
 subtree-end-returns-5 : (t : ℕ) → subtree-end-lts.Need-returns-5 (subtree-end-calls t) (subtree-end-at t) subtree-end.Post
 subtree-end-returns-5 t c =
@@ -187,7 +191,8 @@ subtree-end-returns-5 t c =
     let f = g .before .before .before in
     let e = f .before .before .before in
     let s = e .before .before .before in
-    at-good _ _ (s .pre .1) _ _ (e .if1 .left) (f .before .if2 .left) _ (f .fields .ensures) (g .if3 .left) (sym (c .before .leaf-ok .ensures) ∙ not-false _ (c .if4 .left))
+    at-good _ _ (s .pre .1) _ _ (e .if1 .left) (f .before .if2 .left) _ (f .fields .ensures) (g .if3 .left) (sym (c .before .leaf-ok .ensures)
+    ∙ not-false _ (c .if4 .left))
 
 pub +siblings-end+subtree-end-spec : {M : Type 1} → statement M
 +siblings-end+subtree-end-spec = close μ-siblings-end μ-subtree-end (λ t. siblings-end-lts.spec (siblings-end-calls t)

@@ -8,7 +8,8 @@ use Rattle.tree_layout.proofs.landmarks.landmark.Statement.{statement}
 use Rattle.tree_layout.proofs.landmarks.landmark.Tie as tie
 
 -- the list of a leaf's landmark lies in the book
-list-there : (c : tie.After-u16-at) → c .before .before .before .mark-place .result + (2 + 6 * c .u16-at .result) ≤ length (c .before .before .before .before .before .args .tree .now)
+list-there : (c : tie.After-u16-at) → c .before .before .before .mark-place .result + (2 + 6 * c .u16-at .result) ≤ length (c .before .before .before .before
+    .before .args .tree .now)
 list-there c =
     let p = c .before .before .before in
     let s = p .before .before in

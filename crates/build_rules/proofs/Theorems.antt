@@ -1,0 +1,169 @@
+-- What is proved of the tree that building gives. Assumes nothing.
+use mathlib.Core.Path.{_≡_, refl, sym, ap, _∙_}
+use mathlib.Core.Bool.{true}
+use mathlib.Core.List.{List, [], _∷_, _++_, append-nil, List·Memᴰ as Mem}
+use Prim.Native.Nat.{ℕ, zero, suc, _+_, _-_, _≤_, _<_}
+use native.Mathlib.Omega.{arith}
+use lib.ListN.{length, getD}
+use lib.Dec.{T, leb, eqb}
+use Rattle.book.specs.Choose.{choose}
+use Rattle.book.proofs.Lists.{mem-getD}
+use Rattle.tree_layout.specs.Values.{Region, Tree, regionAt}
+use Rattle.tree_layout.specs.Decode.{decode}
+use Rattle.tree_layout.specs.Facts.{RegionValues}
+use Rattle.tree_layout.specs.Formed.{FormedTree}
+use Rattle.tree.specs.Shape.{siblings, subtree, levels, shaped, treeRefusal}
+use Rattle.tree.specs.Yards.{oneLeaf, oneInner, yardsBelow, treeYards}
+use Rattle.tree.specs.Facts.{Preorder, TreeShape}
+use Rattle.tree.proofs.Forest.{Rooted, siblings-next}
+use Rattle.tree.proofs.ForestLaws.{Sane, leaf-count, inner-count}
+use Rattle.tree.proofs.Shaping.{found-preorder, root-forest, root-yards, shape-facts}
+use Rattle.tree.proofs.Descent.{siblings-ended, shaped-by}
+use Rattle.tree.proofs.Ranges.{tree-span}
+use Rattle.tree.proofs.Sums.{sum-all, all-counted}
+use Rattle.tree.proofs.Theorems.{sane-of}
+use Rattle.tree_encode.specs.Encode.{encode}
+use Rattle.tree_encode.specs.Facts.{SoundTree, Small}
+use Rattle.tree_encode.proofs.Theorems.{written}
+use Rattle.check_rules.specs.Truth.{trueTree, trueBeside}
+use Rattle.check_rules.specs.Facts.{TrueNumbers, Same}
+use Rattle.check_rules.proofs.Theorems.{RegionTrue, tested}
+use Rattle.build_rules.specs.Cut.{Given, leafRegion, innerRegion, partCount, partRegions, cut, cutTree}
+use Rattle.build_rules.specs.Facts.{fours, InLimits, RangeYards, Rule, Built}
+use Rattle.build_rules.proofs.Parts.{rising-places}
+use Rattle.build_rules.proofs.Cutting.{Held, CutForest, forest-length, cut-forest, cut-rule}
+use Rattle.build_rules.proofs.Regions.{forest-regions, forest-small, forest-limit}
+use Rattle.build_rules.proofs.Shape.{forest-siblings, forest-yards, forest-true}
+
+module _ (g : Given) (junctions : ℕ) (ys : List ℕ) (lim : InLimits g junctions ys) where
+  abbrev t : Tree
+  t = cutTree g junctions ys
+
+  abbrev rs : List Region
+  rs = cut g 5 0 junctions ys
+
+  regions-are : t .regions ≡ rs
+  unfolding cutTree
+  regions-are = refl
+
+  held : Held 0 junctions ys
+  held = record {
+    some = lim .yards-in .0;
+    in-range = λ y k. let x = mem-getD ys 0 y k in (omega arith, omega (arith, x .2, lim .below (x .0) (x .1)));
+    rising = rising-places ys (lim .rising);
+  }
+
+  forest : CutForest g junctions 6 1 0 junctions ys rs
+  unfolding fours
+  forest =
+      let e : 0 + junctions ≡ junctions = omega arith in
+      rw e at (cut-forest g junctions (lim .limit-in .0) 5 0 junctions ys held (omega arith) (omega (arith, lim .junctions-in .1)))
+
+  whole : rs ≡ [] ++ (rs ++ [])
+  whole = sym (append-nil rs)
+
+  there : 1 ≤ length rs
+  there = forest-length g junctions forest
+
+  formed : FormedTree t
+  unfolding cutTree
+  formed r k = forest-regions g junctions (lim .bounded) forest r k .0
+
+  values : (r : Region) → Mem r (t .regions) → RegionValues (t .junctions) r
+  unfolding cutTree
+  values r k = forest-regions g junctions (lim .bounded) forest r k .1
+
+  sane : Sane rs
+  unfolding cutTree
+  sane = sane-of t formed (lim .landmarks-in .0) values
+
+  -- a descent with six levels takes all regions, and the root has all yards
+  descent : (subtree rs 6 0 ≡ length rs) × (regionAt rs 0 .yards ≡ length ys)
+  descent =
+      let one = forest-siblings g junctions (lim .landmarks-in .0) forest rs [] [] whole 6 (omega arith) 0 junctions (omega arith) (omega arith) in
+      let some : 0 < 0 + length rs = omega (arith, there) in
+      let x = siblings-next rs (subtree rs 6) 0 0 0 junctions (length ys) (rw one some) in
+      let z = siblings-ended rs (subtree rs 6) (subtree rs 6 0) (regionAt rs 0 .after) junctions (length ys - regionAt rs 0 .yards) (0 + length rs) (sym (x
+      .rest) ∙ one) some in
+      (omega (arith, z .1), omega (arith, z .0, x .left-ok))
+
+  shape-ok : T (shaped t)
+  unfolding cutTree
+  shape-ok = shaped-by t 6 (omega arith) there (descent .0) (descent .1)
+
+  regions-few : length rs ≤ 511
+  unfolding cutTree
+  regions-few =
+      let root = root-forest t sane there shape-ok in
+      omega (
+        arith,
+        all-counted rs (length rs) 0,
+        sum-all rs oneLeaf,
+        sum-all rs oneInner,
+        leaf-count rs sane root,
+        inner-count rs sane root,
+        descent .1,
+        lim
+            .yards-in .1,
+      )
+
+  sound : SoundTree t
+  unfolding cutTree
+  sound = record {
+    limits = record { junctions = lim .junctions-in; regions = (there, regions-few); yards = lim .yards-in; landmarks = lim .landmarks-in };
+    formed = formed;
+    values = values;
+    shape = shape-facts t sane there shape-ok;
+  }
+
+  small : Small t
+  unfolding cutTree
+  small = record {
+    junctions = omega (arith, lim .junctions-in .1);
+    count = omega (arith, regions-few);
+    yards = omega (arith, lim .yards-in .1);
+    landmarks = omega (arith, lim .landmarks-in .1);
+    regions = λ r k. forest-small g junctions (lim .bounded) forest (lim .junctions-in .1) (lim .yards-in .1) r k;
+  }
+
+  yards-same : Same (treeYards t) ys
+  unfolding cutTree
+  yards-same = rw (tree-span t) (rw (let e : 0 + length rs ≡ length rs = omega arith in
+      e) at (forest-yards g junctions (lim .landmarks-in .0) forest rs [] [] whole sane))
+
+  region-true : (r : ℕ) → r < length rs → RegionTrue (g .d) (yardsBelow rs r) (regionAt rs r)
+  region-true r h = forest-true g junctions (lim .landmarks-in .0) forest rs [] [] whole sane (omega arith) r (omega arith) (omega arith)
+
+  numbers-true : TrueNumbers (g .d) t
+  unfolding cutTree
+  numbers-true = record { lists = λ r h. region-true r h .list; leasts = λ r h. region-true r h .low; greatests = λ r h. region-true r h .high }
+
+  back : decode (encode t) ≡ t
+  back = written t .back formed
+
+  accepted : treeRefusal (encode t) ≡ 0
+  accepted = written t .accepted sound
+
+  pub built : Built g junctions ys
+  built = record {
+    accepted = accepted;
+    back = back;
+    bytes = written t .bytes sound small;
+    short = written t .short sound;
+    yards = yards-same;
+    numbers = numbers-true;
+    true-tree = rw back at (tested (encode t) accepted .exact (g .d) .1 (rw back numbers-true));
+    true-beside = rw back at (tested (encode t) accepted .beside (g .d) ys (rw back yards-same) .1 (rw back numbers-true));
+    few = rw regions-are regions-few;
+    six = rw regions-are (rw (descent .0) at (found-preorder rs 5 0 (omega (arith, descent .0, there))));
+    leaf-limit = rw regions-are (forest-limit g forest);
+  }
+
+pub building-rule : (g : Given) → 1 ≤ g .limit → Rule g
+building-rule g one = record {
+  rule = λ k a s ys v. cut-rule g 0 one k a s ys (record {
+    some = v .some;
+    in-range = v .in-range;
+    rising = rising-places ys (v .rising);
+  }) (v .few);
+}

@@ -1,0 +1,47 @@
+-- What a check that answers 0 has found of its books. Assumes nothing.
+use mathlib.Core.Path.{_≡_}
+use mathlib.Core.List.{List}
+use Prim.Native.Nat.{ℕ}
+use native.Mathlib.Omega.{arith}
+use lib.Dec.{eqb→eq}
+use Rattle.book.proofs.Choosing.{passed, first-none, T-true}
+use Rattle.work_area.proofs.Zeroing.{enough-work}
+use Rattle.road_layout.specs.Road.{junctions}
+use Rattle.road.specs.Dijkstra.{dist}
+use Rattle.yard.specs.Yards.{yardsOf}
+use Rattle.tree_layout.specs.Decode.{junctionCount, decode}
+use Rattle.tree.specs.Yards.{treeYards}
+use Rattle.check_rules.specs.Facts.{TrueNumbers, Same}
+use Rattle.check_rules.proofs.Theorems.{tested}
+use Rattle.check_tree.specs.Check.{treeRefusalBeside, checkAnswer}
+use Rattle.check_tree.specs.Facts.{Laid}
+use Rattle.check_tree.proofs.Sets.{set-same}
+
+module _ (road yard tree : List ℕ) (words : ℕ) (e : checkAnswer road yard tree words ≡ 0) where
+  -- the books are sound, the tree is of sound layout and shape and of the road book's junction count, and the work area is full
+  pub passed-laid : Laid road yard tree words
+  unfolding checkAnswer treeRefusalBeside
+  passed-laid =
+      let a = first-none _ _ e in
+      let b = first-none _ _ (a .1) in
+      let c = first-none _ _ (b .1) in
+      let d = first-none _ _ (c .0) in
+      let f = passed _ _ _ (d .1) (omega arith) in
+      record { roads = a .0; yards = b .0; shape = d .0; counts = eqb→eq (junctionCount tree) (junctions road) (f .0); full = enough-work words (c .1) }
+
+  -- the tree's yards are the yard book's
+  pub passed-yards : Same (treeYards (decode tree)) (yardsOf yard)
+  unfolding checkAnswer treeRefusalBeside
+  passed-yards =
+      let d = first-none _ _ (first-none _ _ (first-none _ _ (first-none _ _ e .1) .1) .0) in
+      let f = passed _ _ _ (d .1) (omega arith) in
+      set-same (treeYards (decode tree)) (yardsOf yard) (passed _ _ _ (f .1) (omega arith) .0)
+
+  -- the tree's numbers are true
+  pub passed-true : TrueNumbers (dist road) (decode tree)
+  unfolding checkAnswer treeRefusalBeside
+  passed-true =
+      let d = first-none _ _ (first-none _ _ (first-none _ _ (first-none _ _ e .1) .1) .0) in
+      let f = passed _ _ _ (d .1) (omega arith) in
+      let g = passed _ _ _ (f .1) (omega arith) in
+      tested tree (d .0) .exact (dist road) .0 (T-true _ (passed _ _ _ (g .1) (omega arith) .0))

@@ -1,0 +1,68 @@
+use mathlib.Core.Path.{_∙_}
+use Prim.Native.Nat.{_-_}
+use native.Mathlib.Omega.{arith}
+use lib.ListN.{length}
+use Rattle.search_rules.specs.Bounds.{apart}
+use Rattle.search_bounds.proofs.Folds.{Summed, summed-none, summed-room, summed-turn, summed-all}
+use Rattle.search_bounds.proofs.Aggregating.{f-all}
+use borrow.Author.Needs.{needs}
+use Rattle.search_bounds.proofs.yards.f_of.Statement.{statement}
+use Rattle.search_bounds.proofs.yards.f_of.Tie as tie
+
+abbrev Inv-loop : tie.InvT-loop
+Inv-loop out code distance total₀ j₀ total j = Summed code (λ x. apart x distance) out j total
+
+abbrev μ-loop : tie.MeasureT-loop
+μ-loop out code distance total₀ j₀ total j = length out - j
+
+loop-holds : tie.Need-loop-holds Inv-loop μ-loop
+loop-holds c = summed-none _ _ _
+
+mul-apart : tie.Need-mul-apart Inv-loop μ-loop
+mul-apart c = search needs
+
+shared-slice-read-apart : tie.Need-shared-slice-read-apart Inv-loop μ-loop
+shared-slice-read-apart c = search needs
+
+apart-requires : tie.Need-apart-requires Inv-loop μ-loop
+apart-requires c κs = search needs
+
+wide-requires : tie.Need-wide-requires Inv-loop μ-loop
+wide-requires c κs = search needs
+
+combine-requires : tie.Need-combine-requires Inv-loop μ-loop
+combine-requires c κs = omega (
+  arith,
+  summed-room _ _ _ _ _ (c .before .before .before .before .loop .inv) (c .before .before .before .before .before .before
+      .pre) _ (c .wide .ensures .1),
+)
+
+add-j : tie.Need-add-j Inv-loop μ-loop
+add-j c = search needs
+
+loop-less : tie.Need-loop-less Inv-loop μ-loop
+loop-less c = search needs
+
+loop-again : tie.Need-loop-again Inv-loop μ-loop
+loop-again c = summed-turn _ _ _ _ _ (c .before .before .before .before .before .loop .inv) (c .before .before .before .before .loop-test .taken) _ _ (c
+    .before .wide .ensures .1) (c .before .wide .ensures .0 ∙ c .before .before .apart .ensures) (c .combine .ensures)
+
+returns : tie.Need-returns Inv-loop μ-loop
+returns c = f-all _ _ _ _ (summed-all _ _ _ _ _ (c .before .loop .inv) (c .loop-test .left))
+
+pub f-of-spec : {M : Type 1} → statement M
+f-of-spec =
+    tie.close
+    (tie.spec
+    Inv-loop
+    μ-loop
+    loop-holds
+    mul-apart
+    shared-slice-read-apart
+    apart-requires
+    wide-requires
+    combine-requires
+    add-j
+    loop-less
+    loop-again
+    returns)

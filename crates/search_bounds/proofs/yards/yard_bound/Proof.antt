@@ -1,0 +1,60 @@
+use Prim.Native.Nat.{_-_}
+use native.Mathlib.Omega.{arith}
+use lib.ListN.{length}
+use Rattle.search_bounds.proofs.Aggregating.{Bounding, bounding-none, bounding-more, bounding-all}
+use borrow.Author.Needs.{needs}
+use Rattle.search_bounds.proofs.yards.yard_bound.Statement.{statement}
+use Rattle.search_bounds.proofs.yards.yard_bound.Tie as tie
+
+abbrev Inv-loop : tie.InvT-loop
+Inv-loop sheet rows crews out code yard distance total₀ j₀ total j = Bounding code sheet rows crews out yard distance j total
+
+abbrev μ-loop : tie.MeasureT-loop
+μ-loop sheet rows crews out code yard distance total₀ j₀ total j = length crews - j
+
+loop-holds : tie.Need-loop-holds Inv-loop μ-loop
+loop-holds c = bounding-none _ _ _ _ _ _ _
+
+crew-apart-requires : tie.Need-crew-apart-requires Inv-loop μ-loop
+crew-apart-requires c κs = search needs
+
+wide-requires : tie.Need-wide-requires Inv-loop μ-loop
+wide-requires c κs = search needs
+
+combine-requires : tie.Need-combine-requires Inv-loop μ-loop
+combine-requires c κs = omega (
+  arith,
+  c .wide .ensures .1,
+  c .before .before .before .loop .inv .low,
+  c .before .before .before .before .before .before .before
+      .pre .1 .few,
+  c .before .before .loop-test .taken,
+)
+
+add-j : tie.Need-add-j Inv-loop μ-loop
+add-j c = search needs
+
+loop-less : tie.Need-loop-less Inv-loop μ-loop
+loop-less c = search needs
+
+loop-again : tie.Need-loop-again Inv-loop μ-loop
+loop-again c = bounding-more _ _ _ _ _ _ _ _ _ (c .before .before .before .before .loop .inv) _ _ _ (c .before .before .before .loop-test .taken) (c .before
+    .before .crew-apart .ensures) (c .before .wide .ensures .0) (c .before .wide .ensures .1) (c .combine .ensures)
+
+returns : tie.Need-returns Inv-loop μ-loop
+returns c = bounding-all _ _ _ _ _ _ _ _ _ (c .before .loop .inv) (c .loop-test .left)
+
+pub yard-bound-spec : {M : Type 1} → statement M
+yard-bound-spec =
+    tie.close
+    (tie.spec
+    Inv-loop
+    μ-loop
+    loop-holds
+    crew-apart-requires
+    wide-requires
+    combine-requires
+    add-j
+    loop-less
+    loop-again
+    returns)

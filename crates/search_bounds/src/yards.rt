@@ -1,0 +1,101 @@
+// What is computed of a yard: its aggregate by true distances, f, and its bound.
+use crate::numbers;
+use crate::numbers::wide;
+use crate::rows;
+use book::Junction;
+ghost use mathlib.Core.Path.{_≡_};
+ghost use mathlib.Core.List.{List};
+ghost use Prim.Native.Nat.{ℕ, _≤_, _<_};
+ghost use lib.ListN.{length};
+ghost use Rattle.road_layout.specs.Road.{junctions};
+ghost use Rattle.search_bounds.specs.Rows.{Rows};
+ghost use Rattle.search_bounds.specs.Bounds.{Crews};
+ghost use Rattle.search_bounds.specs.Measures.{Driven, IsDriven, toCrews, totalOf, fBy, crewApart, yardBoundBy};
+
+// "f, the aggregate of |d(l, q) − d(l, p)|": of landmark l's distances to the crews and of an element's distance.
+pub fn f_of(out: &[u32], code: u8, distance: u32) -> u64
+    requires { ⌜ length (now out) ≤ 16 ⌝ }
+    ensures { λ r. ⌜ r ≡ fBy code (now (out .entry)) distance ⌝ }
+{
+    let mut total: u64 = 0;
+    let mut j: usize = 0;
+    while j < out.len() {
+        total = numbers::combine(code, total, wide(numbers::apart(out[j], distance)));
+        j += 1;
+    }
+    total
+}
+
+// A yard's aggregate by true distances, from the crews' rows.
+pub fn measure(drives: &[u32], crews: &[u16], code: u8, yard: Junction) -> u32
+    requires { ⌜ IsDriven (now crews) (now drives) (yard .number) ⌝ }
+    ensures { λ r. ⌜ ((road : List ℕ) → Driven road (now (crews .entry)) (now (drives .entry))
+        → yard .number < junctions road
+        → r ≡ totalOf road code (now (crews .entry)) (yard .number)) ⌝ }
+{
+    let mut total: u64 = 0;
+    let mut j: usize = 0;
+    while j < crews.len() {
+        total = numbers::combine(code, total, wide(road::rows::cell(drives, j, yard.number)));
+        j += 1;
+    }
+    total as u32
+}
+
+// Landmark l's distances to the crews, from the crews' rows: "A road runs both ways".
+pub fn to_crews(drives: &[u32], crews: &[u16], l: Junction, out: &mut [u32])
+    requires { ⌜ IsDriven (now crews) (now drives) (l .number) × (length (now out) ≡ length (now crews)) ⌝ }
+    ensures { λ _. ⌜ ((road : List ℕ) → Driven road (now (crews .entry)) (now (drives .entry))
+        → l .number < junctions road
+        → now (out .exit) ≡ toCrews road (l .number) (now (crews .entry))) ⌝ }
+{
+    let mut j: usize = 0;
+    while j < crews.len() {
+        out[j] = road::rows::cell(drives, j, l.number);
+        j += 1;
+    }
+}
+
+// Crew number j's greatest difference: of the sheet's rows for the yard and the crew, and of landmark l's distances.
+fn crew_apart(
+    sheet: &[u32],
+    rows: usize,
+    crews: &[u16],
+    out: &[u32],
+    yard: u16,
+    distance: u32,
+    j: usize,
+) -> u32
+    requires { ⌜ Rows (now sheet) rows × Crews (now crews) × (length (now out) ≡ length (now crews)) × (yard < 1024)
+        × (j < length (now crews)) ⌝ }
+    ensures { λ r. ⌜ r ≡ crewApart (now (sheet .entry)) rows (now (crews .entry)) (now (out .entry)) yard distance j ⌝ }
+{
+    let lb = rows::lower(sheet, rows, yard, crews[j]);
+    numbers::greater(lb, numbers::apart(out[j], distance))
+}
+
+// "A yard's bound takes per crew the greatest of these differences over the sheet's landmarks and l .., then
+// aggregates."
+pub fn yard_bound(
+    sheet: &[u32],
+    rows: usize,
+    crews: &[u16],
+    out: &[u32],
+    code: u8,
+    yard: u16,
+    distance: u32,
+) -> u64
+    requires { ⌜ Rows (now sheet) rows × Crews (now crews) × (length (now out) ≡ length (now crews)) × (yard < 1024) ⌝ }
+    ensures { λ r. ⌜ r ≡ yardBoundBy code (now (sheet .entry)) rows (now (crews .entry)) (now (out .entry)) yard
+        distance
+        (length (now (crews .entry))) ⌝ }
+{
+    let mut total: u64 = 0;
+    let mut j: usize = 0;
+    while j < crews.len() {
+        let x = crew_apart(sheet, rows, crews, out, yard, distance, j);
+        total = numbers::combine(code, total, wide(x));
+        j += 1;
+    }
+    total
+}

@@ -1,0 +1,140 @@
+-- An opened leaf has the search's numbers at its yards, and another stays open. Assumes nothing.
+use mathlib.Core.Path.{_≡_, refl, sym, ap, _∙_}
+use mathlib.Core.Logic.{_≢_}
+use mathlib.Core.Bool.{Bool}
+use mathlib.Core.List.{List, _++_, List·Memᴰ as Mem}
+use Prim.Native.Nat.{ℕ, _+_, _*_, _≤_}
+use native.Mathlib.Omega.{arith}
+use lib.ListN.{length, take, length-append, length-take, length-drop}
+use lib.Seq.{take-at}
+use Rattle.book.specs.Bytes.{u16At}
+use Rattle.tree_layout.specs.Values.{Element, Mark}
+use Rattle.tree_layout.specs.Decode.{readList, listPart, regionCount, junctionCount, landmarkCount}
+use Rattle.tree_layout.specs.Reading.{headerOf}
+use Rattle.tree_layout.specs.declared.Header.{Header}
+use Rattle.tree_layout.proofs.Reading.{header-regions, header-junctions}
+use Rattle.tree_layout.proofs.Decoding.{list-part-is}
+use Rattle.search_rules.specs.Instance.{Instance}
+use Rattle.search_rules.specs.Books.{searchOf}
+use Rattle.search_rules.specs.Bounds.{lower, f, yardBound}
+use Rattle.search_rules.specs.Queue.{wordAt, pick}
+use Rattle.search_rules.specs.Step.{nextPlace, nextF}
+use Rattle.search_bounds.specs.Rows.{Rows, rowsLower}
+use Rattle.search_bounds.specs.Bounds.{Crews}
+use Rattle.search_bounds.specs.Measures.{Driven, IsDriven, toCrews}
+use Rattle.search_bounds.proofs.YardsSearching.{f-by, bound-by}
+use Rattle.search_state.specs.State.{wordCount}
+use Rattle.search_leaf.specs.Leaves.{Near, byYard, byYards, fIn, boundIn, wordsOf, listAt, Opened}
+use Rattle.search_leaf.proofs.Filling.{by-yard-at, by-yard-kept}
+use Rattle.search_leaf.proofs.Scanning.{next-place, next-f}
+
+-- ---- the list in the book
+
+module _ (tree : List ℕ) (at yards : ℕ) (l : List ℕ) (e : l ≡ listPart tree yards (at + 2)) where
+  -- the part that is read is the list's
+  pub list-here : readList l yards 0 ≡ listAt tree at yards
+  unfolding listAt
+  list-here = rw e refl
+
+  pub list-near : (w v : ℕ) → w ≡ v → Near w (listAt tree at yards) → Near v (readList l yards 0)
+  list-near w v q near x m = rw (← q) (near x (rw list-here at m))
+
+  pub list-whole : at + (2 + 6 * yards) ≤ length tree → 6 * yards ≤ length l
+  list-whole h = rw (e, list-part-is tree yards (at + 2)) (simp (length-take, length-drop) (omega arith))
+
+-- ---- the header's counts
+
+module _ (b : List ℕ) (h : Header) (e : h ≡ headerOf b) where
+  pub header-regions-are : regionCount b ≡ h .regions
+  header-regions-are = rw e (sym (header-regions b))
+
+  pub header-junctions-are : junctionCount b ≡ h .junctions
+  header-junctions-are = rw e (sym (header-junctions b))
+
+  pub header-landmarks-are : landmarkCount b ≡ h .landmarks
+  unfolding headerOf
+  header-landmarks-are = rw e refl
+
+  -- there is a word for all of them
+  pub header-words : (ws : List ℕ) → length ws ≡ wordCount (regionCount b) (junctionCount b) → length ws ≡ wordCount (h .regions) (h .junctions)
+  header-words ws q = rw (← header-regions-are, ← header-junctions-are) q
+
+  pub header-rows : (sheet : List ℕ) → Rows sheet (landmarkCount b) → Rows sheet (h .landmarks)
+  header-rows sheet r = rw (← header-landmarks-are) r
+
+-- the junction that was read is one of the road book's
+pub driven-at : (crews drives : List ℕ) (v w : ℕ) → v ≡ w → IsDriven crews drives w → IsDriven crews drives v
+driven-at crews drives v w e d = rw e d
+
+-- the crews have places in the sheet
+pub crews-wide : (road crews drives : List ℕ) → Driven road crews drives → Crews crews
+crews-wide road crews drives d = record { few = d .few; there = λ q m. omega (arith, d .there q m, d .roads .layout .few-junctions) }
+
+-- with the distances to the crews in the first words of an array
+module _ (crews out rest : List ℕ) (e : length out ≡ length crews) where
+  pub front : take (length crews) (out ++ rest) ≡ out
+  front = take-at out rest (length crews) e
+
+  pub front-room : length crews ≤ length (out ++ rest)
+  front-room = simp length-append (omega arith)
+
+  pub front-length : length (take (length crews) (out ++ rest)) ≡ length crews
+  front-length = ap length front ∙ e
+
+-- words set by the list and the distances that were read
+module _ (tree : List ℕ) (at yards : ℕ) (l : List ℕ) (el : l ≡ listPart tree yards (at + 2)) (h : Header) (eh : h ≡ headerOf tree)
+    (code : ℕ) (sheet crews out rest : List ℕ) (count : length out ≡ length crews) (ws ws′ : List ℕ)
+    (filled : ws′ ≡ byYards (h .regions) (h .junctions) (fIn code (take (length crews) (out ++ rest)))
+    (boundIn code sheet (h .landmarks) crews (take (length crews) (out ++ rest))) (readList l yards 0) ws) where
+  pub opened-words : (road : List ℕ) (place : ℕ) → place ≡ u16At tree at → out ≡ toCrews road place crews
+      → ws′ ≡ byYards (regionCount tree) (junctionCount tree) (fIn code (toCrews road (u16At tree at) crews))
+      (boundIn code sheet (landmarkCount tree) crews (toCrews road (u16At tree at) crews)) (listAt tree at yards) ws
+  opened-words road place p o = rw (
+    ← p,
+    ← o,
+    ← list-here tree at yards l el,
+    header-regions-are tree h eh,
+    header-junctions-are tree h eh,
+    header-landmarks-are tree h eh,
+  ) (rw (front crews out rest count) at filled)
+
+-- ---- of a search of two books
+
+-- "a leaf's lists name .. each yard once"
+abbrev pub Once : List Element → Type 0
+Once es = (e h : Element) → Mem e es → Mem h es → e .yard ≡ h .yard → e ≡ h
+
+module _ (road tree : List ℕ) (code goal : ℕ) (crews : List ℕ) (sheet : List ℕ) (rows : ℕ) (m : Mark) (fs bounds fs′ bounds′ : List ℕ)
+    (f-set : fs′ ≡ byYard (fIn code (toCrews road (m .place) crews)) (m .list) fs)
+    (bound-set : bounds′ ≡ byYard (boundIn code sheet rows crews (toCrews road (m .place) crews)) (m .list) bounds)
+    (near-fs : Near (length fs) (m .list)) (near-bounds : Near (length bounds) (m .list)) where
+  abbrev i : Instance
+  i = searchOf road tree code goal crews
+
+  pub opened : Once (m .list) → ((e : Element) → Mem e (m .list) → (q : ℕ) → Mem q crews → rowsLower sheet rows (e .yard) q ≡ lower i (e .yard) q) →
+      Opened i m fs′ bounds′
+  opened once low = record {
+    words = λ e k. rw f-set (by-yard-at (fIn code (toCrews road (m .place) crews)) (m .list) fs near-fs once e k)
+        ∙ f-by road tree code goal crews m e (toCrews road (m .place) crews) refl;
+    keys = λ e k. rw bound-set (by-yard-at (boundIn code sheet rows crews (toCrews road (m .place) crews)) (m .list) bounds near-bounds once e k)
+        ∙ bound-by road tree code goal crews m e (toCrews road (m .place) crews) refl sheet rows (low e k);
+  }
+
+  -- a leaf of other yards that is open stays so
+  pub opened-kept : (n : Mark) → ((e h : Element) → Mem e (m .list) → Mem h (n .list) → e .yard ≢ h .yard) → Opened i n fs bounds → Opened i n fs′ bounds′
+  opened-kept n other o = record {
+    words = λ h k. rw f-set
+        (by-yard-kept (fIn code (toCrews road (m .place) crews)) (m .list) fs (h .yard) (f i n h) near-fs (o .words h k) (λ e j q. absurd (other e h j k q)));
+    keys = λ h k. rw bound-set
+        (by-yard-kept (boundIn code sheet rows crews (toCrews road (m .place) crews)) (m .list) bounds (h .yard) (yardBound i n h) near-bounds (o .keys h k)
+        (λ e j q. absurd (other e h j k q)));
+  }
+
+-- the next element of an open leaf
+pub opened-place : (i : Instance) (m : Mark) (fs bounds : List ℕ) (gone : List Bool) → Opened i m fs bounds → (n place : ℕ) → n ≡ length (m .list)
+    → place ≡ pick (wordsOf fs gone (m .list)) n → place ≡ nextPlace i gone m
+opened-place i m fs bounds gone o n place e p = next-place i fs gone m (o .words) place (wordAt (wordsOf fs gone (m .list)) place) (rw e at p) refl
+
+pub opened-f : (i : Instance) (m : Mark) (fs bounds : List ℕ) (gone : List Bool) → Opened i m fs bounds → (n place word : ℕ) → n ≡ length (m .list)
+    → place ≡ pick (wordsOf fs gone (m .list)) n → word ≡ wordAt (wordsOf fs gone (m .list)) place → word ≡ nextF i gone m
+opened-f i m fs bounds gone o n place word e p q = next-f i fs gone m (o .words) place word (rw e at p) q

@@ -1,0 +1,112 @@
+-- Words set by yard, one element at a time. Assumes nothing.
+use mathlib.Core.Path.{_≡_, refl, sym, ap, _∙_}
+use mathlib.Core.Bool.{Bool}
+use mathlib.Core.List.{List, [], _∷_, List·Memᴰ as Mem, List·Memᴰ·head as head, List·Memᴰ·tail as tail, List·Memᴰ·not-nil}
+use Prim.Native.Nat.{ℕ, zero, suc, _+_, _*_, _-_, _≤_, _<_}
+use native.Mathlib.Decide.{ℕ-discrete}
+use native.Mathlib.Nat.{sub-zero}
+use native.Mathlib.Omega.{arith}
+use lib.ListN.{length, getD, set, length-set}
+use lib.Seq.{getD-set-same, getD-set-other}
+use Rattle.tree_layout.specs.Values.{Element}
+use Rattle.tree_layout.specs.Decode.{elementAt, readList}
+use Rattle.tree_layout.specs.Accessors.{listedAt}
+use Rattle.tree_layout.specs.declared.Listed.{Listed}
+use Rattle.tree_layout.proofs.Reading.{element-yard, list-turn, list-none}
+use Rattle.tree_layout.proofs.Decoding.{element-is, read-list-next}
+use Rattle.search_state.specs.State.{fsAt, boundsAt}
+use Rattle.search_state.proofs.Cells.{Parts, store-f, store-bound}
+use Rattle.search_leaf.specs.Leaves.{Near, byYard, byYards}
+
+-- ---- an element by its number
+
+element-mem : (p : List ℕ) (n at k : ℕ) → k < n → Mem (elementAt p (at + 6 * k)) (readList p n at)
+element-mem p zero at k h = absurd (omega arith)
+element-mem p (suc n) at zero h =
+    let z : at + 6 * 0 ≡ at = omega arith in
+    rw (z, read-list-next p n at) (head refl)
+element-mem p (suc n) at (suc k) h =
+    let z : at + 6 * suc k ≡ at + 6 + 6 * k = omega arith in
+    rw (z, read-list-next p n at) (tail (element-mem p n (at + 6) k (omega arith)))
+
+-- the yard of element number k is where the list's yards are
+pub yard-near : (p : List ℕ) (n k w : ℕ) (e : Listed) → k < n → e ≡ listedAt p k → Near w (readList p n 0) → e .yard < w
+yard-near p n k w e h q near =
+    let z : 0 + 6 * k ≡ 6 * k = omega arith in
+    rw (q, ← element-yard p (6 * k)) (near (elementAt p (6 * k)) (rw z at (element-mem p n 0 k h)))
+
+-- ---- with k of n elements done
+
+-- two words set by yard from the place on are those set from the start
+pub record Filled (regions junctions : ℕ) (g b : Element → ℕ) (p : List ℕ) (n k : ℕ) (ws₀ ws : List ℕ) : Type 0 where
+  pub same : length ws ≡ length ws₀
+  pub rest : byYards regions junctions g b (readList p (n - k) (6 * k)) ws ≡ byYards regions junctions g b (readList p n 0) ws₀
+
+module _ (regions junctions : ℕ) (g b : Element → ℕ) (p : List ℕ) (n : ℕ) where
+  pub filled-none : (ws : List ℕ) → Filled regions junctions g b p n 0 ws ws
+  filled-none ws = record { same = refl; rest = simp sub-zero }
+
+  module _ (k : ℕ) (ws₀ ws : List ℕ) (f : Filled regions junctions g b p n k ws₀ ws) where
+    pub filled-more : k < n → (e : Listed) → e ≡ listedAt p k → (x y i j : ℕ)
+        → x ≡ g (record { distance = e .distance; yard = e .yard }) → y ≡ b (record { distance = e .distance; yard = e .yard })
+        → i ≡ fsAt regions junctions + e .yard → j ≡ boundsAt regions junctions + e .yard
+        → Filled regions junctions g b p n (k + 1) ws₀ (set (set ws i x) j y)
+    unfolding byYards
+    filled-more h e q x y i j ex ey ei ej = record {
+      same = length-set (set ws i x) j y ∙ (length-set ws i x ∙ f .same);
+      rest = sym step ∙ f .rest;
+    }
+      where
+        is : elementAt p (6 * k) ≡ record { distance = e .distance; yard = e .yard }
+        is = element-is p (6 * k) ∙ rw q refl
+
+        step : byYards regions junctions g b (readList p (n - k) (6 * k)) ws
+            ≡ byYards regions junctions g b (readList p (n - (k + 1)) (6 * (k + 1))) (set (set ws i x) j y)
+        step = let z : 6 * (k + 1) ≡ 6 * k + 6 = omega arith in rw (z, ex, ey, ei, ej, list-turn p n k (6 * k) h, is) refl
+
+    pub filled-all : n ≤ k → ws ≡ byYards regions junctions g b (readList p n 0) ws₀
+    unfolding byYards
+    filled-all h = rw (list-none p n k (6 * k) h) at (f .rest)
+
+-- ---- the parts of words that are so set
+
+pub by-yards-parts : (r n : ℕ) (g b : Element → ℕ) (es : List Element) {ws keys yards firsts picks fs bounds : List ℕ} {gone : List Bool}
+    → Near n es → Parts r n ws keys yards firsts picks fs bounds gone
+    → Parts r n (byYards r n g b es ws) keys yards firsts picks (byYard g es fs) (byYard b es bounds) gone
+unfolding byYards byYard
+by-yards-parts r n g b [] near p = p
+by-yards-parts r n g b (e ∷ es) near p =
+    by-yards-parts r n g b es (λ x m. near x (tail m))
+    (store-bound (store-f p (fsAt r n + e .yard) (g e) (e .yard) refl (near e (head refl))) (boundsAt r n + e .yard) (b e) (e .yard) refl (near e (head refl)))
+
+-- ---- what the words are
+
+module _ (g : Element → ℕ) where
+  pub by-yard-length : (es : List Element) (ws : List ℕ) → length (byYard g es ws) ≡ length ws
+  unfolding byYard
+  by-yard-length [] ws = refl
+  by-yard-length (e ∷ es) ws = by-yard-length es (set ws (e .yard) (g e)) ∙ length-set ws (e .yard) (g e)
+
+  -- a word stays if each element at its place has the same
+  pub by-yard-kept : (es : List Element) (ws : List ℕ) (y v : ℕ) → Near (length ws) es → getD ws y 0 ≡ v
+      → ((e : Element) → Mem e es → e .yard ≡ y → g e ≡ v)
+      → getD (byYard g es ws) y 0 ≡ v
+  unfolding byYard
+  by-yard-kept [] ws y v near h same = h
+  by-yard-kept (x ∷ xs) ws y v near h same =
+      by-yard-kept xs (set ws (x .yard) (g x)) y v (λ e m. rw length-set (near e (tail m))) (one (ℕ-discrete y (x .yard))) (λ e m q. same e (tail m) q)
+    where
+      one : Dec (y ≡ x .yard) → getD (set ws (x .yard) (g x)) y 0 ≡ v
+      one (yes q) = rw q (getD-set-same ws (x .yard) (g x) 0 (near x (head refl)) ∙ same x (head refl) (sym q))
+      one (no q) = getD-set-other ws (x .yard) y (g x) 0 q ∙ h
+
+  -- a list that names each yard once has each element's word at its yard
+  pub by-yard-at : (es : List Element) (ws : List ℕ) → Near (length ws) es → ((e h : Element) → Mem e es → Mem h es → e .yard ≡ h .yard → e ≡ h)
+      → (e : Element) → Mem e es → getD (byYard g es ws) (e .yard) 0 ≡ g e
+  unfolding byYard
+  by-yard-at [] ws near once e m = absurd (List·Memᴰ·not-nil m)
+  by-yard-at (x ∷ xs) ws near once e (head q) =
+      by-yard-kept xs (set ws (x .yard) (g x)) (e .yard) (g e) (λ a k. rw length-set (near a (tail k)))
+      (rw q (getD-set-same ws (x .yard) (g x) 0 (near x (head refl)))) (λ a k s. ap g (once a e (tail k) (head q) s))
+  by-yard-at (x ∷ xs) ws near once e (tail m) =
+      by-yard-at xs (set ws (x .yard) (g x)) (λ a k. rw length-set (near a (tail k))) (λ a b j k s. once a b (tail j) (tail k) s) e m

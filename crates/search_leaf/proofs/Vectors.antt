@@ -1,0 +1,37 @@
+-- Worked examples: the definitions run. Assumes nothing.
+use mathlib.Core.Path.{_≡_, refl}
+use mathlib.Core.Bool.{true, false}
+use mathlib.Core.List.{List, [], _∷_}
+use Prim.Native.Nat.{ℕ, _+_}
+use lib.ListN.{replicate}
+use Rattle.book.specs.Choose.{choose}
+use Rattle.tree_layout.specs.Values.{Element}
+use Rattle.search_rules.specs.Queue.{wordAt, pick}
+use Rattle.search_rules.specs.Step.{left}
+use Rattle.search_leaf.specs.Leaves.{byYard, byYards, wordOf, wordsOf}
+
+pair : ℕ → ℕ → Element
+pair distance yard = record { distance = distance; yard = yard }
+
+three : List Element
+three = pair 2 1 ∷ pair 9 3 ∷ pair 10 0 ∷ []
+
+-- each word stands at its yard, and the others stay
+at-yards : byYard (λ e. e .distance) three (7 ∷ 7 ∷ 7 ∷ 7 ∷ []) ≡ 10 ∷ 2 ∷ 7 ∷ 9 ∷ []
+unfolding byYard three pair
+at-yards = refl
+
+-- of one region and two junctions, the f's stand from word 5 on and the bounds from word 7 on
+at-both : byYards 1 2 (λ e. e .distance) (λ e. e .distance + 1) (pair 2 1 ∷ pair 9 0 ∷ []) (replicate 11 7)
+    ≡ 7 ∷ 7 ∷ 7 ∷ 7 ∷ 7 ∷ 9 ∷ 2 ∷ 10 ∷ 3 ∷ 7 ∷ 7 ∷ []
+unfolding byYards pair
+at-both = refl
+
+-- of two that tie the first leaves; a yard that has left has no word
+ties : pick (wordsOf (4 ∷ 6 ∷ 0 ∷ 4 ∷ []) (false ∷ false ∷ false ∷ false ∷ []) three) 3 ≡ 1
+unfolding pick wordAt wordsOf wordOf left choose three pair
+ties = refl
+
+gone : pick (wordsOf (4 ∷ 6 ∷ 0 ∷ 4 ∷ []) (false ∷ false ∷ false ∷ true ∷ []) three) 3 ≡ 2
+unfolding pick wordAt wordsOf wordOf left choose three pair
+gone = refl

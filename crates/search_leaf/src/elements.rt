@@ -1,0 +1,122 @@
+// A leaf's list: f and the bound of each of its yards, and which leaves next.
+use crate::Next;
+use crate::parts;
+use search_queue::UNQUEUED;
+use tree_layout::Header;
+use tree_layout::records;
+ghost use mathlib.Core.Path.{_≡_};
+ghost use mathlib.Core.List.{List};
+ghost use Prim.Native.Nat.{ℕ, _+_, _*_, _≤_, _<_};
+ghost use lib.ListN.{length};
+ghost use Rattle.book.specs.Bytes.{u16At};
+ghost use Rattle.road_layout.specs.Road.{junctions};
+ghost use Rattle.tree_layout.specs.Decode.{readList, junctionCount, regionCount, landmarkCount};
+ghost use Rattle.search_rules.specs.Queue.{wordAt, pick};
+ghost use Rattle.search_bounds.specs.Rows.{Rows};
+ghost use Rattle.search_bounds.specs.Bounds.{Crews};
+ghost use Rattle.search_bounds.specs.Measures.{Driven, IsDriven, toCrews};
+ghost use Rattle.search_state.specs.State.{wordCount, fsIn, goneIn};
+ghost use Rattle.search_leaf.specs.Leaves.{Near, byYards, fIn, boundIn, wordOf, wordsOf, listAt};
+
+// Sets f and the bound of each yard of a landmark's list, given the landmark's distances to the crews.
+fn fill(
+    list: &[u8],
+    yards: usize,
+    sheet: &[u32],
+    crews: &[u16],
+    out: &[u32],
+    code: u8,
+    h: Header,
+    words: &mut [u64],
+)
+    requires { ⌜ (6 * yards ≤ length (now list)) × Rows (now sheet) (h .landmarks) × Crews (now crews)
+        × (length (now out) ≡ length (now crews)) × Near (h .junctions) (readList (now list) yards 0)
+        × (h .junctions ≤ 1024) × (length (now words) ≡ wordCount (h .regions) (h .junctions)) ⌝ }
+    ensures { λ _. ⌜ now (words .exit) ≡ byYards (h .regions) (h .junctions) (fIn code (now (out .entry)))
+        (boundIn code (now (sheet .entry)) (h .landmarks) (now (crews .entry)) (now (out .entry)))
+        (readList (now (list .entry)) yards 0) (now (words .entry)) ⌝ }
+{
+    let rows = h.landmarks as usize;
+    let mut k: usize = 0;
+    while k < yards {
+        let e = records::element(list, k);
+        let y = e.yard;
+        let f = search_bounds::yards::f_of(out, code, e.distance);
+        let bound = search_bounds::yards::yard_bound(sheet, rows, crews, out, code, y, e.distance);
+        let f_place = parts::f_at(h, y);
+        let bound_place = parts::bound_at(h, y);
+        words[f_place] = f;
+        words[bound_place] = bound;
+        k += 1;
+    }
+}
+
+// Opens a leaf by its landmark that stands at a place of the tree book: sets f and the bound of each yard of its list.
+pub fn open(
+    tree: &[u8],
+    at: usize,
+    yards: usize,
+    sheet: &[u32],
+    drives: &[u32],
+    crews: &[u16],
+    code: u8,
+    words: &mut [u64],
+)
+    requires { ⌜ IsDriven (now crews) (now drives) (u16At (now tree) at) × Rows (now sheet) (landmarkCount (now tree))
+        × (12 ≤ length (now tree)) × (at + (2 + 6 * yards) ≤ length (now tree)) × (junctionCount (now tree) ≤ 1024)
+        × Near (junctionCount (now tree)) (listAt (now tree) at yards)
+        × (length (now words) ≡ wordCount (regionCount (now tree)) (junctionCount (now tree))) ⌝ }
+    ensures { λ _. ⌜ ((road : List ℕ) → Driven road (now (crews .entry)) (now (drives .entry))
+        → u16At (now (tree .entry)) at < junctions road
+        → now (words .exit) ≡ byYards (regionCount (now (tree .entry))) (junctionCount (now (tree .entry)))
+        (fIn code (toCrews road (u16At (now (tree .entry)) at) (now (crews .entry))))
+        (boundIn code (now (sheet .entry)) (landmarkCount (now (tree .entry))) (now (crews .entry))
+        (toCrews road (u16At (now (tree .entry)) at) (now (crews .entry))))
+        (listAt (now (tree .entry)) at yards) (now (words .entry))) ⌝ }
+{
+    let mut out = [0u32; 16];
+    let q = crews.len();
+    let l = records::junction(tree, at);
+    search_bounds::yards::to_crews(drives, crews, l, &mut out[..q]);
+    let list = records::list(tree, at, yards);
+    let h = records::header(tree);
+    fill(list, yards, sheet, crews, &out[..q], code, h, words);
+}
+
+// A yard's f, or UNQUEUED if it has left.
+fn word_of(h: Header, words: &[u64], y: u16) -> u64
+    requires { ⌜ (y < h .junctions) × (length (now words) ≡ wordCount (h .regions) (h .junctions)) ⌝ }
+    ensures { λ r. ⌜ r ≡ wordOf (fsIn (h .regions) (h .junctions) (now (words .entry)))
+        (goneIn (h .regions) (h .junctions) (now (words .entry))) y ⌝ }
+{
+    let g = parts::gone_at(h, y);
+    if words[g] == 0 {
+        return UNQUEUED;
+    }
+    let i = parts::f_at(h, y);
+    words[i]
+}
+
+// "Its list's elements leave by f .., then by place": the next of at least one.
+pub fn next_element(list: &[u8], yards: usize, h: Header, words: &[u64]) -> Next
+    requires { ⌜ (1 ≤ yards) × (6 * yards ≤ length (now list)) × Near (h .junctions) (readList (now list) yards 0)
+        × (length (now words) ≡ wordCount (h .regions) (h .junctions)) ⌝ }
+    ensures { λ r. ⌜ (r .place ≡ pick (wordsOf (fsIn (h .regions) (h .junctions) (now (words .entry)))
+        (goneIn (h .regions) (h .junctions) (now (words .entry))) (readList (now (list .entry)) yards 0)) yards)
+        × (r .f ≡ wordAt (wordsOf (fsIn (h .regions) (h .junctions) (now (words .entry)))
+        (goneIn (h .regions) (h .junctions) (now (words .entry))) (readList (now (list .entry)) yards 0))
+        (r .place)) ⌝ }
+{
+    let mut place: usize = 0;
+    let mut f = word_of(h, words, records::element(list, 0).yard);
+    let mut k: usize = 1;
+    while k < yards {
+        let w = word_of(h, words, records::element(list, k).yard);
+        if w < f {
+            place = k;
+            f = w;
+        }
+        k += 1;
+    }
+    Next { place, f }
+}

@@ -1,4 +1,0 @@
-pub mod Filling
-pub mod Scanning
-pub mod Opening
-pub mod Vectors

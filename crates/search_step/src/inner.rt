@@ -1,0 +1,76 @@
+// An inner region is taken: it queues its children.
+use search_bounds::numbers;
+use search_bounds::regions;
+use tree_layout::Region;
+use tree_layout::records;
+ghost use mathlib.Core.Path.{_≡_};
+ghost use Prim.Native.Nat.{_<_};
+ghost use lib.ListN.{length, set};
+ghost use Rattle.tree_layout.specs.Decode.{decode, junctionCount, landmarkCount};
+ghost use Rattle.tree.specs.Arrays.{Laid};
+ghost use Rattle.tree.specs.Yards.{childrenOf};
+ghost use Rattle.search_rules.specs.Queue.{unqueued};
+ghost use Rattle.search_bounds.specs.Rows.{Rows};
+ghost use Rattle.search_bounds.specs.Bounds.{Crews};
+ghost use Rattle.search_step.specs.Children.{keyOf, putKeys, Ended, Slots};
+
+// A region's key: "the greater of this and its parent's key".
+fn key(
+    tree: &[u8],
+    places: &[usize],
+    sheet: &[u32],
+    rows: usize,
+    code: u8,
+    crews: &[u16],
+    c: Region,
+    parent: u64,
+) -> u64
+    requires { ⌜ Laid (now tree) (now places) × (c .number < length (now places))
+        × Rows (now sheet) rows × Crews (now crews) ⌝ }
+    ensures { λ w. ⌜ w
+        ≡ keyOf (now (tree .entry)) (now (sheet .entry)) rows code (now (crews .entry)) parent (c .number) ⌝ }
+{
+    let x = regions::region_bound(tree, places, sheet, rows, code, crews, c);
+    numbers::greater64(x, parent)
+}
+
+// "An inner region queues its children.": region r, whose key is a, leaves the queue, and each child gets its key.
+pub fn open_inner(
+    tree: &[u8],
+    places: &[usize],
+    ends: &[usize],
+    sheet: &[u32],
+    crews: &[u16],
+    code: u8,
+    words: &mut [u64],
+    r: Region,
+    a: u64,
+)
+    requires { ⌜ Laid (now tree) (now places) × Ended (now tree) (now ends)
+        × Rows (now sheet) (landmarkCount (now tree)) × Crews (now crews)
+        × Slots (now tree) (length (now places)) (junctionCount (now tree)) (now words) (r .number) ⌝ }
+    ensures { λ _. ⌜ now (words .exit)
+        ≡ putKeys
+        (keyOf (now (tree .entry)) (now (sheet .entry)) (landmarkCount (now (tree .entry))) code (now (crews .entry)) a)
+        (length (now (places .entry))) (junctionCount (now (tree .entry)))
+        (childrenOf (decode (now (tree .entry)) .regions) (r .number))
+        (set (now (words .entry)) (r .number) unqueued) ⌝ }
+{
+    let h = records::header(tree);
+    let rows = h.landmarks as usize;
+    let firsts = places.len() + h.junctions as usize;
+    let i = r.number as usize;
+    words[i] = search_queue::UNQUEUED;
+    let f = tree::regions::fields(tree, places, r);
+    let n = f.children;
+    let mut c = i + 1;
+    let mut k: u8 = 0;
+    while k < n {
+        let child = Region { number: c as u16 };
+        let w = key(tree, places, sheet, rows, code, crews, child, a);
+        words[c] = w;
+        words[firsts + c] = w;
+        c = ends[c];
+        k += 1;
+    }
+}

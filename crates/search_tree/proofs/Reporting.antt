@@ -1,0 +1,61 @@
+-- What a search returns and writes when its steps have ended. Assumes nothing.
+use mathlib.Core.Path.{_≡_, refl, sym, ap, _∙_}
+use mathlib.Core.Bool.{true, false, not}
+use mathlib.Core.List.{List, []}
+use Prim.Native.Nat.{ℕ}
+use lib.ListN.{length}
+use lib.Dec.{T}
+use Rattle.book.specs.Writing.{write}
+use Rattle.book.proofs.Choosing.{choose-yes, choose-no, true-T, false-T}
+use Rattle.tree_layout.specs.Values.{Element}
+use Rattle.search_rules.specs.Run.{Answer, words}
+use Rattle.search_held.specs.Pairs.{heldOf}
+use Rattle.search_held.proofs.Pairing.{held-length}
+use Rattle.search_run.specs.declared.Outcome.{Outcome}
+use Rattle.search_run.specs.Answers.{answerOf}
+use Rattle.search_call.specs.Call.{Found, accepted}
+use Rattle.search_call.proofs.Calls.{accepted-is}
+use Rattle.search_tree.specs.Found.{foundOf, writtenBy}
+
+same-found : (s l t m s′ l′ t′ m′ : ℕ) → s ≡ s′ → l ≡ l′ → t ≡ t′ → m ≡ m′
+    → _≡_ {A = Found} (record { refusal = 0; settled = s; listed = l; taken = t; measured = m })
+    (record { refusal = 0; settled = s′; listed = l′; taken = t′; measured = m′ })
+same-found s l t m s′ l′ t′ m′ e f g h = rw (e, f, g, h) refl
+
+-- ---- of an outcome
+
+module _ (o : Outcome) where
+  pub spent-found : (m : ℕ) → o .settled ≡ false → m ≡ o .measured
+      → foundOf (record { refusal = 0; settled = 0; listed = 0; taken = o .taken; measured = m }) ≡ accepted (answerOf o)
+  unfolding foundOf answerOf
+  spent-found m z e =
+      let t : T (not (o .settled)) = false-T z in
+      same-found 0 0 (o .taken) m _ _ _ _ (sym (choose-no (o .settled) 1 0 t)) (sym (ap length (choose-no (o .settled) (heldOf (o .held)) [] t))) refl e
+      ∙ sym (accepted-is (answerOf o))
+
+  pub settled-found : (n m : ℕ) → o .settled ≡ true → n ≡ o .held .count → m ≡ o .measured
+      → foundOf (record { refusal = 0; settled = 1; listed = n; taken = o .taken; measured = m }) ≡ accepted (answerOf o)
+  unfolding foundOf answerOf
+  settled-found n m z f e =
+      let t : T (o .settled) = true-T z in
+      same-found 1 n (o .taken) m _ _ _ _ (sym (choose-yes (o .settled) 1 0 t))
+      (f ∙ sym (ap length (choose-yes (o .settled) (heldOf (o .held)) [] t) ∙ held-length (o .held))) refl e
+      ∙ sym (accepted-is (answerOf o))
+
+  pub spent-written : (results : List ℕ) → o .settled ≡ false → results ≡ writtenBy (answerOf o) results
+  unfolding writtenBy answerOf
+  spent-written results z = sym (choose-no (o .settled) _ results (false-T z))
+
+  pub settled-written : (results out : List ℕ) → o .settled ≡ true → out ≡ write results 0 (words (heldOf (o .held))) → out ≡ writtenBy (answerOf o) results
+  unfolding writtenBy answerOf
+  settled-written results out z e =
+      let t : T (o .settled) = true-T z in
+      e ∙ ap (λ (l : List Element). write results 0 (words l)) (sym (choose-yes (o .settled) (heldOf (o .held)) [] t))
+      ∙ sym (choose-yes (o .settled) _ results t)
+
+-- what is reported of them
+pub found-so : (f : Found) (a b : Answer) → f ≡ accepted a → a ≡ b → f ≡ accepted b
+found-so f a b e g = e ∙ ap accepted g
+
+pub written-so : (out results : List ℕ) (a b : Answer) → out ≡ writtenBy a results → a ≡ b → out ≡ writtenBy b results
+written-so out results a b e g = e ∙ ap (λ (x : Answer). writtenBy x results) g

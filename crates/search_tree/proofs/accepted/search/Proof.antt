@@ -1,0 +1,208 @@
+use mathlib.Core.Path.{_≡_, refl, sym, _∙_}
+use mathlib.Core.List.{List}
+use Prim.Native.Nat.{ℕ}
+use native.Mathlib.Omega.{arith}
+use Rattle.book.specs.Bytes.{Bytes}
+use Rattle.search_run.specs.Answers.{answerOf}
+use Rattle.search_call.specs.Call.{searchAnswer}
+use Rattle.search_tree.specs.District.{District}
+use Rattle.search_tree.proofs.Reporting.{found-so, written-so}
+use Rattle.search_tree.proofs.Preparing.{bytes-all, part-room, part-of, lent-size, back-full, back-part, back-taken, back-zeroed}
+use Rattle.search_tree.proofs.Preparing.{crews-needs, few-crews, few-k, results-room, rows-need, ready, answered}
+use borrow.Author.Needs.{needs}
+use Rattle.search_tree.proofs.accepted.search.Statement.{statement}
+use Rattle.search_tree.proofs.accepted.search.Tie as tie
+
+slice-aggregate-crews : tie.Need-slice-aggregate-crews
+slice-aggregate-crews c = search needs
+
+crews-requires : tie.Need-crews-requires
+crews-requires c κs =
+    let s = c .before .before .before .before .before .before .before .before in
+    let d = s .pre .0 .district in
+    let a = s .pre .2 (s .pre .0 .road) d in
+    crews-needs d a _ refl
+
+cast-q : tie.Need-cast-q
+cast-q c = search needs
+
+array-share-prefix-crews : tie.Need-array-share-prefix-crews
+array-share-prefix-crews c =
+    let copied = c .before .before in
+    let s = copied .before .before .before .before .before .before .before .before .before in
+    let d = s .pre .0 .district in
+    let a = s .pre .2 (s .pre .0 .road) d in
+    part-room _ 16 _ (few-crews d a _ (s .pre .1)) (copied .crews2 .kept .1 .0)
+
+slice-aggregate-prepare : tie.Need-slice-aggregate-prepare
+slice-aggregate-prepare c =
+    let copied = c .before .before .before in
+    let s = copied .before .before .before .before .before .before .before .before .before in
+    let d = s .pre .0 .district in
+    let a = s .pre .2 (s .pre .0 .road) d in
+    part-of _ 16 _ (few-crews d a _ (s .pre .1)) (copied .crews2 .kept .1 .0)
+
+slice-aggregate-prepare-2 : tie.Need-slice-aggregate-prepare-2
+slice-aggregate-prepare-2 c = search needs
+
+slice-relend-prefix-prepare : tie.Need-slice-relend-prefix-prepare
+slice-relend-prefix-prepare c =
+    let s = c .before .before .before .before .before .before .before .before .before .before .before .before .before in
+    let d = s .pre .0 .district in
+    let a = s .pre .2 (s .pre .0 .road) d in
+    a .work-full
+
+slice-aggregate-prepare-3 : tie.Need-slice-aggregate-prepare-3
+slice-aggregate-prepare-3 c =
+    let s = c .before .before .before .before .before .before .before .before .before .before .before .before .before .before in
+    let d = s .pre .0 .district in
+    let a = s .pre .2 (s .pre .0 .road) d in
+    sym (lent-size (s .args .work .now) (a .work-full))
+
+prepare-requires : tie.Need-prepare-requires
+prepare-requires c κs =
+    let copied = c .before .before .before .before .before in
+    let known = copied .before .before .before .before .before .before .before in
+    let s = known .before .before in
+    let d = s .pre .0 .district in
+    let a = s .pre .2 (s .pre .0 .road) d in
+    let tree = s .args .tree .now in
+    let bytes : Bytes tree = bytes-all tree (λ i. omega (arith, known .shared-slice-known2 .given i)) in
+    let lent = lent-size (s .args .work .now) (a .work-full) in
+    rows-need d a _ (s .pre .1) _ refl _ (copied .crews2 .ensures) bytes _ _ refl lent
+
+slice-aggregate-run : tie.Need-slice-aggregate-run
+slice-aggregate-run c = search needs
+
+slice-reshare-prefix-run : tie.Need-slice-reshare-prefix-run
+slice-reshare-prefix-run c =
+    let prepared = c .before .before .before .before in
+    let s = prepared .before .before .before .before .before .before .before .before .before .before .before .before .before .before .before in
+    let d = s .pre .0 .district in
+    let a = s .pre .2 (s .pre .0 .road) d in
+    back-full (s .args .work .now) (prepared .prepare .last .1 .1 .1 .1 .0)
+    (prepared .prepare .kept .1 .1 .1 .1 .0 ∙ lent-size (s .args .work .now) (a .work-full))
+
+slice-aggregate-run-2 : tie.Need-slice-aggregate-run-2
+slice-aggregate-run-2 c =
+    let prepared = c .before .before .before .before .before in
+    let s = prepared .before .before .before .before .before .before .before .before .before .before .before .before .before .before .before in
+    let d = s .pre .0 .district in
+    let a = s .pre .2 (s .pre .0 .road) d in
+    back-part (s .args .work .now) (prepared .prepare .last .1 .1 .1 .1 .0)
+    (prepared .prepare .kept .1 .1 .1 .1 .0 ∙ lent-size (s .args .work .now) (a .work-full))
+
+array-share-prefix-crews-2 : tie.Need-array-share-prefix-crews-2
+array-share-prefix-crews-2 c =
+    let copied = c .before .before .before .before .before .before .before .before .before .before .before in
+    let s = copied .before .before .before .before .before .before .before .before .before in
+    let d = s .pre .0 .district in
+    let a = s .pre .2 (s .pre .0 .road) d in
+    part-room _ 16 _ (few-crews d a _ (s .pre .1)) (copied .crews2 .kept .1 .0)
+
+slice-aggregate-run-3 : tie.Need-slice-aggregate-run-3
+slice-aggregate-run-3 c =
+    let copied = c .before .before .before .before .before .before .before .before .before .before .before .before in
+    let s = copied .before .before .before .before .before .before .before .before .before in
+    let d = s .pre .0 .district in
+    let a = s .pre .2 (s .pre .0 .road) d in
+    part-of _ 16 _ (few-crews d a _ (s .pre .1)) (copied .crews2 .kept .1 .0)
+
+run-requires : tie.Need-run-requires
+run-requires c κs =
+    let prepared = c .before .before .before .before .before .before in
+    let copied = prepared .before .before .before .before .before .before in
+    let known = copied .before .before .before .before .before .before .before in
+    let s = known .before .before in
+    let d = s .pre .0 .district in
+    let a = s .pre .2 (s .pre .0 .road) d in
+    let tree = s .args .tree .now in
+    let bytes : Bytes tree = bytes-all tree (λ i. omega (arith, known .shared-slice-known2 .given i)) in
+    let p = prepared .prepare in
+    let size = prepared .prepare .kept .1 .1 .1 .1 .0 ∙ lent-size (s .args .work .now) (a .work-full) in (
+      record {
+        road = s .pre .0 .road;
+        ready = ready d a _ (s .pre .1) _ refl _ (copied .crews2 .ensures) bytes _ _ _
+            (back-taken (s .args .work .now) (p .last .1 .1 .1 .1 .0) size)
+            (p .ensures .1 _ (d .adjacent)) (p .kept .1 .1 .1 .0) (p .ensures .0 _ (d .adjacent));
+      },
+      d .ended,
+      few-k d a _ (s .pre .1),
+    )
+
+zero-words-requires : tie.Need-zero-words-requires
+zero-words-requires c κs =
+    let prepared = c .before .before .before .before .before .before .before .before in
+    let s = prepared .before .before .before .before .before .before .before .before .before .before .before .before .before .before .before in
+    let d = s .pre .0 .district in
+    let a = s .pre .2 (s .pre .0 .road) d in
+    back-full (s .args .work .now) (prepared .prepare .last .1 .1 .1 .1 .0)
+    (prepared .prepare .kept .1 .1 .1 .1 .0 ∙ lent-size (s .args .work .now) (a .work-full))
+
+report-requires : tie.Need-report-requires
+report-requires c κs =
+    let ran = c .before .before .before .before .before in
+    let copied = ran .before .before .before .before .before .before .before .before .before .before .before .before .before in
+    let s = copied .before .before .before .before .before .before .before .before .before in
+    let d = s .pre .0 .district in
+    let a = s .pre .2 (s .pre .0 .road) d in
+    let room = ran .run .ensures .1 in
+    (omega (arith, room .0, few-k d a _ (s .pre .1)), results-room d a _ (s .pre .1) _ (room .0), room .1)
+
+same-length : tie.Need-same-length
+same-length c = search needs
+
+same-length-2 : tie.Need-same-length-2
+same-length-2 c = search needs
+
+returns : tie.Need-returns
+returns c =
+    let reported = c .before .before in
+    let cleared = reported .before .before .before .before in
+    let ran = cleared .before .before in
+    let prepared = ran .before .before .before .before .before .before .before in
+    let copied = prepared .before .before .before .before .before .before in
+    let known = copied .before .before .before .before .before .before .before in
+    let s = known .before .before in
+    let d = s .pre .0 .district in
+    let a = s .pre .2 (s .pre .0 .road) d in
+    let tree = s .args .tree .now in
+    let bytes : Bytes tree = bytes-all tree (λ i. omega (arith, known .shared-slice-known2 .given i)) in
+    let p = prepared .prepare in
+    let size = prepared .prepare .kept .1 .1 .1 .1 .0 ∙ lent-size (s .args .work .now) (a .work-full) in
+    let so : (road : List ℕ) → District road (s .args .tree .now) (s .args .adj .now) (s .args .places .now) (s .args .ends .now)
+    → answerOf (ran .run .result) ≡ searchAnswer road (s .args .tree .now) (s .args .query .now)
+    = λ road e. answered e (s .pre .2 road e) _ (s .pre .1) _ refl _ (copied .crews2 .ensures) bytes _ _ _
+    (back-taken (s .args .work .now) (p .last .1 .1 .1 .1 .0) size) (p .ensures .1 road (e .adjacent)) (p .kept .1 .1 .1 .0)
+    (p .ensures .0 road (e .adjacent)) _ (ran .run .ensures .0 road) in (
+      λ road e. found-so _ _ _ (reported .report .ensures .0) (so road e),
+      (
+        back-zeroed (s .args .work .now) (prepared .prepare .last .1 .1 .1 .1 .0) size _ (cleared .zero-words .ensures),
+        λ road e. written-so _ _ _ _ (reported .report .ensures .1) (so road e),
+      ),
+    )
+
+pub search-spec : {M : Type 1} → statement M
+search-spec =
+    tie.close
+    (tie.spec
+    slice-aggregate-crews
+    crews-requires
+    cast-q
+    array-share-prefix-crews
+    slice-aggregate-prepare
+    slice-aggregate-prepare-2
+    slice-relend-prefix-prepare
+    slice-aggregate-prepare-3
+    prepare-requires
+    slice-aggregate-run
+    slice-reshare-prefix-run
+    slice-aggregate-run-2
+    array-share-prefix-crews-2
+    slice-aggregate-run-3
+    run-requires
+    zero-words-requires
+    report-requires
+    same-length
+    same-length-2
+    returns)

@@ -1,0 +1,113 @@
+use Rattle.search_tree.proofs.Calling.{query-back, asked-of, areas-last, turned-found, turned-work, turned-results}
+use Rattle.search_tree.proofs.Calling.{taken-facts, taken-found, taken-work, taken-results}
+use borrow.Author.Needs.{needs}
+use Rattle.search_tree.proofs.answering.answer.Statement.{statement}
+use Rattle.search_tree.proofs.answering.answer.Tie as tie
+
+junctions-requires : tie.Need-junctions-requires
+junctions-requires c κs = c .before .before .before .before .before .before .before .pre .district .adjacent .size
+
+read-requires : tie.Need-read-requires
+read-requires c κs = search needs
+
+enum-known-q : tie.Need-enum-known-q
+enum-known-q c = search needs
+
+enum-told : tie.Need-enum-told
+enum-told c = search needs
+
+number-requires : tie.Need-number-requires
+number-requires c κs = search needs
+
+refused-requires : tie.Need-refused-requires
+refused-requires c κs = search needs
+
+returns : tie.Need-returns
+returns c =
+    let s = c .before .before .before .before .before .before .before .before .before .before .before .before .before .args in
+    let n = c .before .before .before .before .before .junctions .ensures in
+    let e = c .before .before .before .before .read .ensures in
+    let k = c .before .before .enum-told .given .1 in
+    let h = c .before .number .ensures in (
+      λ road d. turned-found _ _ _ (s .work .now) (s .results .now) _ (query-back d _ _ _ _ n _ e _ _ k h) _ (c .refused .ensures),
+      (
+        λ road d. turned-work _ _ _ (s .work .now) (s .results .now) _ (query-back d _ _ _ _ n _ e _ _ k h),
+        λ road d. turned-results _ _ _ (s .work .now) (s .results .now) _ (query-back d _ _ _ _ n _ e _ _ k h),
+      ),
+    )
+
+areas-refusal-requires : tie.Need-areas-refusal-requires
+areas-refusal-requires c κs = search needs
+
+refused-requires-2 : tie.Need-refused-requires-2
+refused-requires-2 c κs = search needs
+
+returns-2 : tie.Need-returns-2
+returns-2 c =
+    let s = c .before .before .before .before .before .before .before .before .before .before .before .before .before .before .before .args in
+    let n = c .before .before .before .before .before .before .before .junctions .ensures in
+    let e = c .before .before .before .before .before .before .read .ensures in
+    let p = c .before .before .before .before .q .given .1 in
+    let a = c .before .before .areas-refusal .ensures in
+    let t = c .before .if1 .taken in (
+      λ road d. turned-found _ _ _ (s .work .now) (s .results .now) _ (areas-last d _ _ _ _ n _ e _ p _ a, t) _ (c .refused2 .ensures),
+      (
+        λ road d. turned-work _ _ _ (s .work .now) (s .results .now) _ (areas-last d _ _ _ _ n _ e _ p _ a, t),
+        λ road d. turned-results _ _ _ (s .work .now) (s .results .now) _ (areas-last d _ _ _ _ n _ e _ p _ a, t),
+      ),
+    )
+
+search-requires : tie.Need-search-requires
+search-requires c κs =
+    let s = c .before .before .before .before .before .before .before .before .before .before .before .before .before .before .before .before in
+    let n = c .before .before .before .before .before .before .before .before .junctions .ensures in
+    let e = c .before .before .before .before .before .before .before .read .ensures in
+    let p = c .before .before .before .before .before .q .given .1 in
+    let a = c .before .before .before .areas-refusal .ensures in
+    let z = c .before .before .if1 .left in (
+      s .pre,
+      asked-of (s .pre .district) _ 0 0 _ n _ e _ p,
+      λ road d. taken-facts _ _ _ (s .args .work .now) (s .args .results .now) _ (areas-last d _ _ _ _ n _ e _ p _ a) z,
+    )
+
+same-length : tie.Need-same-length
+same-length c = search needs
+
+same-length-2 : tie.Need-same-length-2
+same-length-2 c = search needs
+
+returns-3 : tie.Need-returns-3
+returns-3 c =
+    let far = c .before .before .before .before .before .before .before .before .before .before .before .before .before in
+    let s = far .before .before .before .before .before .before .before .before .args in
+    let n = far .junctions .ensures in
+    let e = c .before .before .before .before .before .before .before .before .before .before .before .before .read .ensures in
+    let p = c .before .before .before .before .before .before .before .before .before .before .q .given .1 in
+    let a = c .before .before .before .before .before .before .before .before .areas-refusal .ensures in
+    let z = c .before .before .before .before .before .before .before .if1 .left in
+    let f = c .before .before .before .before .search .ensures in (
+      λ road d. taken-found _ _ _ (s .work .now) (s .results .now) _ (areas-last d _ _ _ _ n _ e _ p _ a) z _ (f .0 road d),
+      (
+        λ road d. taken-work _ _ _ (s .work .now) (s .results .now) _ (areas-last d _ _ _ _ n _ e _ p _ a) z _ (f .1 .0),
+        λ road d. taken-results _ _ _ (s .work .now) (s .results .now) _ (areas-last d _ _ _ _ n _ e _ p _ a) z _ (f .1 .1 road d),
+      ),
+    )
+
+pub answer-spec : {M : Type 1} → statement M
+answer-spec =
+    tie.close
+    (tie.spec
+    junctions-requires
+    read-requires
+    enum-known-q
+    enum-told
+    number-requires
+    refused-requires
+    returns
+    areas-refusal-requires
+    refused-requires-2
+    returns-2
+    search-requires
+    same-length
+    same-length-2
+    returns-3)

@@ -1,0 +1,16 @@
+-- What a search returns and writes, by the answer that its steps come to. Assumes nothing: these are definitions.
+use mathlib.Core.List.{List}
+use Prim.Native.Nat.{ℕ}
+use Rattle.book.specs.Choose.{choose}
+use Rattle.search_rules.specs.Run.{Answer, words}
+use Rattle.search_call.specs.Call.{Found, overStart}
+use Rattle.search_tree.specs.declared.Found.{Found as Returned}
+
+-- the returned words, as the definition of a call has them
+unfoldable pub foundOf : Returned → Found
+foundOf r =
+    record { refusal = r .refusal; settled = r .settled; listed = r .listed; taken = r .taken; measured = r .measured }
+
+-- "Settled writes (yard, distance) words into the result area and nothing after them; spent writes nothing there."
+unfoldable pub writtenBy : Answer → List ℕ → List ℕ
+writtenBy a results = choose (a .settled) (overStart (words (a .listed)) results) results

@@ -1,5 +1,0 @@
-pub mod Aggregating
-pub mod ToCrews
-pub mod Driving
-pub mod Searching
-pub mod Vectors
