@@ -25,8 +25,8 @@
  *       FINDER_TREE_BYTES bytes
  *
  * The work area may hold anything. An accepted call leaves its first FINDER_WORK_WORDS words 0 and the rest as they were.
- * A call needs at most FINDER_STACK_BYTES bytes of stack. Measured on x86-64: 154,232 for a check, 150,168
- * for a build, 237,976 for a search.
+ * A search needs at most FINDER_STACK_BYTES bytes of stack, a check or a build at most FINDER_CHECK_STACK_BYTES. This is measured, not
+ * proved: on x86-64, 84,392 for a check, 80,424 for a build, 143,512 for a search; the tests measure it again.
  */
 #ifndef FINDER_H
 #define FINDER_H
@@ -42,7 +42,8 @@ extern "C" {
 #define FINDER_TREE_BYTES 21981
 #define FINDER_RESULT_WORDS 128 /* 2 * k words for the greatest k */
 #define FINDER_SETTLING_LIMIT 767 /* at most 255 inner regions and 256 yards */
-#define FINDER_STACK_BYTES 262144
+#define FINDER_STACK_BYTES 180224       /* of any call: 176 KiB */
+#define FINDER_CHECK_STACK_BYTES 131072 /* of a check or a build: 128 KiB */
 
 /* Checks a tree book beside a road book and a yard book. It answers 0 if and only if the books are sound, the tree's leaves hold each
  * yard of the yard book once and no other, each stored distance is the least total of seconds of any walk through the roads, with

@@ -1,4 +1,4 @@
-/* How much stack a call takes, against the header's FINDER_STACK_BYTES: the call runs on a stack of its own that held one pattern, and
+/* How much stack a call takes, against the header's bounds: the call runs on a stack of its own that held one pattern, and
  * the lowest byte that no longer does tells. */
 #include <stdio.h>
 #include <string.h>
@@ -112,17 +112,18 @@ static size_t stack_of(void (*call)(void))
     return AREA - low;
 }
 
-/* Prints what a call takes; 0 if that is within the bound. */
-static int measure(const char *name, void (*call)(void))
+/* Prints what a call takes; 0 if that is within its bound. */
+static int measure(const char *name, void (*call)(void), size_t bound)
 {
     size_t bytes = stack_of(call);
 
-    printf("%s: refusal %u, %zu bytes of stack, at most %d promised\n", name, (unsigned)refusal, bytes, FINDER_STACK_BYTES);
-    return refusal != 0 || bytes > FINDER_STACK_BYTES;
+    printf("%s: refusal %u, %zu bytes of stack, at most %zu promised\n", name, (unsigned)refusal, bytes, bound);
+    return refusal != 0 || bytes > bound;
 }
 
 int main(void)
 {
     make_books();
-    return measure("check", check) + measure("build", build) + measure("search", search);
+    return measure("check", check, FINDER_CHECK_STACK_BYTES) + measure("build", build, FINDER_CHECK_STACK_BYTES)
+        + measure("search", search, FINDER_STACK_BYTES);
 }

@@ -34,7 +34,8 @@ fn weight(sheet: &[u32], rows: usize, crews: &[u16], l: u16) -> u64
 // The same of landmark j of the record at a place.
 fn mark_weight(tree: &[u8], at: usize, j: usize, sheet: &[u32], rows: usize, crews: &[u16]) -> u64
     requires { ⌜ RecordAt (now tree) at × (j < landmarkCount (now tree)) × Rows (now sheet) rows × Crews (now crews) ⌝ }
-    ensures { λ x. ⌜ x ≡ markWeight (now (sheet .entry)) rows (now (crews .entry)) (marksAt (now (tree .entry)) at) j ⌝ }
+    ensures { λ x. ⌜ x
+        ≡ markWeight (now (sheet .entry)) rows (now (crews .entry)) (marksAt (now (tree .entry)) at) j ⌝ }
 {
     let k = landmarks::landmark(tree, at, j);
     weight(sheet, rows, crews, k.place)
