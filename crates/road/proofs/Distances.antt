@@ -1,4 +1,4 @@
--- Dijkstra's distances are the least totals, and the mark stands where there is no walk; they are a metric along roads, and bounded.
+-- Dijkstra's distances are the least totals, and `far` stands where there is no walk; they are a metric along roads, and bounded.
 use mathlib.Core.Path.{_≡_, sym, _∙_}
 use mathlib.Core.Logic.{_⊎_, inl, inr, _≢_}
 use mathlib.Core.List.{List}

@@ -20,7 +20,7 @@ pub score-open : (st : WalkState) (v : ℕ) → T (not (walked (st .done) v)) �
 unfolding score
 score-open st v h = choose-no (walked (st .done) v) far (at (st .ds) v) h
 
--- A score below the mark is that of a junction that is not walked on from.
+-- A score below `far` is that of a junction that is not walked on from.
 pub score-low : (st : WalkState) (v : ℕ) → score st v < far → T (not (walked (st .done) v))
 unfolding score
 score-low st v h = go (T-split (walked (st .done) v))

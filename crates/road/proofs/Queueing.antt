@@ -39,14 +39,14 @@ pub score-same : (ds ds′ : List ℕ) (done done′ : List Bool) (v : ℕ) → 
 unfolding score
 score-same ds ds′ done done′ v e f = rw (e, f) refl
 
--- a junction that is walked on from has the mark for a score
+-- a junction that is walked on from has `far` for a score
 pub score-done : (ds : List ℕ) (done : List Bool) (v : ℕ) → T (walked done v) → score (state ds done) v ≡ far
 unfolding score
 score-done ds done v t = choose-yes (walked done v) far (at ds v) t
 
 -- ---- relaxing
 
--- While u's arcs are relaxed: no distance is above the mark, those of junctions walked on from are at most d, and the queue holds the words.
+-- While u's arcs are relaxed: no distance is above `far`, those of junctions walked on from are at most d, and the queue holds the words.
 pub record Fine (done : List Bool) (d : ℕ) (s : Reach) : Type 0 where
   pub size : length (s .ds) ≡ width
   pub most : (v : ℕ) → at (s .ds) v ≤ far

@@ -37,7 +37,7 @@ pub record Nearest (st : WalkState) (n u d : ℕ) : Type 0 where
   pub reached : d < far
 
 module _ (queue : List ℕ) (st : WalkState) (q : QueueHolds queue st) where
-  -- a top word below the mark is that of the junction of least score, ties to the lower number
+  -- a top word below the absent word is that of the junction of least score, ties to the lower number
   pub top-nearest : (n : ℕ) → 0 < n → n ≤ width → ((v : ℕ) → v < width → score st v < far → v < n) → top queue < absent
       → Nearest st n (top queue % 1024) (top queue / 1024)
   top-nearest n some small within h = go (top-leaf queue (q .tournament))

@@ -44,12 +44,12 @@ module _ (b : List ℕ) (layout : RoadLayout b) where
   pub net-sound : SoundArcs (junctions b) (net b)
   net-sound = rw (net-is b) (arcs-sound (junctions b) (roads b) (λ r m. roads-member b layout r m))
 
-  -- a distance that is not the mark is the least total of a walk
+  -- a distance that is not `far` is the least total of a walk
   pub dist-least : (u v : ℕ) → IsJunction b u → dist b u v ≢ far → Least (net b) u v (dist b u v)
   unfolding dist
   dist-least u v h n = Distances.dist-least (net b) (junctions b) (layout .few-junctions) net-sound u h v n
 
-  -- the mark stands where there is no walk, and only there
+  -- `far` stands where there is no walk, and only there
   pub dist-far : (u v : ℕ) → IsJunction b u → (dist b u v ≡ far) ↔ (Joined (net b) u v → ⊥)
   unfolding dist
   dist-far u v h = (
@@ -67,7 +67,7 @@ module _ (b : List ℕ) (layout : RoadLayout b) where
 
 -- ---- refusal 6, and what passes
 
--- the first n distances are none of them the mark
+-- the first n distances are none of them `far`
 reached-all : (ds : List ℕ) (n : ℕ) → T (allReached ds n) → (v : ℕ) → v < n → at ds v ≢ far
 unfolding allReached
 reached-all ds zero t v h = absurd (omega arith)
@@ -106,7 +106,7 @@ module _ (b : List ℕ) where
   unfolding dist
   walks layout r v h = (dist b 0 v, dist-least b layout 0 v (layout .some-junction) (reached-all from-zero (junctions b) r v h) .walk)
 
-  -- where every junction can be reached none has the mark
+  -- where every junction can be reached none has `far`
   unmarked : (p : Passing b) → T (allReached from-zero (junctions b))
   unfolding dist
   unmarked p = all-reached from-zero (junctions b) (λ v h. near v h)
