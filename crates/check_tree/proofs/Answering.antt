@@ -97,7 +97,7 @@ module _ (adj yard tree : List ℕ) (roads : IsAdjacency adj) (alone : yardRefus
   junctions-are : h .junctions ≡ junctionCount tree
   junctions-are = ap (λ (x : Header). x .junctions) (sym (shaped-found tree o h e f .1)) ∙ header-junctions tree
 
-  yards-are : h .yards ≡ Book.yardCount tree
+  yards-are : h .yards ≡ Book.treeYardCount tree
   yards-are = ap (λ (x : Header). x .yards) (sym (shaped-found tree o h e f .1)) ∙ header-yards tree
 
   -- the yards are looked up in a yard book and a tree book of sound layout
