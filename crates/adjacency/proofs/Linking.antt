@@ -12,7 +12,7 @@ use lib.Dec.{eqb}
 use Rattle.book.proofs.Choosing.{choose-case, choose-yes, choose-no, eq→eqb}
 use Rattle.book.proofs.Tests.{ne→neqb}
 use Rattle.road_layout.specs.Road.{junctions, roadAt, roadsTo, roadCount}
-use Rattle.road_layout.specs.Layout.{layoutRefusal}
+use Rattle.road_layout.specs.Layout.{roadLayoutRefusal}
 use Rattle.road_layout.proofs.Roads.{roads-none, roads-more, roads-all}
 use Rattle.road_layout.proofs.Layouts.{passing-layout}
 use Rattle.adjacency.specs.Arcs.{Arc, along, back, arcs, net}
@@ -191,7 +191,7 @@ pub record RoadReady (b : List ℕ) (k : ℕ) : Type 0 where
   pub low : roadAt b k .low < 1024
   pub high : roadAt b k .high < 1024
 
-module _ (b : List ℕ) (count k : ℕ) (pass : layoutRefusal b ≡ 0) (counted : count ≡ roadCount b) where
+module _ (b : List ℕ) (count k : ℕ) (pass : roadLayoutRefusal b ≡ 0) (counted : count ≡ roadCount b) where
   pub road-ready : k < count → RoadReady b k
   road-ready h =
       let l = passing-layout b pass in

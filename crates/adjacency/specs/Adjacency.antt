@@ -7,7 +7,7 @@ use lib.ListN.{length, getD, set}
 use lib.Dec.{eqb}
 use Rattle.book.specs.Choose.{choose}
 use Rattle.road_layout.specs.Road.{Road, junctions}
-use Rattle.road_layout.specs.Layout.{layoutRefusal}
+use Rattle.road_layout.specs.Layout.{roadLayoutRefusal}
 use Rattle.adjacency.specs.Arcs.{Arc, net}
 
 -- a word for the count, one for each of 1,024 junctions, and three for each of the arcs of 4,096 roads
@@ -72,7 +72,7 @@ pub record Bare (n : ℕ) (adj : List ℕ) : Type 0 where
 
 -- The array is the adjacency of a road book of sound layout.
 pub record Adjacency (b adj : List ℕ) : Type 0 where
-  pub layout : layoutRefusal b ≡ 0
+  pub layout : roadLayoutRefusal b ≡ 0
   pub size : length adj ≡ adjacencyWords
   pub count : countIn adj ≡ junctions b
   pub newest : (u : ℕ) → u < 1024 → headAt adj u ≡ lastArc u (net b)

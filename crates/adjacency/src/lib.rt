@@ -3,7 +3,7 @@ ghost use mathlib.Core.Path.{_≡_};
 ghost use Prim.Native.Nat.{_+_, _*_, _≤_, _<_};
 ghost use lib.ListN.{length};
 ghost use Rattle.road_layout.specs.Road.{roadAt};
-ghost use Rattle.road_layout.specs.Layout.{layoutRefusal};
+ghost use Rattle.road_layout.specs.Layout.{roadLayoutRefusal};
 ghost use Rattle.adjacency.specs.Adjacency.{adjacencyWords, countIn, headAt, nextAt, toAt, costAt};
 ghost use Rattle.adjacency.specs.Adjacency.{pushArc, pushRoad, Bare, Adjacency};
 
@@ -95,7 +95,7 @@ fn clear(adj: &mut [u16], n: u16)
 
 // Makes the array the adjacency of a road book of sound layout.
 pub fn fill(b: &[u8], adj: &mut [u16])
-    requires { ⌜ (layoutRefusal (now b) ≡ 0) × (length (now adj) ≡ adjacencyWords) ⌝ }
+    requires { ⌜ (roadLayoutRefusal (now b) ≡ 0) × (length (now adj) ≡ adjacencyWords) ⌝ }
     ensures { λ _. ⌜ Adjacency (now (b .entry)) (now (adj .exit)) ⌝ }
 {
     clear(adj, road_layout::junction_count(b));

@@ -14,7 +14,7 @@ use Rattle.book.proofs.Lists.{or-left, or-right, or-cases, eq→eqb}
 use Rattle.yard.specs.Yards.{yardsOf, yardRefusal}
 use Rattle.tree_layout.specs.Values.{Region}
 use Rattle.check_rules.specs.Truth.{within}
-use Rattle.build_rules.specs.Cut.{Given, leafRegion, cutAt, part, partCount, partRegions, cut}
+use Rattle.build_rules.specs.Cut.{Given, leafRegion, cutAt, cutPart, partCount, partRegions, cut}
 use Rattle.build_rules.proofs.Parts.{Rising, within-rising, within-none, within-split, cut-first, cut-last, cut-rise, cut-top, part-is, count-drop, count-keep}
 use Rattle.build_rules.proofs.Parts.{regions-drop, regions-keep, regions-none}
 use Rattle.build_rules.proofs.Steps.{within-nested, part-within, cut-none, cut-leaf, cut-one, cut-many}
@@ -29,9 +29,9 @@ use Rattle.build_cuts.proofs.Slices.{yards-rising}
 
 no-parts : (a s : ℕ) (ys : List ℕ) → Rising ys → (n i : ℕ) → n + i ≡ 4 → partCount a s ys n i ≡ 0 → length (within (cutAt a s i) (a + s) ys) ≡ 0
 no-parts a s ys r zero i e z = ap length (within-none (cutAt a s i) (a + s) ys (λ y k p q. omega (arith, cut-last a s i (omega arith))))
-no-parts a s ys r (suc n) i e z = go (ℕ-discrete (length (part a s ys i)) 0) (λ x. no-parts a s ys r n (suc i) (omega arith) x)
+no-parts a s ys r (suc n) i e z = go (ℕ-discrete (length (cutPart a s ys i)) 0) (λ x. no-parts a s ys r n (suc i) (omega arith) x)
   where
-    go : Dec (length (part a s ys i) ≡ 0) → (partCount a s ys n (suc i) ≡ 0 → length (within (cutAt a s (suc i)) (a + s) ys) ≡ 0)
+    go : Dec (length (cutPart a s ys i) ≡ 0) → (partCount a s ys n (suc i) ≡ 0 → length (within (cutAt a s (suc i)) (a + s) ys) ≡ 0)
         → length (within (cutAt a s i) (a + s) ys) ≡ 0
     go (yes p) rec =
         let rest = rec (sym (count-drop (λ x y l. []) a s ys n i p) ∙ z) in
@@ -120,11 +120,11 @@ module _ (b yb : List ℕ) (m limit a s : ℕ) where
         first : 4 - i ≡ suc (4 - (i + 1))
         first = omega arith
 
-        pub parts-drop : length (part a s ys i) ≡ 0 → partsFrom b yb m limit levels a s i ≡ partsFrom b yb m limit levels a s (i + 1)
+        pub parts-drop : length (cutPart a s ys i) ≡ 0 → partsFrom b yb m limit levels a s i ≡ partsFrom b yb m limit levels a s (i + 1)
         unfolding partsFrom
         parts-drop z = rw first (regions-drop (cut g levels) a s ys (4 - (i + 1)) i z ∙ rw add-one refl)
 
-        pub parts-keep : 0 < length (part a s ys i)
+        pub parts-keep : 0 < length (cutPart a s ys i)
             → partsFrom b yb m limit levels a s i ≡ rangeRegions b yb m limit levels (cutAt a s i)
             (cutAt a s (suc i) - cutAt a s i) ++ partsFrom b yb m limit levels a s (i + 1)
         unfolding partsFrom rangeRegions

@@ -10,7 +10,7 @@ use Rattle.yard.proofs.YardLayout.{yards-at}
 use Rattle.yard.proofs.Turns.{yards-none, yards-all}
 use Rattle.build_records.proofs.Numbered.{yards-turn}
 use Rattle.check_rules.specs.Truth.{within}
-use Rattle.build_rules.specs.Cut.{cutAt, part, partCount}
+use Rattle.build_rules.specs.Cut.{cutAt, cutPart, partCount}
 use Rattle.build_rules.specs.Facts.{countBelow}
 use Rattle.build_rules.proofs.Parts.{cut-first, count-none, count-drop, count-keep}
 use Rattle.build_rules.proofs.Steps.{count-empty, count-yes, count-no}
@@ -66,10 +66,10 @@ module _ (a s : ℕ) (zs : List ℕ) (i : ℕ) (h : i < 4) where
   here : partCount a s zs (4 - i) i ≡ partCount a s zs (suc (3 - i)) i
   here = rw (let z : 4 - i ≡ suc (3 - i) = omega arith in z) refl
 
-  without : length (part a s zs i) ≡ 0 → partCount a s zs (4 - i) i ≡ partCount a s zs (4 - (i + 1)) (i + 1)
+  without : length (cutPart a s zs i) ≡ 0 → partCount a s zs (4 - i) i ≡ partCount a s zs (4 - (i + 1)) (i + 1)
   without e = here ∙ (count-drop (λ x y z. []) a s zs (3 - i) i e ∙ sym next-part)
 
-  with : 0 < length (part a s zs i) → partCount a s zs (4 - i) i ≡ suc (partCount a s zs (4 - (i + 1)) (i + 1))
+  with : 0 < length (cutPart a s zs i) → partCount a s zs (4 - i) i ≡ suc (partCount a s zs (4 - (i + 1)) (i + 1))
   with k = here ∙ (count-keep (λ x y z. []) a s zs (3 - i) i k ∙ ap suc (sym next-part))
 
 module _ (yb : List ℕ) (ok : yardRefusal yb ≡ 0) (a s count low i high : ℕ)
@@ -77,7 +77,7 @@ module _ (yb : List ℕ) (ok : yardRefusal yb ≡ 0) (a s count low i high : ℕ
   upper : high ≡ countBelow (cutAt a s (suc i)) (yardsOf yb)
   upper = e ∙ rw (f, add-one i) refl
 
-  many : length (part a s (within a (a + s) (yardsOf yb)) i) ≡ high - low
+  many : length (cutPart a s (within a (a + s) (yardsOf yb)) i) ≡ high - low
   many = part-length yb ok a s i h ∙ rw (upper, p .lower) refl
 
   next-lower : high ≡ countBelow (cutAt a s (i + 1)) (yardsOf yb)

@@ -9,7 +9,7 @@ use Rattle.book.proofs.Writing.{u16-length, write-append, write-none}
 use Rattle.tree_layout.specs.Values.{Region}
 use Rattle.tree_encode.specs.Encode.{encodeMarks, encodeRegion, encodeRegions}
 use Rattle.tree_encode.proofs.Sizes.{encode-none, encode-cons, encode-append, region-is}
-use Rattle.build_cuts.specs.Writing.{Written}
+use Rattle.build_cuts.specs.Writing.{WrittenRegions}
 
 -- ---- lengths
 
@@ -34,15 +34,15 @@ few (r ∷ rs) = omega (arith, ap length (encode-cons r rs), length-append (enco
 
 -- ---- what is written
 
-pub written-none : (tree : List ℕ) (at : ℕ) → Written tree at [] tree at 0
+pub written-none : (tree : List ℕ) (at : ℕ) → WrittenRegions tree at [] tree at 0
 written-none tree at = record { bytes = rw encode-none (sym (write-none tree at)); end = omega (arith, none-length); number = refl }
 
 pub written-one : (tree : List ℕ) (at : ℕ) (r : Region) (after : List ℕ) (n : ℕ) → after ≡ write tree at (encodeRegion r)
-    → length (encodeRegion r) ≡ n → Written tree at (r ∷ []) after (at + n) 1
+    → length (encodeRegion r) ≡ n → WrittenRegions tree at (r ∷ []) after (at + n) 1
 written-one tree at r after n e h = record { bytes = rw (one-bytes r) e; end = rw (one-bytes r) (omega arith); number = refl }
 
 pub written-join : (tree : List ℕ) (at : ℕ) (rs ss : List Region) (mid : List ℕ) (p c : ℕ) (after : List ℕ) (q d : ℕ)
-    → Written tree at rs mid p c → Written mid p ss after q d → Written tree at (rs ++ ss) after q (c + d)
+    → WrittenRegions tree at rs mid p c → WrittenRegions mid p ss after q d → WrittenRegions tree at (rs ++ ss) after q (c + d)
 written-join tree at rs ss mid p c after q d x y = record {
   bytes = y .bytes ∙ rw (x .bytes, x .end) (sym (ap (write tree at) (encode-append rs ss) ∙ write-append (encodeRegions rs)
       (encodeRegions ss) tree at));
@@ -51,12 +51,12 @@ written-join tree at rs ss mid p c after q d x y = record {
 }
 
 -- the same regions, named otherwise
-pub written-same : (tree : List ℕ) (at : ℕ) (rs ss : List Region) (after : List ℕ) (p c : ℕ) → ss ≡ rs → Written tree at rs after p c
-    → Written tree at ss after p c
+pub written-same : (tree : List ℕ) (at : ℕ) (rs ss : List Region) (after : List ℕ) (p c : ℕ) → ss ≡ rs → WrittenRegions tree at rs after p c
+    → WrittenRegions tree at ss after p c
 written-same tree at rs ss after p c e x = rw e x
 
 -- as many regions as bytes at most
-pub written-few : (tree : List ℕ) (at : ℕ) (rs : List Region) (after : List ℕ) (p c : ℕ) → Written tree at rs after p c → at + c ≤ p
+pub written-few : (tree : List ℕ) (at : ℕ) (rs : List Region) (after : List ℕ) (p c : ℕ) → WrittenRegions tree at rs after p c → at + c ≤ p
 written-few tree at rs after p c x = omega (arith, x .end, x .number, few rs)
 
 -- ---- the room of two lists is that of the first and, after it, that of the second
@@ -68,7 +68,7 @@ module _ (at room : ℕ) (all rs ss : List Region) (e : all ≡ rs ++ ss) (fits 
   pub fits-first : at + length (encodeRegions rs) ≤ room
   fits-first = omega (arith, both)
 
-  pub fits-rest : (tree : List ℕ) (after : List ℕ) (p c : ℕ) → Written tree at rs after p c → p + length (encodeRegions ss) ≤ room
+  pub fits-rest : (tree : List ℕ) (after : List ℕ) (p c : ℕ) → WrittenRegions tree at rs after p c → p + length (encodeRegions ss) ≤ room
   fits-rest tree after p c x = omega (arith, both, x .end)
 
 -- room in an area of the same length

@@ -16,7 +16,7 @@ use Rattle.build_rules.specs.Cut.{leafRegion, innerRegion}
 use Rattle.build_records.specs.Given.{given}
 use Rattle.build_records.specs.Parts.{regionOf}
 use Rattle.build_records.proofs.Records.{region-leaf, region-inner, region-bytes}
-use Rattle.build_cuts.specs.Writing.{ownRegions, Written}
+use Rattle.build_cuts.specs.Writing.{ownRegions, WrittenRegions}
 use Rattle.build_cuts.proofs.Joining.{one-bytes, written-none, written-one, written-same}
 
 module _ (b : List ℕ) (m limit a s q : ℕ) (ys : List ℕ) where
@@ -42,12 +42,12 @@ module _ (b : List ℕ) (m limit a s q : ℕ) (ys : List ℕ) where
 
   -- ---- one record, or none
 
-  pub own-kept : (tree : List ℕ) (at : ℕ) → q ≡ 1 → Written tree at (ownRegions b m limit a s q ys) tree at 0
+  pub own-kept : (tree : List ℕ) (at : ℕ) → q ≡ 1 → WrittenRegions tree at (ownRegions b m limit a s q ys) tree at 0
   own-kept tree at e = written-same tree at [] (ownRegions b m limit a s q ys) tree at 0 (own-none e) (written-none tree at)
 
   pub own-written : (tree after : List ℕ) (at end n : ℕ) → q ≢ 1 → length ys ≡ n → end ≡ at + recordSize m q n
       → after ≡ write tree at (encodeRegion (regionOf (given b m limit) a s q ys))
-      → Written tree at (ownRegions b m limit a s q ys) after end 1
+      → WrittenRegions tree at (ownRegions b m limit a s q ys) after end 1
   own-written tree after at end n h k e f =
       written-same tree at (regionOf (given b m limit) a s q ys ∷ []) (ownRegions b m limit a s q ys) after end 1 (own-one h)
       (rw e (written-one tree at (regionOf (given b m limit) a s q ys) after (recordSize m q n) f (region-bytes b m limit a s q ys ∙ ap (recordSize m q) k)))

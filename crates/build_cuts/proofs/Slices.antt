@@ -9,7 +9,7 @@ use Rattle.yard.proofs.Listing.{from-length}
 use Rattle.yard.proofs.YardLayout.{rising-yards}
 use Rattle.yard.proofs.Turns.{yards-slice}
 use Rattle.check_rules.specs.Truth.{within}
-use Rattle.build_rules.specs.Cut.{cutAt, part}
+use Rattle.build_rules.specs.Cut.{cutAt, cutPart}
 use Rattle.build_rules.specs.Facts.{countBelow}
 use Rattle.build_rules.proofs.Parts.{Rising, rising-places, cut-rise}
 use Rattle.build_rules.proofs.Steps.{count-most, count-rise, within-slice, part-within}
@@ -38,9 +38,9 @@ module _ (yb : List ℕ) (ok : yardRefusal yb ≡ 0) where
       ∙ from-length yb (countBelow high (yardsOf yb) - countBelow low (yardsOf yb)) (countBelow low (yardsOf yb))
 
   -- the yards of a part of a range
-  pub part-yards : (a s i : ℕ) → i < 4 → part a s (within a (a + s) (yardsOf yb)) i ≡ within (cutAt a s i) (cutAt a s (suc i)) (yardsOf yb)
+  pub part-yards : (a s i : ℕ) → i < 4 → cutPart a s (within a (a + s) (yardsOf yb)) i ≡ within (cutAt a s i) (cutAt a s (suc i)) (yardsOf yb)
   part-yards a s i h = part-within a s (yardsOf yb) i h
 
   pub part-length : (a s i : ℕ) → i < 4
-      → length (part a s (within a (a + s) (yardsOf yb)) i) ≡ countBelow (cutAt a s (suc i)) (yardsOf yb) - countBelow (cutAt a s i) (yardsOf yb)
+      → length (cutPart a s (within a (a + s) (yardsOf yb)) i) ≡ countBelow (cutAt a s (suc i)) (yardsOf yb) - countBelow (cutAt a s i) (yardsOf yb)
   part-length a s i h = ap length (part-yards a s i h) ∙ within-length (cutAt a s i) (cutAt a s (suc i)) (cut-rise a s i)

@@ -10,10 +10,10 @@ use Rattle.book.proofs.Choosing.{lt-or-ge}
 use Rattle.yard.specs.Yards.{yardsOf, yardRefusal}
 use Rattle.check_rules.specs.Truth.{within}
 use Rattle.tree_encode.specs.Encode.{encodeRegions}
-use Rattle.build_rules.specs.Cut.{cutAt, part}
+use Rattle.build_rules.specs.Cut.{cutAt, cutPart}
 use Rattle.build_rules.specs.Facts.{countBelow}
 use Rattle.build_rules.proofs.Parts.{cut-rise, cut-top}
-use Rattle.build_cuts.specs.Writing.{Written}
+use Rattle.build_cuts.specs.Writing.{WrittenRegions}
 use Rattle.build_cuts.specs.Cutting.{rangeRegions, partsFrom}
 use Rattle.build_cuts.proofs.Slices.{part-yards}
 use Rattle.build_cuts.proofs.Joining.{written-none, written-join, written-same, written-few, fits-first, fits-rest}
@@ -40,7 +40,7 @@ cuts-top a s i h high f = let e : high ≡ cutAt a s (suc i) = rw add-one at f i
 -- ---- its parts, from number i on
 
 module _ (b yb : List ℕ) (ok : yardRefusal yb ≡ 0) (levels i a s limit m at : ℕ) where
-  pub parts-over : (tree : List ℕ) → i ≡ 4 → Written tree at (partsFrom b yb m limit levels a s i) tree at 0
+  pub parts-over : (tree : List ℕ) → i ≡ 4 → WrittenRegions tree at (partsFrom b yb m limit levels a s i) tree at 0
   parts-over tree e =
       written-same tree at [] (partsFrom b yb m limit levels a s i) tree at 0 (parts-none b yb m limit a s levels i e) (written-none tree at)
 
@@ -57,9 +57,9 @@ module _ (b yb : List ℕ) (ok : yardRefusal yb ≡ 0) (levels i a s limit m at 
     pub part-top : (n : ℕ) → a + s ≤ n → low + size ≤ n
     part-top n k = omega (arith, cuts-top a s i left (low + size) eh)
 
-    part-count : length (part a s (within a (a + s) (yardsOf yb)) i) ≡ end - from
+    part-count : length (cutPart a s (within a (a + s) (yardsOf yb)) i) ≡ end - from
     part-count =
-        let e : part a s (within a (a + s) (yardsOf yb)) i ≡ within low (low + size) (yardsOf yb) = part-yards yb ok a s i left ∙ rw (next, el) refl in
+        let e : cutPart a s (within a (a + s) (yardsOf yb)) i ≡ within low (low + size) (yardsOf yb) = part-yards yb ok a s i left ∙ rw (next, el) refl in
         ap length e ∙ count-is yb ok low (low + size) from end ef ee (omega arith)
 
     module _ (e : from ≡ end) where
@@ -70,8 +70,8 @@ module _ (b yb : List ℕ) (ok : yardRefusal yb ≡ 0) (levels i a s limit m at 
           → at + length (encodeRegions (partsFrom b yb m limit levels a s (i + 1))) ≤ room
       drop-fits room fits = rw dropped at fits
 
-      pub drop-done : (tree after : List ℕ) (p c : ℕ) → Written tree at (partsFrom b yb m limit levels a s (i + 1)) after p c
-          → Written tree at (partsFrom b yb m limit levels a s i) after p c
+      pub drop-done : (tree after : List ℕ) (p c : ℕ) → WrittenRegions tree at (partsFrom b yb m limit levels a s (i + 1)) after p c
+          → WrittenRegions tree at (partsFrom b yb m limit levels a s i) after p c
       drop-done tree after p c w =
           written-same tree at (partsFrom b yb m limit levels a s (i + 1)) (partsFrom b yb m limit levels a s i) after p c dropped w
 
@@ -100,13 +100,13 @@ module _ (b yb : List ℕ) (ok : yardRefusal yb ≡ 0) (levels i a s limit m at 
             fits-first at room (partsFrom b yb m limit levels a s i) (rangeRegions b yb m limit levels low size)
             (partsFrom b yb m limit levels a s (i + 1)) kept fits
 
-        module _ (tree mid : List ℕ) (p c : ℕ) (w : Written tree at (rangeRegions b yb m limit levels low size) mid p c) where
+        module _ (tree mid : List ℕ) (p c : ℕ) (w : WrittenRegions tree at (rangeRegions b yb m limit levels low size) mid p c) where
           pub rest-fits : p + length (encodeRegions (partsFrom b yb m limit levels a s (i + 1))) ≤ room
           rest-fits =
               fits-rest at room (partsFrom b yb m limit levels a s i) (rangeRegions b yb m limit levels low size)
               (partsFrom b yb m limit levels a s (i + 1)) kept fits tree mid p c w
 
-          pub rest-few : (after : List ℕ) (p′ d : ℕ) → Written mid p (partsFrom b yb m limit levels a s (i + 1)) after p′ d → c + d ≤ room
+          pub rest-few : (after : List ℕ) (p′ d : ℕ) → WrittenRegions mid p (partsFrom b yb m limit levels a s (i + 1)) after p′ d → c + d ≤ room
           rest-few after p′ d v =
               omega (
                 arith,
@@ -116,9 +116,9 @@ module _ (b yb : List ℕ) (ok : yardRefusal yb ≡ 0) (levels i a s limit m at 
                 rest-fits,
               )
 
-      pub rest-done : (tree mid : List ℕ) (p c : ℕ) → Written tree at (rangeRegions b yb m limit levels low size) mid p c
-          → (after : List ℕ) (p′ d : ℕ) → Written mid p (partsFrom b yb m limit levels a s (i + 1)) after p′ d
-          → Written tree at (partsFrom b yb m limit levels a s i) after p′ (c + d)
+      pub rest-done : (tree mid : List ℕ) (p c : ℕ) → WrittenRegions tree at (rangeRegions b yb m limit levels low size) mid p c
+          → (after : List ℕ) (p′ d : ℕ) → WrittenRegions mid p (partsFrom b yb m limit levels a s (i + 1)) after p′ d
+          → WrittenRegions tree at (partsFrom b yb m limit levels a s i) after p′ (c + d)
       rest-done tree mid p c w after p′ d v =
           written-same tree at _ (partsFrom b yb m limit levels a s i) after p′ (c + d) kept
           (written-join tree at (rangeRegions b yb m limit levels low size) (partsFrom b yb m limit levels a s (i + 1)) mid p c after p′ d w v)

@@ -16,8 +16,8 @@ use Rattle.tree_encode.specs.Encode.{encodeRegions}
 use Rattle.build_rules.specs.Cut.{partCount}
 use Rattle.build_rules.specs.Facts.{countBelow}
 use Rattle.build_records.specs.declared.Part.{Part}
-use Rattle.build_records.specs.Parts.{YardsUpTo, Ready}
-use Rattle.build_cuts.specs.Writing.{ownRegions, Written}
+use Rattle.build_records.specs.Parts.{YardsUpTo, PartReady}
+use Rattle.build_cuts.specs.Writing.{ownRegions, WrittenRegions}
 use Rattle.build_cuts.specs.Cutting.{Range, rangeRegions, partsFrom}
 use Rattle.build_cuts.proofs.Slices.{below-most, below-rise, within-yards}
 use Rattle.build_cuts.proofs.Joining.{written-join, written-same, written-few, fits-first, fits-rest}
@@ -50,7 +50,7 @@ module _ (adj yb : List ℕ) (p : Part) (r : Range adj yb p) where
   pub range-order : p .from ≤ p .end
   range-order = range-yards .order
 
-  pub range-ready : (road : List ℕ) → Adjacency road adj → 0 < p .size → Ready adj yb p
+  pub range-ready : (road : List ℕ) → Adjacency road adj → 0 < p .size → PartReady adj yb p
   range-ready road a h = record { adjacency = record { book = road; adjacent = a }; inside = r .inside; some = h; yards = range-yards }
 
 module _ (b yb : List ℕ) (ok : yardRefusal yb ≡ 0) (levels a s limit m at : ℕ)
@@ -78,8 +78,8 @@ module _ (b yb : List ℕ) (ok : yardRefusal yb ≡ 0) (levels a s limit m at : 
         rw only (own-room b m limit a s 0 ys (λ z. omega (arith, z)) ∙ rw (from-length yb (end - from) from) refl) in
         rw e at fits
 
-    pub leaf-done : (tree after : List ℕ) (p c : ℕ) → Written tree at (ownRegions b m limit a s 0 ys) after p c
-        → Written tree at (rangeRegions b yb m limit levels a s) after p c
+    pub leaf-done : (tree after : List ℕ) (p c : ℕ) → WrittenRegions tree at (ownRegions b m limit a s 0 ys) after p c
+        → WrittenRegions tree at (rangeRegions b yb m limit levels a s) after p c
     leaf-done tree after p c w = written-same tree at (ownRegions b m limit a s 0 ys) (rangeRegions b yb m limit levels a s) after p c only w
 
   module _ (t : r ≡ false) where
@@ -103,14 +103,14 @@ module _ (b yb : List ℕ) (ok : yardRefusal yb ≡ 0) (levels a s limit m at : 
             (partsFrom b yb m limit (levels - 1) a s 0) both fits in
             rw (own-room b m limit a s q ys h, from-length yb (end - from) from) at f
 
-        module _ (tree mid : List ℕ) (p c : ℕ) (w : Written tree at (ownRegions b m limit a s q ys) mid p c) where
+        module _ (tree mid : List ℕ) (p c : ℕ) (w : WrittenRegions tree at (ownRegions b m limit a s q ys) mid p c) where
           pub parts-fit : p + length (encodeRegions (partsFrom b yb m limit (levels - 1) a s 0)) ≤ room
           parts-fit =
               fits-rest at room (rangeRegions b yb m limit levels a s) (ownRegions b m limit a s q ys)
               (partsFrom b yb m limit (levels - 1) a s 0) both fits tree mid p c w
 
           -- there are no more regions than bytes
-          pub cut-few : (after : List ℕ) (p′ d : ℕ) → Written mid p (partsFrom b yb m limit (levels - 1) a s 0) after p′ d → c + d ≤ room
+          pub cut-few : (after : List ℕ) (p′ d : ℕ) → WrittenRegions mid p (partsFrom b yb m limit (levels - 1) a s 0) after p′ d → c + d ≤ room
           cut-few after p′ d v =
               omega (
                 arith,
@@ -120,9 +120,9 @@ module _ (b yb : List ℕ) (ok : yardRefusal yb ≡ 0) (levels a s limit m at : 
                 parts-fit,
               )
 
-      pub cut-done : (tree mid : List ℕ) (p c : ℕ) → Written tree at (ownRegions b m limit a s q ys) mid p c
-          → (after : List ℕ) (p′ d : ℕ) → Written mid p (partsFrom b yb m limit (levels - 1) a s 0) after p′ d
-          → Written tree at (rangeRegions b yb m limit levels a s) after p′ (c + d)
+      pub cut-done : (tree mid : List ℕ) (p c : ℕ) → WrittenRegions tree at (ownRegions b m limit a s q ys) mid p c
+          → (after : List ℕ) (p′ d : ℕ) → WrittenRegions mid p (partsFrom b yb m limit (levels - 1) a s 0) after p′ d
+          → WrittenRegions tree at (rangeRegions b yb m limit levels a s) after p′ (c + d)
       cut-done tree mid p c w after p′ d v =
           written-same tree at _ (rangeRegions b yb m limit levels a s) after p′ (c + d) both
           (written-join tree at (ownRegions b m limit a s q ys) (partsFrom b yb m limit (levels - 1) a s 0) mid p c after p′ d w v)

@@ -17,7 +17,7 @@ unfoldable pub ownRegions : List ℕ → ℕ → ℕ → ℕ → ℕ → ℕ →
 ownRegions b m limit a s q ys = choose (eqb q 1) [] (regionOf (given b m limit) a s q ys ∷ [])
 
 -- a tree area into which some regions were written from place `at` on, the place after them, and how many there are
-pub record Written (tree : List ℕ) (at : ℕ) (rs : List Region) (after : List ℕ) (place count : ℕ) : Type 0 where
+pub record WrittenRegions (tree : List ℕ) (at : ℕ) (rs : List Region) (after : List ℕ) (place count : ℕ) : Type 0 where
   pub bytes : after ≡ write tree at (encodeRegions rs)
   pub end : place ≡ at + length (encodeRegions rs)
   pub number : count ≡ length rs

@@ -11,8 +11,8 @@ ghost use lib.Dec.{eqb, leb};
 ghost use Rattle.adjacency.specs.Adjacency.{Adjacency};
 ghost use Rattle.yard.specs.Yards.{yardsFrom};
 ghost use Rattle.tree_layout.specs.Decode.{recordSize};
-ghost use Rattle.build_records.specs.Parts.{Ready};
-ghost use Rattle.build_cuts.specs.Writing.{ownRegions, Written};
+ghost use Rattle.build_records.specs.Parts.{PartReady};
+ghost use Rattle.build_cuts.specs.Writing.{ownRegions, WrittenRegions};
 ghost use Rattle.build_cuts.specs.Cutting.{Range, Room, regionsOf, partsOf};
 
 // What building is asked for: how many landmarks a region has, and how many yards a leaf has at most.
@@ -47,9 +47,10 @@ fn put_own(
     tree: &mut [u8],
     at: usize,
 ) -> Put
-    requires { ⌜ Ready (now adj) (now yb) p × (m ≤ 4) × (0 < children → p .from < p .end)
+    requires { ⌜ PartReady (now adj) (now yb) p × (m ≤ 4) × (0 < children → p .from < p .end)
         × ((children ≡ 1 → ⊥) → at + recordSize m children (p .end - p .from) ≤ length (now tree)) ⌝ }
-    ensures { λ r. ⌜ ((road : List ℕ) (limit : ℕ) → Adjacency road (now (adj .entry)) → Written (now (tree .entry)) at
+    ensures { λ r. ⌜ ((road : List ℕ) (limit : ℕ) → Adjacency road (now (adj .entry))
+        → WrittenRegions (now (tree .entry)) at
         (ownRegions road m limit (p .start) (p .size) children
         (yardsFrom (now (yb .entry)) (p .end - p .from) (p .from)))
         (now (tree .exit)) (r .at) (r .regions)) ⌝ }
@@ -76,7 +77,7 @@ pub fn cut(
 ) -> Put
     requires { ⌜ Range (now adj) (now yb) p × (0 < p .size) × (plan .landmarks ≤ 4)
         × Room (now adj) (regionsOf (now yb) plan levels p) at (length (now tree)) ⌝ }
-    ensures { λ r. ⌜ ((road : List ℕ) → Adjacency road (now (adj .entry)) → Written (now (tree .entry)) at
+    ensures { λ r. ⌜ ((road : List ℕ) → Adjacency road (now (adj .entry)) → WrittenRegions (now (tree .entry)) at
         (regionsOf (now (yb .entry)) plan levels p road) (now (tree .exit)) (r .at) (r .regions)) ⌝ }
 {
     if stays(levels, p.end - p.from, plan.limit) {
@@ -104,7 +105,7 @@ fn parts(
 ) -> Put
     requires { ⌜ Range (now adj) (now yb) p × (i ≤ 4) × (plan .landmarks ≤ 4)
         × Room (now adj) (partsOf (now yb) plan levels p i) at (length (now tree)) ⌝ }
-    ensures { λ r. ⌜ ((road : List ℕ) → Adjacency road (now (adj .entry)) → Written (now (tree .entry)) at
+    ensures { λ r. ⌜ ((road : List ℕ) → Adjacency road (now (adj .entry)) → WrittenRegions (now (tree .entry)) at
         (partsOf (now (yb .entry)) plan levels p i road) (now (tree .exit)) (r .at) (r .regions)) ⌝ }
 {
     if i == ranges::PARTS {

@@ -8,7 +8,7 @@ use Rattle.tree_layout.specs.Values.{Mark, leafMark, innerMark}
 use Rattle.check_rules.specs.Truth.{least, greatest}
 use Rattle.tree_encode.specs.Encode.{encodeMark, encodeMarks}
 use Rattle.tree_encode.proofs.Sizes.{marks-none, marks-next}
-use Rattle.build_rules.specs.Cut.{landmark, landmarksFrom, ranked}
+use Rattle.build_rules.specs.Cut.{landmark, landmarksFrom, rankedList}
 use Rattle.build_rules.proofs.Landmarks.{landmarks-none, landmarks-next}
 use Rattle.build_records.specs.Marks.{markBytes, landmarkBytes}
 use Rattle.build_records.proofs.Writing.{mark-leaf-encoded, mark-inner-encoded}
@@ -24,10 +24,11 @@ marks-bytes f k c e m a s bs (suc n) j =
 
 -- a leaf's landmarks
 pub leaf-marks-encoded : (b yb : List ℕ) (from to q m a s : ℕ) (bs : List ℕ) → q ≡ 0
-    → landmarkBytes (markBytes b yb from to q) m a s bs m 0 ≡ encodeMarks 0 (map (λ l. leafMark l (ranked (dist b) l (yardsFrom yb (to - from) from)))
+    → landmarkBytes (markBytes b yb from to q) m a s bs m 0 ≡ encodeMarks 0 (map (λ l. leafMark l (rankedList (dist b) l (yardsFrom yb (to - from) from)))
     (landmarksFrom m a s bs m 0))
 leaf-marks-encoded b yb from to q m a s bs e =
-    marks-bytes (markBytes b yb from to q) (λ l. leafMark l (ranked (dist b) l (yardsFrom yb (to - from) from))) 0 (λ l. mark-leaf-encoded b yb from to q l e)
+    marks-bytes (markBytes b yb from to q) (λ l. leafMark l (rankedList (dist b) l (yardsFrom yb (to - from) from))) 0 (λ l. mark-leaf-encoded b yb from to q l
+    e)
     m a s bs m 0
 
 -- an inner region's

@@ -25,7 +25,7 @@ use Rattle.tree_layout.specs.Values.{leafMark, innerMark}
 use Rattle.tree_layout.specs.Decode.{markSize}
 use Rattle.tree_layout.proofs.MarkFields.{leaf-place, leaf-pairs, inner-place, inner-least, inner-greatest}
 use Rattle.tree_layout.proofs.Places.{mark-size-leaf, mark-size-inner}
-use Rattle.build_rules.specs.Cut.{ranked}
+use Rattle.build_rules.specs.Cut.{rankedList}
 use Rattle.build_rules.proofs.Ranked.{ranked-length}
 use Rattle.build_records.specs.Keys.{ranksOf, keyBytes, distanceIn, Keyed}
 use Rattle.build_records.specs.Marks.{leafBytes, innerBytes, markBytes}
@@ -53,7 +53,7 @@ module _ (b yb ds : List ℕ) (from to l : ℕ) (walk : ds ≡ distances (net b)
       → out ≡ write tree at (leafBytes b yb from to l)
   unfolding leafBytes
   leaf-written tree mid out keys at k e f =
-      let list = encodeList (ranked (dist b) l (yardsFrom yb (to - from) from)) in
+      let list = encodeList (rankedList (dist b) l (yardsFrom yb (to - from) from)) in
       let w : keyBytes (take (to - from) keys) ≡ list = ap keyBytes (k .same) ∙ ranked-bytes ds (dist b) l (yardsFrom yb (to - from) from) gives in
       let a : at + length (u16Bytes l) ≡ at + 2 = omega (arith, u16-length l) in
       rw (f, e, w, write-append (u16Bytes l) list tree at, a) refl
@@ -77,9 +77,9 @@ leaf-length b yb from to l =
     let zs = yardsFrom yb (to - from) from in
     omega (
       arith,
-      length-append (u16Bytes l) (encodeList (ranked (dist b) l zs)),
+      length-append (u16Bytes l) (encodeList (rankedList (dist b) l zs)),
       u16-length l,
-      list-length (ranked (dist b) l zs),
+      list-length (rankedList (dist b) l zs),
       ranked-length (dist b) l
           zs,
       from-length yb (to - from) from,
@@ -102,10 +102,10 @@ inner-length b yb from to l =
     )
 
 -- they are what `encode` writes of the landmark
-leaf-encoded : (b yb : List ℕ) (from to l : ℕ) → encodeMark 0 (leafMark l (ranked (dist b) l (yardsFrom yb (to - from) from))) ≡ leafBytes b yb from to l
+leaf-encoded : (b yb : List ℕ) (from to l : ℕ) → encodeMark 0 (leafMark l (rankedList (dist b) l (yardsFrom yb (to - from) from))) ≡ leafBytes b yb from to l
 unfolding leafBytes
 leaf-encoded b yb from to l =
-    let list = ranked (dist b) l (yardsFrom yb (to - from) from) in
+    let list = rankedList (dist b) l (yardsFrom yb (to - from) from) in
     mark-leaf 0 (leafMark l list) refl ∙ rw (leaf-place l list, leaf-pairs l list) refl
 
 inner-encoded : (b yb : List ℕ) (from to l q : ℕ) → 0 < q
@@ -145,7 +145,7 @@ module _ (b yb : List ℕ) (from to q l : ℕ) where
       q l)
   mark-inner-written tree out at h f = f ∙ ap (write tree at) (sym (inner-is h))
 
-  pub mark-leaf-encoded : q ≡ 0 → encodeMark 0 (leafMark l (ranked (dist b) l (yardsFrom yb (to - from) from))) ≡ markBytes b yb from to q l
+  pub mark-leaf-encoded : q ≡ 0 → encodeMark 0 (leafMark l (rankedList (dist b) l (yardsFrom yb (to - from) from))) ≡ markBytes b yb from to q l
   mark-leaf-encoded e = leaf-encoded b yb from to l ∙ sym (leaf-is e)
 
   pub mark-inner-encoded : 0 < q

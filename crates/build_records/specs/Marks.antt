@@ -8,11 +8,11 @@ use Rattle.road.specs.Dijkstra.{dist}
 use Rattle.yard.specs.Yards.{yardsFrom}
 use Rattle.check_rules.specs.Truth.{least, greatest}
 use Rattle.tree_encode.specs.Encode.{encodeList}
-use Rattle.build_rules.specs.Cut.{landmark, ranked}
+use Rattle.build_rules.specs.Cut.{landmark, rankedList}
 
 -- the bytes of landmark l of a leaf with the yards of number `from` up to `to`
 unfoldable pub leafBytes : List ℕ → List ℕ → ℕ → ℕ → ℕ → List ℕ
-leafBytes b yb from to l = u16Bytes l ++ encodeList (ranked (dist b) l (yardsFrom yb (to - from) from))
+leafBytes b yb from to l = u16Bytes l ++ encodeList (rankedList (dist b) l (yardsFrom yb (to - from) from))
 
 -- the bytes of landmark l of an inner region
 unfoldable pub innerBytes : List ℕ → List ℕ → ℕ → ℕ → ℕ → List ℕ

@@ -17,7 +17,7 @@ pub record YardsUpTo (yb : List ℕ) (from to : ℕ) : Type 0 where
   pub most : to ≤ yardCount yb
 
 -- the adjacency of some road book, and a range of its junctions with the numbers of its yards
-pub record Ready (adj yb : List ℕ) (p : Part) : Type 0 where
+pub record PartReady (adj yb : List ℕ) (p : Part) : Type 0 where
   pub adjacency : IsAdjacency adj
   pub inside : p .start + p .size ≤ countIn adj
   pub some : 0 < p .size

@@ -18,7 +18,7 @@ ghost use Rattle.tree_encode.specs.Encode.{encodeRegion};
 ghost use Rattle.build_rules.specs.Cut.{borders};
 ghost use Rattle.build_records.specs.Given.{given};
 ghost use Rattle.build_records.specs.Marks.{markBytes, landmarkBytes};
-ghost use Rattle.build_records.specs.Parts.{Ready, regionOf};
+ghost use Rattle.build_records.specs.Parts.{PartReady, regionOf};
 
 // A range: its first junction, how many junctions it has, and the numbers of its yards, `from` up to `end`.
 pub struct Part {
@@ -50,7 +50,7 @@ fn put_marks(
     tree: &mut [u8],
     start: usize,
 ) -> usize
-    requires { ⌜ Ready (now adj) (now yb) p
+    requires { ⌜ PartReady (now adj) (now yb) p
         × ((road : List ℕ) → Adjacency road (now adj) → now list ≡ borders (roads road) (p .start) (p .size))
         × (length (now list) ≤ 1024) × (m ≤ 4) × (0 < children → p .from < p .end)
         × (start + m * markSize children (p .end - p .from) ≤ length (now tree)) ⌝ }
@@ -82,7 +82,7 @@ pub fn put_record(
     tree: &mut [u8],
     at: usize,
 ) -> usize
-    requires { ⌜ Ready (now adj) (now yb) p × (m ≤ 4) × (0 < children → p .from < p .end)
+    requires { ⌜ PartReady (now adj) (now yb) p × (m ≤ 4) × (0 < children → p .from < p .end)
         × (at + recordSize m children (p .end - p .from) ≤ length (now tree)) ⌝ }
     ensures place { λ r. ⌜ r ≡ at + recordSize m children (p .end - p .from) ⌝ }
     ensures tree { λ _. ⌜ ((road : List ℕ) (limit : ℕ) → Adjacency road (now (adj .entry))

@@ -13,7 +13,7 @@ ghost use Rattle.road.specs.Dijkstra.{distances};
 ghost use Rattle.tree_layout.specs.Sizes.{leafMarkSize, innerMarkSize};
 ghost use Rattle.tree_layout.specs.Decode.{markSize};
 ghost use Rattle.build_records.specs.Marks.{leafBytes, innerBytes, markBytes};
-ghost use Rattle.build_records.specs.Parts.{YardsUpTo, Ready};
+ghost use Rattle.build_records.specs.Parts.{YardsUpTo, PartReady};
 
 // Writes landmark l of a leaf that has the yards of number `from` up to `end`: its junction and its list.
 fn put_leaf_mark(
@@ -58,7 +58,7 @@ fn put_inner_mark(
 
 // Writes landmark l of a region with so many children over a range.
 pub fn put_mark(adj: &[u16], yb: &[u8], p: Part, children: u8, l: u16, tree: &mut [u8], at: usize)
-    requires { ⌜ Ready (now adj) (now yb) p × (0 < children → p .from < p .end) × (l < countIn (now adj))
+    requires { ⌜ PartReady (now adj) (now yb) p × (0 < children → p .from < p .end) × (l < countIn (now adj))
         × (at + markSize children (p .end - p .from) ≤ length (now tree)) ⌝ }
     ensures { λ _. ⌜ ((road : List ℕ) → Adjacency road (now (adj .entry))
         → now (tree .exit) ≡ write (now (tree .entry)) at

@@ -16,7 +16,7 @@ use Rattle.book.proofs.Lists.{neqb→ne}
 use Rattle.tree_layout.specs.Values.{Region}
 use Rattle.check_rules.specs.Truth.{within}
 use Rattle.check_rules.proofs.Within.{within-mem}
-use Rattle.build_rules.specs.Cut.{Given, leafRegion, innerRegion, cutAt, part, partCount, partRegions, cut}
+use Rattle.build_rules.specs.Cut.{Given, leafRegion, innerRegion, cutAt, cutPart, partCount, partRegions, cut}
 use Rattle.build_rules.specs.Facts.{fours}
 use Rattle.build_rules.proofs.Parts.{Rising, rising-distinct, within-rising, within-none, within-all, within-split, few, cut-first, cut-last, cut-rise}
 use Rattle.build_rules.proofs.Parts.{cut-small, cut-top, parts-count, part-is, count-drop, count-keep, regions-drop, regions-keep, count-none}
@@ -59,7 +59,8 @@ module _ (g : Given) (junctions : ℕ) where
 
   module _ (one : 1 ≤ g .limit) where
     -- the yards of a part are held in its range
-    part-held : (a s : ℕ) (ys : List ℕ) (j : ℕ) → Rising ys → 0 < length (part a s ys j) → Held (cutAt a s j) (cutAt a s (suc j) - cutAt a s j) (part a s ys j)
+    part-held : (a s : ℕ) (ys : List ℕ) (j : ℕ) → Rising ys → 0 < length (cutPart a s ys j)
+        → Held (cutAt a s j) (cutAt a s (suc j) - cutAt a s j) (cutPart a s ys j)
     part-held a s ys j r h =
         let e = part-is a s ys j in
         let z : cutAt a s j + (cutAt a s (suc j) - cutAt a s j) ≡ cutAt a s (suc j) = omega (arith, cut-rise a s j) in
@@ -80,7 +81,7 @@ module _ (g : Given) (junctions : ℕ) where
         let last = cut-last a s j (omega arith) in
         let le : cutAt a s j ≤ a + s = omega arith in
         rw (within-none (cutAt a s j) (a + s) ys (λ y i x z. omega arith), count-none a s ys j, regions-none (cut g k) a s ys j) (none le)
-    parts-forest k a s ys b r h rec (suc n) j e = go (ℕ-discrete (length (part a s ys j)) 0) (parts-forest k a s ys b r h rec n (suc j) (omega arith))
+    parts-forest k a s ys b r h rec (suc n) j e = go (ℕ-discrete (length (cutPart a s ys j)) 0) (parts-forest k a s ys b r h rec n (suc j) (omega arith))
       where
         low : ℕ
         low = cutAt a s j
@@ -88,26 +89,26 @@ module _ (g : Given) (junctions : ℕ) where
         mid : ℕ
         mid = cutAt a s (suc j)
 
-        both : within low (a + s) ys ≡ part a s ys j ++ within mid (a + s) ys
+        both : within low (a + s) ys ≡ cutPart a s ys j ++ within mid (a + s) ys
         both = rw (part-is a s ys j) (within-split low mid (a + s) (cut-rise a s j) (cut-top a s (suc j) n (omega arith)) ys r)
 
         empty : (l : List ℕ) → length l ≡ 0 → l ≡ []
         empty [] z = refl
         empty (x ∷ xs) z = absurd (omega arith)
 
-        go : Dec (length (part a s ys j) ≡ 0) → CutForest g junctions (suc k) (partCount a s ys n (suc j)) mid (a + s) (within mid (a + s) ys) (partRegions
+        go : Dec (length (cutPart a s ys j) ≡ 0) → CutForest g junctions (suc k) (partCount a s ys n (suc j)) mid (a + s) (within mid (a + s) ys) (partRegions
             (cut g k) a s ys n (suc j))
             → CutForest g junctions (suc k) (partCount a s ys (suc n) j) low (a + s) (within low (a + s) ys) (partRegions (cut g k) a s ys (suc n) j)
         go (yes z) f =
             let le : suc k ≤ suc k = omega arith in
             let ge : a + s ≤ a + s = omega arith in
-            let same : within low (a + s) ys ≡ within mid (a + s) ys = both ∙ ap (λ (l : List ℕ). l ++ within mid (a + s) ys) (empty (part a s ys j) z) in
+            let same : within low (a + s) ys ≡ within mid (a + s) ys = both ∙ ap (λ (l : List ℕ). l ++ within mid (a + s) ys) (empty (cutPart a s ys j) z) in
             rw (count-drop (cut g k) a s ys n j z, regions-drop (cut g k) a s ys n j z, same) (widen le (cut-rise a s j) ge f)
         go (no z) f =
-            let p : 0 < length (part a s ys j) = omega arith in
+            let p : 0 < length (cutPart a s ys j) = omega arith in
             let q : low + (mid - low) ≡ mid = omega (arith, cut-rise a s j) in
             let top = cut-top a s (suc j) n (omega arith) in
-            let w = rec low (mid - low) (part a s ys j) (part-held a s ys j r p) (omega (arith, top)) (cut-small a s j (fours k) h) in
+            let w = rec low (mid - low) (cutPart a s ys j) (part-held a s ys j r p) (omega (arith, top)) (cut-small a s j (fours k) h) in
             rw (count-keep (cut g k) a s ys n j p, regions-keep (cut g k) a s ys n j p, both) (join top (rw q at w) f)
 
     -- cutting a range gives a tree
@@ -141,14 +142,14 @@ module _ (g : Given) (junctions : ℕ) where
         → cut g (suc k) a s ys ≡ cut g k a s ys)
         → (n j : ℕ) → partRegions (cut g (suc k)) a s ys n j ≡ partRegions (cut g k) a s ys n j
     parts-same k a s ys r h rec zero j = regions-none (cut g (suc k)) a s ys j ∙ sym (regions-none (cut g k) a s ys j)
-    parts-same k a s ys r h rec (suc n) j = go (ℕ-discrete (length (part a s ys j)) 0) (parts-same k a s ys r h rec n (suc j))
+    parts-same k a s ys r h rec (suc n) j = go (ℕ-discrete (length (cutPart a s ys j)) 0) (parts-same k a s ys r h rec n (suc j))
       where
-        go : Dec (length (part a s ys j) ≡ 0) → partRegions (cut g (suc k)) a s ys n (suc j) ≡ partRegions (cut g k) a s ys n (suc j)
+        go : Dec (length (cutPart a s ys j) ≡ 0) → partRegions (cut g (suc k)) a s ys n (suc j) ≡ partRegions (cut g k) a s ys n (suc j)
             → partRegions (cut g (suc k)) a s ys (suc n) j ≡ partRegions (cut g k) a s ys (suc n) j
         go (yes z) e = rw (regions-drop (cut g (suc k)) a s ys n j z, regions-drop (cut g k) a s ys n j z) e
         go (no z) e =
-            let p : 0 < length (part a s ys j) = omega arith in
-            let w = rec (cutAt a s j) (cutAt a s (suc j) - cutAt a s j) (part a s ys j) (part-held a s ys j r p) (cut-small a s j (fours k) h) in
+            let p : 0 < length (cutPart a s ys j) = omega arith in
+            let w = rec (cutAt a s j) (cutAt a s (suc j) - cutAt a s j) (cutPart a s ys j) (part-held a s ys j r p) (cut-small a s j (fours k) h) in
             rw (regions-keep (cut g (suc k)) a s ys n j p, regions-keep (cut g k) a s ys n j p, w, e) refl
 
     -- one more cut than brings the range to one junction changes nothing

@@ -15,7 +15,7 @@ use Rattle.book.proofs.Lists.{eq→eqb, ne→neqb, mem-getD}
 use Rattle.tree_layout.specs.Values.{Region}
 use Rattle.check_rules.specs.Truth.{within}
 use Rattle.check_rules.proofs.Within.{within-yes, within-no, within-empty, within-mem}
-use Rattle.build_rules.specs.Cut.{cutAt, part, partCount, partRegions}
+use Rattle.build_rules.specs.Cut.{cutAt, cutPart, partCount, partRegions}
 
 -- ---- rising lists
 
@@ -121,32 +121,32 @@ cut-top a s j (suc n) e = omega (arith, cut-rise a s j, cut-top a s (suc j) n (o
 pub parts-count : (a s : ℕ) (ys : List ℕ) (n j : ℕ) → partCount a s ys n j ≤ n
 unfolding partCount
 parts-count a s ys zero j = omega arith
-parts-count a s ys (suc n) j = choose-case (λ (x : ℕ). x ≤ suc n) (eqb (length (part a s ys j)) 0) (λ t. omega (arith, parts-count a s ys n (suc j))) (λ t.
+parts-count a s ys (suc n) j = choose-case (λ (x : ℕ). x ≤ suc n) (eqb (length (cutPart a s ys j)) 0) (λ t. omega (arith, parts-count a s ys n (suc j))) (λ t.
     omega (arith, parts-count a s ys n (suc j)))
 
 -- ---- "Parts without yards are dropped"
 
-pub part-is : (a s : ℕ) (ys : List ℕ) (j : ℕ) → part a s ys j ≡ within (cutAt a s j) (cutAt a s (suc j)) ys
-unfolding part
+pub part-is : (a s : ℕ) (ys : List ℕ) (j : ℕ) → cutPart a s ys j ≡ within (cutAt a s j) (cutAt a s (suc j)) ys
+unfolding cutPart
 part-is a s ys j = refl
 
 module _ (f : ℕ → ℕ → List ℕ → List Region) (a s : ℕ) (ys : List ℕ) (n j : ℕ) where
-  pub count-drop : length (part a s ys j) ≡ 0 → partCount a s ys (suc n) j ≡ partCount a s ys n (suc j)
+  pub count-drop : length (cutPart a s ys j) ≡ 0 → partCount a s ys (suc n) j ≡ partCount a s ys n (suc j)
   unfolding partCount
-  count-drop e = choose-yes (eqb (length (part a s ys j)) 0) _ _ (eq→eqb (length (part a s ys j)) 0 e)
+  count-drop e = choose-yes (eqb (length (cutPart a s ys j)) 0) _ _ (eq→eqb (length (cutPart a s ys j)) 0 e)
 
-  pub count-keep : 0 < length (part a s ys j) → partCount a s ys (suc n) j ≡ suc (partCount a s ys n (suc j))
+  pub count-keep : 0 < length (cutPart a s ys j) → partCount a s ys (suc n) j ≡ suc (partCount a s ys n (suc j))
   unfolding partCount
-  count-keep h = choose-no (eqb (length (part a s ys j)) 0) _ _ (ne→neqb (length (part a s ys j)) 0 (omega arith))
+  count-keep h = choose-no (eqb (length (cutPart a s ys j)) 0) _ _ (ne→neqb (length (cutPart a s ys j)) 0 (omega arith))
 
-  pub regions-drop : length (part a s ys j) ≡ 0 → partRegions f a s ys (suc n) j ≡ partRegions f a s ys n (suc j)
+  pub regions-drop : length (cutPart a s ys j) ≡ 0 → partRegions f a s ys (suc n) j ≡ partRegions f a s ys n (suc j)
   unfolding partRegions
-  regions-drop e = choose-yes (eqb (length (part a s ys j)) 0) _ _ (eq→eqb (length (part a s ys j)) 0 e)
+  regions-drop e = choose-yes (eqb (length (cutPart a s ys j)) 0) _ _ (eq→eqb (length (cutPart a s ys j)) 0 e)
 
-  pub regions-keep : 0 < length (part a s ys j)
-      → partRegions f a s ys (suc n) j ≡ f (cutAt a s j) (cutAt a s (suc j) - cutAt a s j) (part a s ys j) ++ partRegions f a s ys n (suc j)
+  pub regions-keep : 0 < length (cutPart a s ys j)
+      → partRegions f a s ys (suc n) j ≡ f (cutAt a s j) (cutAt a s (suc j) - cutAt a s j) (cutPart a s ys j) ++ partRegions f a s ys n (suc j)
   unfolding partRegions
-  regions-keep h = choose-no (eqb (length (part a s ys j)) 0) _ _ (ne→neqb (length (part a s ys j)) 0 (omega arith))
+  regions-keep h = choose-no (eqb (length (cutPart a s ys j)) 0) _ _ (ne→neqb (length (cutPart a s ys j)) 0 (omega arith))
 
 pub count-none : (a s : ℕ) (ys : List ℕ) (j : ℕ) → partCount a s ys 0 j ≡ 0
 unfolding partCount

@@ -11,13 +11,13 @@ use Rattle.tree_layout.proofs.Decoding.{record-size}
 use Rattle.tree_encode.specs.Encode.{encodeMarks, encodeRegion}
 use Rattle.tree_encode.proofs.Sizes.{region-is, region-length}
 use Rattle.check_rules.specs.Truth.{least, greatest}
-use Rattle.build_rules.specs.Cut.{Given, landmarksOf, ranked, leafRegion, innerRegion}
+use Rattle.build_rules.specs.Cut.{Given, landmarksOf, rankedList, leafRegion, innerRegion}
 use Rattle.build_rules.proofs.Regions.{leaf-formed, inner-formed}
 
 module _ (g : Given) (a s : ℕ) where
   -- a leaf's record
   pub leaf-record : (ys : List ℕ) → encodeRegion (leafRegion g a s ys)
-      ≡ u16Bytes a ++ (u16Bytes (a + s) ++ (0 ∷ (u16Bytes (length ys) ++ encodeMarks 0 (map (λ l. leafMark l (ranked (g .d) l ys)) (landmarksOf g a s)))))
+      ≡ u16Bytes a ++ (u16Bytes (a + s) ++ (0 ∷ (u16Bytes (length ys) ++ encodeMarks 0 (map (λ l. leafMark l (rankedList (g .d) l ys)) (landmarksOf g a s)))))
   unfolding leafRegion
   leaf-record ys = region-is (leafRegion g a s ys)
 

@@ -22,7 +22,7 @@ use Rattle.check_rules.specs.Truth.{least, greatest}
 use Rattle.check_rules.specs.Facts.{Same}
 use Rattle.check_rules.proofs.Extremes.{least-is, greatest-is, least-greatest}
 use Rattle.check_rules.proofs.Theorems.{RegionTrue}
-use Rattle.build_rules.specs.Cut.{Given, landmarksOf, ranked, leafRegion, innerRegion}
+use Rattle.build_rules.specs.Cut.{Given, landmarksOf, rankedList, leafRegion, innerRegion}
 use Rattle.build_rules.proofs.Ranked.{ranked-length, ranked-is, ranked-yard, yard-ranked, ranked-distinct, ranked-rises}
 use Rattle.build_rules.proofs.Landmarks.{landmarks-range, landmarks-length}
 use Rattle.build_rules.proofs.Parts.{rising-distinct}
@@ -39,7 +39,7 @@ module _ (g : Given) where
   -- what a leaf's landmark is, and an inner region's
   record LeafMark (a s : ℕ) (ys : List ℕ) (k : Mark) : Type 0 where
     pub at : Mem (k .place) (landmarksOf g a s)
-    pub list : k .list ≡ ranked (g .d) (k .place) ys
+    pub list : k .list ≡ rankedList (g .d) (k .place) ys
     pub form : k ≡ leafMark (k .place) (k .list)
 
   record InnerMark (a s : ℕ) (ys : List ℕ) (k : Mark) : Type 0 where
@@ -51,10 +51,10 @@ module _ (g : Given) where
   leaf-mark : (a s : ℕ) (ys : List ℕ) (k : Mark) → Mem k (leafRegion g a s ys .marks) → LeafMark a s ys k
   unfolding leafRegion
   leaf-mark a s ys k i =
-      let x = map-mem (λ l. leafMark l (ranked (g .d) l ys)) (landmarksOf g a s) k i in
-      let p = leaf-place (x .0) (ranked (g .d) (x .0) ys) in
-      let q = leaf-pairs (x .0) (ranked (g .d) (x .0) ys) in
-      rw (x .2) (record { at = rw p (x .1); list = rw (p, q) refl; form = leaf-form (x .0) (ranked (g .d) (x .0) ys) })
+      let x = map-mem (λ l. leafMark l (rankedList (g .d) l ys)) (landmarksOf g a s) k i in
+      let p = leaf-place (x .0) (rankedList (g .d) (x .0) ys) in
+      let q = leaf-pairs (x .0) (rankedList (g .d) (x .0) ys) in
+      rw (x .2) (record { at = rw p (x .1); list = rw (p, q) refl; form = leaf-form (x .0) (rankedList (g .d) (x .0) ys) })
 
   inner-mark : (a s q : ℕ) (ys : List ℕ) (k : Mark) → Mem k (innerRegion g a s q ys .marks) → InnerMark a s ys k
   unfolding innerRegion
@@ -75,7 +75,7 @@ module _ (g : Given) where
   pub leaf-formed : (a s : ℕ) (ys : List ℕ) → Formed (g .landmarks) (leafRegion g a s ys)
   unfolding leafRegion
   leaf-formed a s ys = record {
-    count = length-map (landmarksOf g a s) (λ l. leafMark l (ranked (g .d) l ys)) ∙ landmarks-length g a s;
+    count = length-map (landmarksOf g a s) (λ l. leafMark l (rankedList (g .d) l ys)) ∙ landmarks-length g a s;
     lists = λ e k i. let x = leaf-mark a s ys k i in (x .form, rw (x .list) (ranked-length (g .d) (k .place) ys));
     spans = λ h k i. absurd (omega arith);
   }

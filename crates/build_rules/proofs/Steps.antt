@@ -15,7 +15,7 @@ use Rattle.book.proofs.Lists.{eq→eqb, ne→neqb}
 use Rattle.tree_layout.specs.Values.{Region, Tree}
 use Rattle.check_rules.specs.Truth.{within}
 use Rattle.check_rules.proofs.Within.{within-yes, within-no, within-empty}
-use Rattle.build_rules.specs.Cut.{Given, leafRegion, innerRegion, cutAt, part, partCount, partRegions, cut, cutTree}
+use Rattle.build_rules.specs.Cut.{Given, leafRegion, innerRegion, cutAt, cutPart, partCount, partRegions, cut, cutTree}
 use Rattle.build_rules.specs.Facts.{countBelow}
 use Rattle.build_rules.proofs.Parts.{Rising, within-none, cut-first, cut-rise, cut-top, part-is}
 
@@ -99,7 +99,7 @@ within-nested low high a top (y ∷ ys) p q = go (decLt y low) (decLt y high) (d
     ) e
     go (no b) (no c) d (no f) e = rw (within-no a top y ys (λ u v. omega arith), within-no low high y ys (λ u v. omega arith)) e
 
-pub part-within : (a s : ℕ) (ys : List ℕ) (i : ℕ) → i < 4 → part a s (within a (a + s) ys) i ≡ within (cutAt a s i) (cutAt a s (suc i)) ys
+pub part-within : (a s : ℕ) (ys : List ℕ) (i : ℕ) → i < 4 → cutPart a s (within a (a + s) ys) i ≡ within (cutAt a s i) (cutAt a s (suc i)) ys
 part-within a s ys i h =
     part-is a s (within a (a + s) ys) i
     ∙ within-nested (cutAt a s i) (cutAt a s (suc i)) a (a + s) ys (low i) (cut-top a s (suc i) (3 - i) (omega arith))

@@ -23,7 +23,7 @@ use Rattle.tree.proofs.Ranges.{tree-span}
 use Rattle.tree.proofs.Sums.{sum-all, all-counted}
 use Rattle.tree.proofs.Theorems.{sane-of}
 use Rattle.tree_encode.specs.Encode.{encode}
-use Rattle.tree_encode.specs.Facts.{SoundTree, Small}
+use Rattle.tree_encode.specs.Facts.{SoundTree, SmallTree}
 use Rattle.tree_encode.proofs.Theorems.{written}
 use Rattle.check_rules.specs.Truth.{trueTree, trueBeside}
 use Rattle.check_rules.specs.Facts.{TrueNumbers, Same}
@@ -116,7 +116,7 @@ module _ (g : Given) (junctions : ℕ) (ys : List ℕ) (lim : InLimits g junctio
     shape = shape-facts t sane there shape-ok;
   }
 
-  small : Small t
+  small : SmallTree t
   unfolding cutTree
   small = record {
     junctions = omega (arith, lim .junctions-in .1);

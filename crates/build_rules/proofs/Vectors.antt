@@ -13,9 +13,10 @@ use Rattle.tree_layout.specs.Refusal.{comes}
 use Rattle.tree_layout.proofs.Vectors.{netN, fiveRegions}
 use Rattle.tree_encode.specs.Encode.{encodeElement, encodeList, encodeLeafMark, encodeInnerMark, encodeMark, encodeMarks, encodeRegion, encodeRegions}
 use Rattle.tree_encode.specs.Encode.{encodeBody, encode}
-use Rattle.check_rules.specs.Truth.{leastFrom, least, greatestFrom, greatest, within}
-use Rattle.build_rules.specs.Cut.{Given, outside, leadsOut, isBorder, bordersFrom, borders, landmark, landmarksFrom, landmarksOf, earlier, later, insert}
-use Rattle.build_rules.specs.Cut.{rankInto, ranked, leafRegion, innerRegion, cutAt, part, partCount, partRegions, cut, cutTree}
+use Rattle.check_rules.specs.Truth.{leastDistanceFrom, least, greatestFrom, greatest, within}
+use Rattle.build_rules.specs.Cut.{Given, outside, leadsOut, isBorder, bordersFrom, borders, landmark, landmarksFrom, landmarksOf, earlier, later}
+use Rattle.build_rules.specs.Cut.{insertElement}
+use Rattle.build_rules.specs.Cut.{rankInto, rankedList, leafRegion, innerRegion, cutAt, cutPart, partCount, partRegions, cut, cutTree}
 use Rattle.build_rules.specs.Facts.{InLimits, Built}
 use Rattle.build_rules.proofs.Theorems.{built}
 
@@ -43,32 +44,38 @@ treeN limit = cutTree (givenN limit) 5 (1 ∷ 3 ∷ 4 ∷ [])
 -- "leaf limit 3. Its tree in hexadecimal: .."
 pub net-N : encode (treeN 3) ≡ netN
 unfolding netN chain givenN treeN choose u16Bytes u32Bytes leafMark innerMark firstDistance lastFrom comes encodeElement encodeList encodeLeafMark
-    encodeInnerMark encodeMark encodeMarks encodeRegion encodeRegions encodeBody encode leastFrom least greatestFrom greatest within outside leadsOut isBorder
-    bordersFrom borders landmark landmarksFrom landmarksOf earlier later insert rankInto ranked leafRegion innerRegion cutAt part partCount partRegions cut
+    encodeInnerMark encodeMark encodeMarks encodeRegion encodeRegions encodeBody encode leastDistanceFrom least greatestFrom greatest within outside leadsOut
+    isBorder
+    bordersFrom borders landmark landmarksFrom landmarksOf earlier later insertElement rankInto rankedList leafRegion innerRegion cutAt cutPart partCount
+    partRegions cut
     cutTree
 net-N = refl
 
 -- with leaf limit 1 a root, a leaf, an inner region with two leaves
 pub five : encode (treeN 1) ≡ fiveRegions
 unfolding fiveRegions chain givenN treeN choose u16Bytes u32Bytes leafMark innerMark firstDistance lastFrom comes encodeElement encodeList encodeLeafMark
-    encodeInnerMark encodeMark encodeMarks encodeRegion encodeRegions encodeBody encode leastFrom least greatestFrom greatest within outside leadsOut isBorder
-    bordersFrom borders landmark landmarksFrom landmarksOf earlier later insert rankInto ranked leafRegion innerRegion cutAt part partCount partRegions cut
+    encodeInnerMark encodeMark encodeMarks encodeRegion encodeRegions encodeBody encode leastDistanceFrom least greatestFrom greatest within outside leadsOut
+    isBorder
+    bordersFrom borders landmark landmarksFrom landmarksOf earlier later insertElement rankInto rankedList leafRegion innerRegion cutAt cutPart partCount
+    partRegions cut
     cutTree
 five = refl
 
 -- with yards 3 and 4 only, the range of all junctions has one part with yards, from junction 3 on, which takes its place
 pub one-child : map (λ (r : Region). r .first ∷ r .after ∷ r .children ∷ []) (cutTree (givenN 1) 5 (3 ∷ 4 ∷ []) .regions)
     ≡ (3 ∷ 5 ∷ 2 ∷ []) ∷ (3 ∷ 4 ∷ 0 ∷ []) ∷ (4 ∷ 5 ∷ 0 ∷ []) ∷ []
-unfolding chain givenN choose leafMark innerMark firstDistance lastFrom comes leastFrom least greatestFrom greatest within outside leadsOut isBorder
-    bordersFrom borders landmark landmarksFrom landmarksOf earlier later insert rankInto ranked leafRegion innerRegion cutAt part partCount partRegions cut
+unfolding chain givenN choose leafMark innerMark firstDistance lastFrom comes leastDistanceFrom least greatestFrom greatest within outside leadsOut isBorder
+    bordersFrom borders landmark landmarksFrom landmarksOf earlier later insertElement rankInto rankedList leafRegion innerRegion cutAt cutPart partCount
+    partRegions cut
     cutTree
 one-child = refl
 
 -- two landmarks of the range of junctions 1 to 3, whose border junctions are 1 and 3; and of all five, which has none: floor(0 × 5 / 2) and floor(1 × 5 / 2)
 pub two-landmarks : landmarksFrom 2 1 3 (borders (givenN 1 .roads) 1 3) 2 0 ∷ landmarksFrom 2 0 5 (borders (givenN 1 .roads) 0 5) 2 0 ∷ []
     ≡ (1 ∷ 3 ∷ []) ∷ (0 ∷ 2 ∷ []) ∷ []
-unfolding chain givenN choose leafMark innerMark firstDistance lastFrom comes leastFrom least greatestFrom greatest within outside leadsOut isBorder
-    bordersFrom borders landmark landmarksFrom landmarksOf earlier later insert rankInto ranked leafRegion innerRegion cutAt part partCount partRegions cut
+unfolding chain givenN choose leafMark innerMark firstDistance lastFrom comes leastDistanceFrom least greatestFrom greatest within outside leadsOut isBorder
+    bordersFrom borders landmark landmarksFrom landmarksOf earlier later insertElement rankInto rankedList leafRegion innerRegion cutAt cutPart partCount
+    partRegions cut
     cutTree
 two-landmarks = refl
 

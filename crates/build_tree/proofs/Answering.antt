@@ -14,18 +14,18 @@ use Rattle.book.proofs.Lists.{eq→eqb, ne→neqb}
 use Rattle.work_area.specs.Work.{workWords, workRefusal, zeroed, workAfter}
 use Rattle.work_area.proofs.Zeroing.{work-short, work-enough, enough-work, accepted-zeroed, refused-kept}
 use Rattle.road_layout.specs.Road.{junctions, roadCount}
-use Rattle.road_layout.specs.Layout.{told, numberOf as road-number}
+use Rattle.road_layout.specs.Layout.{told, roadNumber as road-number}
 use Rattle.road_layout.specs.declared.RoadBook.{RoadBook}
 use Rattle.road_layout.specs.declared.RoadBook.the-variants.{Sound, Refused}
 use Rattle.road_layout.proofs.Reading.{told-why, told-sound, number-told}
 use Rattle.road.specs.Refusal.{roadRefusal}
-use Rattle.yard.specs.Yards.{yardCount, yardRefusalIn, yardBook, numberOf}
+use Rattle.yard.specs.Yards.{yardCount, yardRefusalIn, yardBook, yardNumber}
 use Rattle.yard.specs.declared.YardBook.{YardBook}
 use Rattle.yard.specs.declared.YardBook.the-variants.{Yards, Refused as yard-refused}
 use Rattle.yard.proofs.Answering.{yards-number, refused-number, number-is}
 use Rattle.tree_encode.specs.Encode.{encode}
 use Rattle.build_tree.specs.Build.{treeBytes, rangeRefusal, roomRefusal, buildAnswer, builtTree, builtLength, treeAfter}
-use Rattle.build_tree.specs.Facts.{InRange, Areas, Accepted}
+use Rattle.build_tree.specs.Facts.{InRange, BuildAreas, AcceptedBuild}
 
 -- ---- m and the leaf limit
 
@@ -83,7 +83,7 @@ module _ (words room : ℕ) where
   unfolding roomRefusal
   long-enough h k = sym (first-later (workRefusal words) _ (work-enough words h) ∙ passes-if (leb treeBytes room) 12 0 (le-leb treeBytes room k))
 
-  pub room-facts : roomRefusal words room ≡ 0 → Areas words room
+  pub room-facts : roomRefusal words room ≡ 0 → BuildAreas words room
   unfolding roomRefusal
   room-facts e =
       let a = first-none _ _ e in
@@ -92,7 +92,7 @@ module _ (words room : ℕ) where
 -- ---- the whole answer
 
 module _ (road yard : List ℕ) (m limit words room : ℕ) where
-  pub accepted-facts : buildAnswer road yard m limit words room ≡ 0 → Accepted road yard m limit words room
+  pub accepted-facts : buildAnswer road yard m limit words room ≡ 0 → AcceptedBuild road yard m limit words room
   unfolding buildAnswer
   accepted-facts e =
       let a = first-none _ _ e in
@@ -108,7 +108,7 @@ module _ (road yard : List ℕ) (m limit words room : ℕ) where
     pub area-tests : rangeRefusal m limit ≡ 0 → buildAnswer road yard m limit words room ≡ roomRefusal words room
     area-tests e = call-tests ∙ first-later _ _ e
 
-  pub facts-accepted : Accepted road yard m limit words room → buildAnswer road yard m limit words room ≡ 0
+  pub facts-accepted : AcceptedBuild road yard m limit words room → buildAnswer road yard m limit words room ≡ 0
   facts-accepted a =
       area-tests (a .roads) (a .yards) (facts-range m limit (a .range)) ∙ sym (long-enough words room (a .areas .work) (a .areas .tree))
 
@@ -140,10 +140,10 @@ module _ (road yard : List ℕ) (m limit words room : ℕ) where
         on : y ≡ yardBook (yardRefusalIn yard (junctions road)) (yardCount yard)
         on = rw (← road-sound .1) g
 
-        pub build-yard : (why r : ℕ) → y ≡ yard-refused why → r ≡ numberOf y → r ≡ buildAnswer road yard m limit words room
+        pub build-yard : (why r : ℕ) → y ≡ yard-refused why → r ≡ yardNumber y → r ≡ buildAnswer road yard m limit words room
         build-yard why r p q =
             let x = refused-number (yardRefusalIn yard (junctions road)) (yardCount yard) why (sym on ∙ p) in
-            let z : r ≡ yardRefusalIn yard (junctions road) = q ∙ ap numberOf on ∙ number-is (yardRefusalIn yard (junctions road)) (yardCount yard) in
+            let z : r ≡ yardRefusalIn yard (junctions road) = q ∙ ap yardNumber on ∙ number-is (yardRefusalIn yard (junctions road)) (yardCount yard) in
             z ∙ sym (yard-turned (road-sound .0) (omega (arith, x .0, x .1)))
 
         module _ (count : ℕ) (p : y ≡ Yards count) (r : ℕ) (q : r ≡ rangeRefusal m limit) where
@@ -194,7 +194,7 @@ module _ (road yard : List ℕ) (m limit : ℕ) (work tree : List ℕ) (why : �
     pub taken-answer : 0 ≡ buildAnswer road yard m limit (length work) (length tree)
     taken-answer = sym taken
 
-    pub taken-facts : Accepted road yard m limit (length work) (length tree)
+    pub taken-facts : AcceptedBuild road yard m limit (length work) (length tree)
     taken-facts = accepted-facts road yard m limit (length work) (length tree) taken
 
     pub taken-length : (n : ℕ) → n ≡ length (encode (builtTree road yard m limit)) → n ≡ builtLength road yard m limit (length work) (length tree)
@@ -211,6 +211,6 @@ module _ (road yard : List ℕ) (m limit : ℕ) (work tree : List ℕ) (why : �
     taken-tree after q = q ∙ sym (choose-yes (eqb answer 0) (write tree 0 (encode (builtTree road yard m limit))) tree (eq→eqb answer 0 taken))
 
 -- a call is accepted whatever work area beyond the least it has
-pub other-work : (road yard : List ℕ) (m limit words room : ℕ) → Accepted road yard m limit words room → Accepted road yard m limit workWords room
+pub other-work : (road yard : List ℕ) (m limit words room : ℕ) → AcceptedBuild road yard m limit words room → AcceptedBuild road yard m limit workWords room
 other-work road yard m limit words room a =
     record { roads = a .roads; yards = a .yards; range = a .range; areas = record { work = omega arith; tree = a .areas .tree } }

@@ -21,7 +21,7 @@ use Rattle.build_records.proofs.Fields.{given-d, given-landmarks, given-limit}
 use Rattle.build_cuts.specs.Cutting.{rangeRegions}
 use Rattle.build_cuts.proofs.Cases.{range-cut}
 use Rattle.build_tree.specs.Build.{treeBytes, builtTree}
-use Rattle.build_tree.specs.Facts.{Accepted}
+use Rattle.build_tree.specs.Facts.{AcceptedBuild}
 
 -- ---- the tree's fields, beside a yard book whose yards are junctions
 
@@ -60,7 +60,7 @@ module _ (road yard : List ℕ) (m limit : ℕ) (ok : yardRefusalIn yard (juncti
 
 -- ---- an accepted call
 
-module _ (road yard : List ℕ) (m limit words room : ℕ) (acc : Accepted road yard m limit words room) where
+module _ (road yard : List ℕ) (m limit words room : ℕ) (acc : AcceptedBuild road yard m limit words room) where
   pub yards-alone : yardRefusal yard ≡ 0
   yards-alone = passes-alone yard (junctions road) (acc .yards)
 

@@ -14,7 +14,7 @@ use Rattle.tree_encode.specs.Parts.{treeHeader}
 use Rattle.tree_encode.proofs.Parts.{header-length, book-is}
 use Rattle.build_records.specs.declared.Part.{Part}
 use Rattle.build_cuts.specs.declared.Plan.{Plan}
-use Rattle.build_cuts.specs.Writing.{Written}
+use Rattle.build_cuts.specs.Writing.{WrittenRegions}
 use Rattle.build_cuts.specs.Cutting.{regionsOf, Numbered, Range, Room}
 use Rattle.build_tree.specs.Build.{builtTree}
 use Rattle.build_tree.specs.Facts.{AcceptedBy}
@@ -53,7 +53,7 @@ module _ (adj yard : List ℕ) (plan : Plan) (words : ℕ) (tree : List ℕ)
 
     -- ---- what it leaves
 
-    module _ (mid : List ℕ) (q c : ℕ) (w : (road : List ℕ) → Adjacency road adj → Written tree 12 (regionsOf yard plan 5 p road) mid q c) where
+    module _ (mid : List ℕ) (q c : ℕ) (w : (road : List ℕ) → Adjacency road adj → WrittenRegions tree 12 (regionsOf yard plan 5 p road) mid q c) where
       module _ (road : List ℕ) (a : Adjacency road adj) where
         abbrev t : Tree
         t = builtTree road yard (plan .landmarks) (plan .limit)

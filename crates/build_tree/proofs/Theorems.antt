@@ -30,7 +30,7 @@ use Rattle.build_records.proofs.Fields.{given-d, given-limit}
 use Rattle.check_tree.specs.Check.{checkAnswer}
 use Rattle.check_tree.proofs.Theorems.{true-passes}
 use Rattle.build_tree.specs.Build.{rangeRefusal, roomRefusal, buildAnswer, builtTree, builtLength, treeAfter}
-use Rattle.build_tree.specs.Facts.{InRange, Areas, Accepted, Refusals, Kept, writtenBook, Writes, BuildExact}
+use Rattle.build_tree.specs.Facts.{InRange, BuildAreas, AcceptedBuild, Refusals, Kept, writtenBook, Writes, BuildExact}
 use Rattle.build_tree.proofs.Heading.{written-front, written-rest, written-whole}
 use Rattle.build_tree.proofs.Limits.{built-tree, its-junctions, short}
 use Rattle.build_tree.proofs.Answering.{range-facts, facts-range, room-facts, long-enough, accepted-facts, facts-accepted, call-tests, area-tests}
@@ -82,20 +82,20 @@ module _ (road yard : List ℕ) (m limit words room : ℕ) where
         from : (InRange m limit → ⊥) → answer ≡ 11
         from h = go h (range-cases m limit)
 
-    twelve : InRange m limit → (buildAnswer road yard m limit words room ≡ 12) ↔ (Areas words room → ⊥)
+    twelve : InRange m limit → (buildAnswer road yard m limit words room ≡ 12) ↔ (BuildAreas words room → ⊥)
     twelve f = (to, from)
       where
         tests : answer ≡ roomRefusal words room
         tests = area-tests road yard m limit words room rok yok (facts-range m limit f)
 
-        to : answer ≡ 12 → Areas words room → ⊥
+        to : answer ≡ 12 → BuildAreas words room → ⊥
         to e a = omega (arith, tests, long-enough words room (a .work) (a .tree))
 
-        go : (Areas words room → ⊥) → (roomRefusal words room ≡ 0) ⊎ (roomRefusal words room ≡ 12) → answer ≡ 12
+        go : (BuildAreas words room → ⊥) → (roomRefusal words room ≡ 0) ⊎ (roomRefusal words room ≡ 12) → answer ≡ 12
         go h (inl e) = absurd (h (room-facts words room e))
         go h (inr e) = tests ∙ e
 
-        from : (Areas words room → ⊥) → answer ≡ 12
+        from : (BuildAreas words room → ⊥) → answer ≡ 12
         from h = go h (room-cases words room)
 
   pub build-refusals : Refusals road yard m limit words room
@@ -118,7 +118,7 @@ module _ (road yard : List ℕ) (m limit : ℕ) (work tree : List ℕ) where
   }
 
   module _ (z : buildAnswer road yard m limit (length work) (length tree) ≡ 0) where
-    acc : Accepted road yard m limit (length work) (length tree)
+    acc : AcceptedBuild road yard m limit (length work) (length tree)
     acc = accepted-facts road yard m limit (length work) (length tree) z
 
     abbrev t : Tree

@@ -25,22 +25,22 @@ pub record InRange (m limit : ℕ) : Type 0 where
   pub leaf : (1 ≤ limit) × (limit ≤ 256)
 
 -- both areas are long enough
-pub record Areas (words room : ℕ) : Type 0 where
+pub record BuildAreas (words room : ℕ) : Type 0 where
   pub work : workWords ≤ words
   pub tree : treeBytes ≤ room
 
 -- a call that is accepted
-pub record Accepted (road yard : List ℕ) (m limit words room : ℕ) : Type 0 where
+pub record AcceptedBuild (road yard : List ℕ) (m limit words room : ℕ) : Type 0 where
   pub roads : roadRefusal road ≡ 0
   pub yards : yardRefusalIn yard (junctions road) ≡ 0
   pub range : InRange m limit
-  pub areas : Areas words room
+  pub areas : BuildAreas words room
 
 -- a call that is accepted with some road book, which adj is the adjacency of
 pub record AcceptedBy (adj yard : List ℕ) (m limit words room : ℕ) : Type 0 where
   pub book : List ℕ
   pub adjacent : Adjacency book adj
-  pub accepted : Accepted book yard m limit words room
+  pub accepted : AcceptedBuild book yard m limit words room
 
 -- which call each number turns back
 pub record Refusals (road yard : List ℕ) (m limit words room : ℕ) : Type 0 where
@@ -53,9 +53,9 @@ pub record Refusals (road yard : List ℕ) (m limit words room : ℕ) : Type 0 w
   pub eleven : roadRefusal road ≡ 0 → yardRefusalIn yard (junctions road) ≡ 0
       → (buildAnswer road yard m limit words room ≡ 11) ↔ (InRange m limit → ⊥)
   pub twelve : roadRefusal road ≡ 0 → yardRefusalIn yard (junctions road) ≡ 0 → InRange m limit
-      → (buildAnswer road yard m limit words room ≡ 12) ↔ (Areas words room → ⊥)
+      → (buildAnswer road yard m limit words room ≡ 12) ↔ (BuildAreas words room → ⊥)
   -- and no other call is turned back
-  pub none : (buildAnswer road yard m limit words room ≡ 0) ↔ Accepted road yard m limit words room
+  pub none : (buildAnswer road yard m limit words room ≡ 0) ↔ AcceptedBuild road yard m limit words room
 
 -- a call that is turned back returns no length and changes no byte and no word
 pub record Kept (road yard : List ℕ) (m limit : ℕ) (work tree : List ℕ) : Type 0 where

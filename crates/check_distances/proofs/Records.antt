@@ -10,7 +10,7 @@ use Rattle.book.proofs.Lists.{getD-mem}
 use Rattle.tree_layout.specs.Values.{Mark, Region, noMark, noRegion, regionAt}
 use Rattle.tree_layout.specs.Decode.{readRegion, sizeAt, markSize, junctionCount, regionCount, landmarkCount, placeOf, decode}
 use Rattle.tree_layout.specs.Facts.{TreeLayout}
-use Rattle.tree_layout.specs.Refusal.{all, layoutRefusal}
+use Rattle.tree_layout.specs.Refusal.{all, treeLayoutRefusal}
 use Rattle.tree_layout.specs.Reading.{headerOf}
 use Rattle.tree_layout.specs.Marks.{marksAt, markPlace, RecordAt}
 use Rattle.tree_layout.specs.declared.Header.{Header}
@@ -56,7 +56,7 @@ marks-done b at m f j e h = all-ends f (marksAt b at) j (omega (arith, marks-cou
 
 -- ---- region k of a book of sound layout, whose record stands at a place
 
-module _ (b : List ℕ) (ok : layoutRefusal b ≡ 0) (k : ℕ) (h : k < regionCount b) (at : ℕ) (place : at ≡ placeOf b k) where
+module _ (b : List ℕ) (ok : treeLayoutRefusal b ≡ 0) (k : ℕ) (h : k < regionCount b) (at : ℕ) (place : at ≡ placeOf b k) where
   layout : TreeLayout b
   layout = layout-facts b ok
 

@@ -17,7 +17,7 @@ use Rattle.tree_layout.specs.Decode.{landmarkCount}
 use Rattle.tree_layout.specs.Marks.{marksAt, landmarkOf}
 use Rattle.tree_layout.specs.Refusal.{all}
 use Rattle.tree_layout.specs.declared.Landmark.{Landmark}
-use Rattle.check_rules.specs.Truth.{leastFrom, greatestFrom, trueSpan, within}
+use Rattle.check_rules.specs.Truth.{leastDistanceFrom, greatestFrom, trueSpan, within}
 use Rattle.check_rules.proofs.Extremes.{least-none, least-next, least-from, greatest-none, greatest-next, greatest-from}
 use Rattle.check_rules.proofs.Testing.{span-test}
 use Rattle.check_rules.proofs.Within.{within-yes, within-no, within-empty}
@@ -69,14 +69,14 @@ module _ (fold : ℕ → List ℕ → ℕ) (next : ℕ → ℕ → ℕ) (none : 
 
 module _ (f : ℕ → ℕ) (low high : ℕ) where
   module _ (x y : ℕ) where
-    pub least-low : y < low → x ≡ leastFrom f x (within low high (y ∷ []))
-    least-low h = outside (leastFrom f) (λ a b. min a (f b)) (least-none f) (least-next f) low high x y (inl h)
+    pub least-low : y < low → x ≡ leastDistanceFrom f x (within low high (y ∷ []))
+    least-low h = outside (leastDistanceFrom f) (λ a b. min a (f b)) (least-none f) (least-next f) low high x y (inl h)
 
-    pub least-high : high ≤ y → x ≡ leastFrom f x (within low high (y ∷ []))
-    least-high h = outside (leastFrom f) (λ a b. min a (f b)) (least-none f) (least-next f) low high x y (inr h)
+    pub least-high : high ≤ y → x ≡ leastDistanceFrom f x (within low high (y ∷ []))
+    least-high h = outside (leastDistanceFrom f) (λ a b. min a (f b)) (least-none f) (least-next f) low high x y (inr h)
 
-    pub least-in : low ≤ y → y < high → (z : ℕ) → z ≡ min x (f y) → z ≡ leastFrom f x (within low high (y ∷ []))
-    least-in h l z e = e ∙ inside (leastFrom f) (λ a b. min a (f b)) (least-none f) (least-next f) low high x y h l
+    pub least-in : low ≤ y → y < high → (z : ℕ) → z ≡ min x (f y) → z ≡ leastDistanceFrom f x (within low high (y ∷ []))
+    least-in h l z e = e ∙ inside (leastDistanceFrom f) (λ a b. min a (f b)) (least-none f) (least-next f) low high x y h l
 
     pub greatest-low : y < low → x ≡ greatestFrom f x (within low high (y ∷ []))
     greatest-low h = outside (greatestFrom f) (λ a b. max a (f b)) (greatest-none f) (greatest-next f) low high x y (inl h)
@@ -88,12 +88,12 @@ module _ (f : ℕ → ℕ) (low high : ℕ) where
     greatest-in h l z e = e ∙ inside (greatestFrom f) (λ a b. max a (f b)) (greatest-none f) (greatest-next f) low high x y h l
 
   module _ (ys : List ℕ) where
-    pub least-turn : (k x z y : ℕ) → k < length ys → y ≡ getD ys k 0 → z ≡ leastFrom f x (within low high (y ∷ []))
-        → leastFrom f z (within low high (drop (k + 1) ys)) ≡ leastFrom f x (within low high (drop k ys))
-    least-turn k x z y h e g = turn (leastFrom f) (λ a b. min a (f b)) (least-none f) (least-next f) low high ys k x z y h e g
+    pub least-turn : (k x z y : ℕ) → k < length ys → y ≡ getD ys k 0 → z ≡ leastDistanceFrom f x (within low high (y ∷ []))
+        → leastDistanceFrom f z (within low high (drop (k + 1) ys)) ≡ leastDistanceFrom f x (within low high (drop k ys))
+    least-turn k x z y h e g = turn (leastDistanceFrom f) (λ a b. min a (f b)) (least-none f) (least-next f) low high ys k x z y h e g
 
-    pub least-end : (k x : ℕ) → length ys ≤ k → leastFrom f x (within low high (drop k ys)) ≡ x
-    least-end k x h = ended (leastFrom f) (λ a b. min a (f b)) (least-none f) (least-next f) low high ys k x h
+    pub least-end : (k x : ℕ) → length ys ≤ k → leastDistanceFrom f x (within low high (drop k ys)) ≡ x
+    least-end k x h = ended (leastDistanceFrom f) (λ a b. min a (f b)) (least-none f) (least-next f) low high ys k x h
 
     pub greatest-turn : (k x z y : ℕ) → k < length ys → y ≡ getD ys k 0 → z ≡ greatestFrom f x (within low high (y ∷ []))
         → greatestFrom f z (within low high (drop (k + 1) ys)) ≡ greatestFrom f x (within low high (drop k ys))
@@ -104,7 +104,7 @@ module _ (f : ℕ → ℕ) (low high : ℕ) where
 
 -- ---- least and greatest against what was found
 
-module _ (ds zs : List ℕ) (least greatest low high : ℕ) (e : low ≡ leastFrom (at ds) far zs) where
+module _ (ds zs : List ℕ) (least greatest low high : ℕ) (e : low ≡ leastDistanceFrom (at ds) far zs) where
   pub least-other : (least ≡ low → ⊥) → false ≡ spanIn ds zs least greatest
   unfolding spanIn
   least-other h = rw (← e) (sym (simp (ne-eqb _ _ h)))

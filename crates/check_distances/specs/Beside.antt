@@ -8,7 +8,7 @@ use Rattle.yard.specs.Yards.{yardsOf, yardRefusal}
 use Rattle.tree_layout.specs.Values.{Mark, Region}
 use Rattle.tree_layout.specs.Decode.{junctionCount, decode}
 use Rattle.tree_layout.specs.Marks.{marksAt, RecordAt}
-use Rattle.tree_layout.specs.Refusal.{layoutRefusal}
+use Rattle.tree_layout.specs.Refusal.{treeLayoutRefusal}
 use Rattle.check_rules.specs.Truth.{within}
 
 -- the record at a place of a tree book is whole, and its landmarks are junctions of the adjacency's road book
@@ -21,6 +21,6 @@ pub record Marked (adj tree : List ℕ) (at : ℕ) : Type 0 where
 pub record Beside (adj yard tree : List ℕ) : Type 0 where
   pub roads : IsAdjacency adj
   pub yards : yardRefusal yard ≡ 0
-  pub regions : layoutRefusal tree ≡ 0
+  pub regions : treeLayoutRefusal tree ≡ 0
   pub counts : junctionCount tree ≡ countIn adj
   pub held : (r : Region) → Mem r (decode tree .regions) → 0 < length (within (r .first) (r .after) (yardsOf yard))

@@ -10,7 +10,7 @@ use Rattle.adjacency.specs.Adjacency.{Adjacency}
 use Rattle.road.specs.Dijkstra.{far, at, distances}
 use Rattle.tree_layout.specs.Values.{Element}
 use Rattle.tree_layout.specs.Refusal.{all}
-use Rattle.check_rules.specs.Truth.{leastFrom, greatestFrom}
+use Rattle.check_rules.specs.Truth.{leastDistanceFrom, greatestFrom}
 
 -- the distances from junction u, by junction
 unfoldable pub distancesFrom : List ℕ → ℕ → List ℕ
@@ -31,4 +31,4 @@ listIn ds es = all (elementIn ds) es
 -- least and greatest are those of the distances that a row has for some yards:
 -- the least from the mark down, the greatest from 0 up
 unfoldable pub spanIn : List ℕ → List ℕ → ℕ → ℕ → Bool
-spanIn ds ys least greatest = eqb least (leastFrom (at ds) far ys) && eqb greatest (greatestFrom (at ds) 0 ys)
+spanIn ds ys least greatest = eqb least (leastDistanceFrom (at ds) far ys) && eqb greatest (greatestFrom (at ds) 0 ys)

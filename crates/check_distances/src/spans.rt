@@ -13,13 +13,13 @@ ghost use Rattle.yard.specs.Yards.{yardsOf, yardRefusal};
 ghost use Rattle.tree_layout.specs.Decode.{landmarkCount};
 ghost use Rattle.tree_layout.specs.Marks.{marksAt};
 ghost use Rattle.tree_layout.specs.Refusal.{all};
-ghost use Rattle.check_rules.specs.Truth.{leastFrom, greatestFrom, trueSpan, within};
+ghost use Rattle.check_rules.specs.Truth.{leastDistanceFrom, greatestFrom, trueSpan, within};
 ghost use Rattle.check_distances.specs.Row.{spanIn};
 ghost use Rattle.check_distances.specs.Beside.{Marked};
 
 // The lesser of x and yard y's distance, if y lies in the region's range; else x.
 fn least_with(ds: &[u32], f: Fields, x: u32, y: u16) -> u32
-    ensures { λ r. ⌜ r ≡ leastFrom (at (now (ds .entry))) x (within (f .first) (f .after) (y ∷ [])) ⌝ }
+    ensures { λ r. ⌜ r ≡ leastDistanceFrom (at (now (ds .entry))) x (within (f .first) (f .after) (y ∷ [])) ⌝ }
 {
     if y < f.first {
         return x;

@@ -7,18 +7,18 @@ use Prim.Native.Nat.{ℕ, zero, suc, _+_, _≤_, _<_, min, max}
 use native.Mathlib.Decide.{decLt}
 use native.Mathlib.Omega.{arith}
 use lib.ListN.{length}
-use Rattle.check_rules.specs.Truth.{leastFrom, least, greatestFrom, greatest}
+use Rattle.check_rules.specs.Truth.{leastDistanceFrom, least, greatestFrom, greatest}
 use Rattle.check_rules.specs.Facts.{IsLeast, IsGreatest, Same}
 
 -- ---- one yard at a time
 
 module _ (f : ℕ → ℕ) (x : ℕ) where
-  pub least-none : leastFrom f x [] ≡ x
-  unfolding leastFrom
+  pub least-none : leastDistanceFrom f x [] ≡ x
+  unfolding leastDistanceFrom
   least-none = refl
 
-  pub least-next : (y : ℕ) (ys : List ℕ) → leastFrom f x (y ∷ ys) ≡ leastFrom f (min x (f y)) ys
-  unfolding leastFrom
+  pub least-next : (y : ℕ) (ys : List ℕ) → leastDistanceFrom f x (y ∷ ys) ≡ leastDistanceFrom f (min x (f y)) ys
+  unfolding leastDistanceFrom
   least-next y ys = refl
 
   pub greatest-none : greatestFrom f x [] ≡ x
@@ -30,12 +30,12 @@ module _ (f : ℕ → ℕ) (x : ℕ) where
   greatest-next y ys = refl
 
 -- from a number that none is above, or none below, they are the list's own
-pub least-from : (f : ℕ → ℕ) (x : ℕ) (ys : List ℕ) → 0 < length ys → ((y : ℕ) → Mem y ys → f y ≤ x) → leastFrom f x ys ≡ least f ys
-unfolding leastFrom least
+pub least-from : (f : ℕ → ℕ) (x : ℕ) (ys : List ℕ) → 0 < length ys → ((y : ℕ) → Mem y ys → f y ≤ x) → leastDistanceFrom f x ys ≡ least f ys
+unfolding leastDistanceFrom least
 least-from f x [] h m = absurd (omega arith)
 least-from f x (y ∷ ys) h m =
     let e : min x (f y) ≡ f y = omega (arith, m y (head refl)) in
-    ap (λ (z : ℕ). leastFrom f z ys) e
+    ap (λ (z : ℕ). leastDistanceFrom f z ys) e
 
 pub greatest-from : (f : ℕ → ℕ) (ys : List ℕ) → 0 < length ys → greatestFrom f 0 ys ≡ greatest f ys
 unfolding greatestFrom greatest
@@ -46,27 +46,27 @@ greatest-from f (y ∷ ys) h =
 
 -- ---- a least that starts from x
 
-least-from-le : (f : ℕ → ℕ) (x : ℕ) (ys : List ℕ) → leastFrom f x ys ≤ x
-unfolding leastFrom
+least-from-le : (f : ℕ → ℕ) (x : ℕ) (ys : List ℕ) → leastDistanceFrom f x ys ≤ x
+unfolding leastDistanceFrom
 least-from-le f x [] = omega arith
 least-from-le f x (y ∷ ys) = omega (arith, least-from-le f (min x (f y)) ys)
 
-least-from-mem : (f : ℕ → ℕ) (x : ℕ) (ys : List ℕ) (y : ℕ) → Mem y ys → leastFrom f x ys ≤ f y
-unfolding leastFrom
+least-from-mem : (f : ℕ → ℕ) (x : ℕ) (ys : List ℕ) (y : ℕ) → Mem y ys → leastDistanceFrom f x ys ≤ f y
+unfolding leastDistanceFrom
 least-from-mem f x [] y k = absurd (not-nil k)
 least-from-mem f x (z ∷ zs) y k = go (cases-cons k) (λ j. least-from-mem f (min x (f z)) zs y j)
   where
-    go : (y ≡ z) ⊎ Mem y zs → (Mem y zs → leastFrom f (min x (f z)) zs ≤ f y) → leastFrom f (min x (f z)) zs ≤ f y
+    go : (y ≡ z) ⊎ Mem y zs → (Mem y zs → leastDistanceFrom f (min x (f z)) zs ≤ f y) → leastDistanceFrom f (min x (f z)) zs ≤ f y
     go (inl e) rec = rw e (omega (arith, least-from-le f (min x (f z)) zs))
     go (inr j) rec = rec j
 
-least-from-reached : (f : ℕ → ℕ) (x : ℕ) (ys : List ℕ) → (leastFrom f x ys ≡ x) ⊎ ((y : ℕ) × Mem y ys × (f y ≡ leastFrom f x ys))
-unfolding leastFrom
+least-from-reached : (f : ℕ → ℕ) (x : ℕ) (ys : List ℕ) → (leastDistanceFrom f x ys ≡ x) ⊎ ((y : ℕ) × Mem y ys × (f y ≡ leastDistanceFrom f x ys))
+unfolding leastDistanceFrom
 least-from-reached f x [] = inl refl
 least-from-reached f x (y ∷ ys) = go (least-from-reached f (min x (f y)) ys) (decLt x (f y))
   where
-    go : (leastFrom f (min x (f y)) ys ≡ min x (f y)) ⊎ ((z : ℕ) × Mem z ys × (f z ≡ leastFrom f (min x (f y)) ys)) → Dec (x < f y)
-        → (leastFrom f (min x (f y)) ys ≡ x) ⊎ ((z : ℕ) × Mem z (y ∷ ys) × (f z ≡ leastFrom f (min x (f y)) ys))
+    go : (leastDistanceFrom f (min x (f y)) ys ≡ min x (f y)) ⊎ ((z : ℕ) × Mem z ys × (f z ≡ leastDistanceFrom f (min x (f y)) ys)) → Dec (x < f y)
+        → (leastDistanceFrom f (min x (f y)) ys ≡ x) ⊎ ((z : ℕ) × Mem z (y ∷ ys) × (f z ≡ leastDistanceFrom f (min x (f y)) ys))
     go (inl e) (yes h) = inl (omega arith)
     go (inl e) (no h) = inr (y, head refl, omega arith)
     go (inr z) h = inr (z .0, tail (z .1), z .2)
@@ -105,11 +105,12 @@ unfolding least
 least-is f [] h = absurd (omega arith)
 least-is f (y ∷ ys) h = record { reached = some (least-from-reached f (f y) ys); low = λ z k. low z (cases-cons k) }
   where
-    some : (leastFrom f (f y) ys ≡ f y) ⊎ ((z : ℕ) × Mem z ys × (f z ≡ leastFrom f (f y) ys)) → (z : ℕ) × Mem z (y ∷ ys) × (f z ≡ leastFrom f (f y) ys)
+    some : (leastDistanceFrom f (f y) ys ≡ f y) ⊎ ((z : ℕ) × Mem z ys × (f z ≡ leastDistanceFrom f (f y) ys))
+        → (z : ℕ) × Mem z (y ∷ ys) × (f z ≡ leastDistanceFrom f (f y) ys)
     some (inl e) = (y, head refl, sym e)
     some (inr z) = (z .0, tail (z .1), z .2)
 
-    low : (z : ℕ) → (z ≡ y) ⊎ Mem z ys → leastFrom f (f y) ys ≤ f z
+    low : (z : ℕ) → (z ≡ y) ⊎ Mem z ys → leastDistanceFrom f (f y) ys ≤ f z
     low z (inl e) = rw e (least-from-le f (f y) ys)
     low z (inr k) = least-from-mem f (f y) ys z k
 
@@ -158,7 +159,7 @@ least-greatest f ys x z a b = omega (arith, a .low (b .reached .0) (b .reached .
 
 -- ---- one yard at a time
 
-pub least-cons : (f : ℕ → ℕ) (y : ℕ) (ys : List ℕ) → least f (y ∷ ys) ≡ leastFrom f (f y) ys
+pub least-cons : (f : ℕ → ℕ) (y : ℕ) (ys : List ℕ) → least f (y ∷ ys) ≡ leastDistanceFrom f (f y) ys
 unfolding least
 least-cons f y ys = refl
 

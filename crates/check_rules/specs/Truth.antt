@@ -11,14 +11,14 @@ use Rattle.tree_layout.specs.Refusal.{all}
 use Rattle.tree.specs.Yards.{yardsBelow}
 
 -- the least of x and of a number for each yard of a list
-unfoldable pub leastFrom : (ℕ → ℕ) → ℕ → List ℕ → ℕ
-leastFrom f x [] = x
-leastFrom f x (y ∷ ys) = leastFrom f (min x (f y)) ys
+unfoldable pub leastDistanceFrom : (ℕ → ℕ) → ℕ → List ℕ → ℕ
+leastDistanceFrom f x [] = x
+leastDistanceFrom f x (y ∷ ys) = leastDistanceFrom f (min x (f y)) ys
 
 -- the least of a number for each yard of a list
 unfoldable pub least : (ℕ → ℕ) → List ℕ → ℕ
 least f [] = 0
-least f (y ∷ ys) = leastFrom f (f y) ys
+least f (y ∷ ys) = leastDistanceFrom f (f y) ys
 
 -- the greatest of x and of a number for each yard of a list
 unfoldable pub greatestFrom : (ℕ → ℕ) → ℕ → List ℕ → ℕ

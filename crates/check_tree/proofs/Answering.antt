@@ -12,28 +12,28 @@ use Rattle.book.proofs.Choosing.{passes-if, fails-if, first-earlier, first-late
 use Rattle.work_area.specs.Work.{workWords, workRefusal, zeroed, workAfter}
 use Rattle.work_area.proofs.Zeroing.{work-short, work-enough, enough-work, accepted-zeroed, refused-kept}
 use Rattle.road_layout.specs.Road.{junctions, roadCount}
-use Rattle.road_layout.specs.Layout.{told, numberOf as road-number}
+use Rattle.road_layout.specs.Layout.{told, roadNumber as road-number}
 use Rattle.road_layout.specs.declared.RoadBook.{RoadBook}
 use Rattle.road_layout.specs.declared.RoadBook.the-variants.{Sound, Refused}
 use Rattle.road_layout.proofs.Reading.{told-why, told-sound, number-told}
 use Rattle.adjacency.specs.Adjacency.{countIn, Adjacency, IsAdjacency}
 use Rattle.road.specs.Dijkstra.{dist}
 use Rattle.road.specs.Refusal.{roadRefusal}
-use Rattle.yard.specs.Yards.{yardsOf, yardCount, yardRefusal, yardRefusalIn, yardBook, numberOf}
+use Rattle.yard.specs.Yards.{yardsOf, yardCount, yardRefusal, yardRefusalIn, yardBook, yardNumber}
 use Rattle.yard.specs.declared.YardBook.{YardBook}
 use Rattle.yard.specs.declared.YardBook.the-variants.{Yards, Refused as yard-refused}
 use Rattle.yard.proofs.YardLayout.{passes-alone}
 use Rattle.yard.proofs.Answering.{yards-number, refused-number, number-is}
 use Rattle.tree_layout.specs.Decode.{junctionCount, decode}
 use Rattle.tree_layout.specs.Decode as Book
-use Rattle.tree_layout.specs.Refusal.{layoutRefusal}
+use Rattle.tree_layout.specs.Refusal.{treeLayoutRefusal}
 use Rattle.tree_layout.specs.Reading.{headerOf}
 use Rattle.tree_layout.specs.declared.Header.{Header}
 use Rattle.tree_layout.proofs.Accepting.{facts-layout}
 use Rattle.tree_layout.proofs.Reading.{header-junctions, header-yards}
 use Rattle.tree.specs.Shape.{treeRefusal}
 use Rattle.tree.specs.Yards.{treeYards}
-use Rattle.tree.specs.Answer.{treeOf, numberOf as tree-number}
+use Rattle.tree.specs.Answer.{treeOf, treeNumber as tree-number}
 use Rattle.tree.specs.declared.Tree.{Tree}
 use Rattle.tree.specs.declared.Tree.the-variants.{Shaped, Refused as tree-refused}
 use Rattle.tree.proofs.Theorems.{tree-facts}
@@ -97,11 +97,11 @@ module _ (adj yard tree : List ℕ) (roads : IsAdjacency adj) (alone : yardRefus
   junctions-are : h .junctions ≡ junctionCount tree
   junctions-are = ap (λ (x : Header). x .junctions) (sym (shaped-found tree o h e f .1)) ∙ header-junctions tree
 
-  yards-are : h .yards ≡ Book.yardCount tree
+  yards-are : h .yards ≡ Book.treeYardCount tree
   yards-are = ap (λ (x : Header). x .yards) (sym (shaped-found tree o h e f .1)) ∙ header-yards tree
 
   -- the yards are looked up in a yard book and a tree book of sound layout
-  pub step-needs : (yardRefusal yard ≡ 0) × (layoutRefusal tree ≡ 0)
+  pub step-needs : (yardRefusal yard ≡ 0) × (treeLayoutRefusal tree ≡ 0)
   step-needs = (alone, facts-layout tree (tree-facts tree ok .layout))
 
   module _ (n : ℕ) (en : n ≡ countIn adj) where
@@ -168,10 +168,11 @@ module _ (road : List ℕ) (o : RoadBook) (e : o ≡ told (roadRefusal road) (ju
       on : y ≡ yardBook (yardRefusalIn yard (junctions road)) (yardCount yard)
       on = rw (← road-sound .1) g
 
-      yard-refuses : (why r : ℕ) → y ≡ yard-refused why → r ≡ numberOf y → (r ≡ yardRefusalIn yard (junctions road)) × (1 ≤ yardRefusalIn yard (junctions road))
+      yard-refuses : (why r : ℕ) → y ≡ yard-refused why → r ≡ yardNumber y
+          → (r ≡ yardRefusalIn yard (junctions road)) × (1 ≤ yardRefusalIn yard (junctions road))
       yard-refuses why r p q =
           let x = refused-number (yardRefusalIn yard (junctions road)) (yardCount yard) why (sym on ∙ p) in
-          (q ∙ ap numberOf on ∙ number-is (yardRefusalIn yard (junctions road)) (yardCount yard), omega (arith, x .0, x .1))
+          (q ∙ ap yardNumber on ∙ number-is (yardRefusalIn yard (junctions road)) (yardCount yard), omega (arith, x .0, x .1))
 
       module _ (count : ℕ) (p : y ≡ Yards count) where
         yard-in : yardRefusalIn yard (junctions road) ≡ 0
@@ -190,7 +191,7 @@ module _ (road yard tree : List ℕ) (words : ℕ) (o : RoadBook) (e : o ≡ tol
       q .0 ∙ sym (first-earlier (roadRefusal road) _ (q .1))
 
   module _ (n m : ℕ) (f : o ≡ Sound n m) (y : YardBook) (g : y ≡ yardBook (yardRefusalIn yard n) (yardCount yard)) where
-    pub check-yard : (why r : ℕ) → y ≡ yard-refused why → r ≡ numberOf y → r ≡ checkAnswer road yard tree words
+    pub check-yard : (why r : ℕ) → y ≡ yard-refused why → r ≡ yardNumber y → r ≡ checkAnswer road yard tree words
     unfolding checkAnswer
     check-yard why r p q =
         let x = yard-refuses road o e n m f yard y g why r p q in

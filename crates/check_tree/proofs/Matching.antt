@@ -87,14 +87,14 @@ module _ (yard tree : List ℕ) (yok : yardRefusal yard ≡ 0) (tok : treeRefusa
 
   -- ---- the sets
 
-  tree-length : length (treeYards t) ≡ Book.yardCount tree
+  tree-length : length (treeYards t) ≡ Book.treeYardCount tree
   tree-length = whole .yard-count ∙ decode-yards tree
 
   yard-length : length ys ≡ yardCount yard
   yard-length = rising-yards yard yok .counted
 
   -- as many yards: it is enough that each of the tree's is in the yard book
-  pub counted-same : Book.yardCount tree ≡ yardCount yard → knownTree ys t ≡ sameSet (treeYards t) ys
+  pub counted-same : Book.treeYardCount tree ≡ yardCount yard → knownTree ys t ≡ sameSet (treeYards t) ys
   counted-same e =
       same-test (knownTree ys t) (sameSet (treeYards t) ys)
       (λ k. same-set (treeYards t) ys
@@ -102,10 +102,10 @@ module _ (yard tree : List ℕ) (yok : yardRefusal yard ≡ 0) (tok : treeRefusa
       (λ s. to-known (set-same (treeYards t) ys s .to))
 
   -- not as many: the sets differ
-  pub counts-differ : (Book.yardCount tree ≡ yardCount yard → ⊥) → sameSet (treeYards t) ys ≡ false
+  pub counts-differ : (Book.treeYardCount tree ≡ yardCount yard → ⊥) → sameSet (treeYards t) ys ≡ false
   counts-differ n = T-false (sameSet (treeYards t) ys) (not-T (sameSet (treeYards t) ys) (λ s. n (equal (set-same (treeYards t) ys s))))
     where
-      equal : Same (treeYards t) ys → Book.yardCount tree ≡ yardCount yard
+      equal : Same (treeYards t) ys → Book.treeYardCount tree ≡ yardCount yard
       equal s = omega (
         arith,
         tree-length,

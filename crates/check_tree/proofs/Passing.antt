@@ -14,12 +14,12 @@ use Rattle.tree.specs.Yards.{treeYards}
 use Rattle.check_rules.specs.Facts.{TrueNumbers, Same}
 use Rattle.check_rules.proofs.Theorems.{tested}
 use Rattle.check_tree.specs.Check.{treeRefusalBeside, checkAnswer}
-use Rattle.check_tree.specs.Facts.{Laid}
+use Rattle.check_tree.specs.Facts.{SoundBeside}
 use Rattle.check_tree.proofs.Sets.{set-same}
 
 module _ (road yard tree : List ℕ) (words : ℕ) (e : checkAnswer road yard tree words ≡ 0) where
   -- the books are sound, the tree is of sound layout and shape and of the road book's junction count, and the work area is full
-  pub passed-laid : Laid road yard tree words
+  pub passed-laid : SoundBeside road yard tree words
   unfolding checkAnswer treeRefusalBeside
   passed-laid =
       let a = first-none _ _ e in

@@ -31,10 +31,10 @@ use Rattle.check_rules.specs.Truth.{trueTree}
 use Rattle.check_rules.specs.Facts.{IsLeast, IsGreatest, TrueNumbers, Same}
 use Rattle.check_rules.proofs.Theorems.{tested}
 use Rattle.check_tree.specs.Check.{sameSet, treeRefusalBeside, checkAnswer}
-use Rattle.check_tree.specs.Facts.{LeafHolds, HoldsEach, LeastTotal, GreatestTotal, TrueTotals, Laid, CheckExact}
+use Rattle.check_tree.specs.Facts.{LeafHolds, HoldsEach, LeastTotal, GreatestTotal, TrueTotals, SoundBeside, CheckExact}
 use Rattle.check_tree.proofs.Sets.{set-same, same-set}
 
-module _ (road yard tree : List ℕ) (words : ℕ) (laid : Laid road yard tree words) where
+module _ (road yard tree : List ℕ) (words : ℕ) (laid : SoundBeside road yard tree words) where
   abbrev t : Tree
   t = decode tree
 
@@ -193,7 +193,7 @@ pub check-exact : CheckExact
 check-exact = exact
 
 -- a tree with the book's yards and true numbers passes
-pub true-passes : (road yard tree : List ℕ) (words : ℕ) → Laid road yard tree words → Same (treeYards (decode tree)) (yardsOf yard)
+pub true-passes : (road yard tree : List ℕ) (words : ℕ) → SoundBeside road yard tree words → Same (treeYards (decode tree)) (yardsOf yard)
     → trueTree (dist road) (decode tree) ≡ true
     → checkAnswer road yard tree words ≡ 0
 true-passes road yard tree words laid s e = there-passes road yard tree words laid s e

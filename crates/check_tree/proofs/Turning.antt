@@ -21,7 +21,7 @@ use Rattle.tree.specs.Shape.{treeRefusal}
 use Rattle.tree.specs.Yards.{treeYards}
 use Rattle.check_rules.specs.Truth.{trueTree}
 use Rattle.check_tree.specs.Check.{sameSet, treeRefusalBeside, checkAnswer}
-use Rattle.check_tree.specs.Facts.{HoldsEach, TrueTotals, Laid}
+use Rattle.check_tree.specs.Facts.{HoldsEach, TrueTotals, SoundBeside}
 use Rattle.check_tree.proofs.Theorems.{yards-exact, totals-exact}
 
 -- a test that leads to what does not hold fails
@@ -64,7 +64,7 @@ module _ (road yard tree : List ℕ) (words : ℕ) where
         counts-next h = by-tree 8 (first-later _ _ s ∙ fails-if (eqb (junctionCount tree) (junctions road)) 8 _ (ne-eqb _ _ h)) (omega arith)
 
         module _ (c : junctionCount tree ≡ junctions road) where
-          laid : Laid road yard tree workWords
+          laid : SoundBeside road yard tree workWords
           laid = record { roads = r; yards = y; shape = s; counts = c; full = omega arith }
 
           yards-there : treeRefusalBeside road yard tree
@@ -96,7 +96,7 @@ module _ (road yard tree : List ℕ) (words : ℕ) where
                 left ∙ first-later _ _ (numbers-there ∙ passes-if _ 9 0 (totals-exact road yard tree workWords laid .1 n)) ∙ work-short words w
 
   -- a check that no test turns back
-  pub none-turned : checkAnswer road yard tree words ≡ 0 → Laid road yard tree words
+  pub none-turned : checkAnswer road yard tree words ≡ 0 → SoundBeside road yard tree words
   unfolding checkAnswer treeRefusalBeside
   none-turned e =
       let a = first-none _ _ e in

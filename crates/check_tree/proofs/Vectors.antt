@@ -9,20 +9,20 @@ use Rattle.book.specs.Bytes.{u8At, u16At, u32At}
 use Rattle.book.specs.Open.{openRefusal}
 use Rattle.work_area.specs.Work.{workRefusal}
 use Rattle.road_layout.specs.Road.{junctions, roadCount, roadAt, roadsTo, roads}
-use Rattle.road_layout.specs.Layout.{after, roadOk, roadsOk, layoutRefusal}
+use Rattle.road_layout.specs.Layout.{after, roadOk, roadsOk, roadLayoutRefusal}
 use Rattle.adjacency.specs.Arcs.{along, back, arcs, net}
-use Rattle.road.specs.Dijkstra.{at, walked, score, nearer, pick, shorten, relaxArc, relax, walkOn, roundAt, rounds, start, walkFrom, distances, dist}
-use Rattle.road.specs.Refusal.{reached, roadRefusal}
-use Rattle.yard.specs.Yards.{yardCount, yardAt, yardsFrom, yardsOf, rises, inside, bodyRefusal, yardRefusal, yardRefusalIn}
+use Rattle.road.specs.Dijkstra.{at, walked, score, nearer, pickNearest, shorten, relaxArc, relax, walkOn, roundAt, rounds, startWalk, walkFrom, distances, dist}
+use Rattle.road.specs.Refusal.{allReached, roadRefusal}
+use Rattle.yard.specs.Yards.{yardCount, yardAt, yardsFrom, yardsOf, yardsRise, inside, yardBodyRefusal, yardRefusal, yardRefusalIn}
 use Rattle.tree_layout.specs.Values.{firstDistance, lastFrom, leafMark, innerMark, noRegion, regionAt}
 use Rattle.tree_layout.specs.Decode.{elementAt, readList, listPart, readLists, readSpans, readMarks, markSize, recordSize, sizeAt, readRegion, readRegions}
-use Rattle.tree_layout.specs.Decode.{junctionCount, regionCount, yardCount as tree_layout-yardCount, landmarkCount, decode}
-use Rattle.tree_layout.specs.Refusal.{between, all, recordsOk, near, comes, risesFrom, rises as tree_layout-rises, listOk, markOk, childrenOk, regionOk}
-use Rattle.tree_layout.specs.Refusal.{valuesOk, layoutRefusal as tree_layout-layoutRefusal}
+use Rattle.tree_layout.specs.Decode.{junctionCount, regionCount, treeYardCount as tree_layout-yardCount, landmarkCount, decode}
+use Rattle.tree_layout.specs.Refusal.{between, all, recordsOk, near, comes, risesFrom, listRises as tree_layout-rises, listOk, markOk, childrenOk, regionOk}
+use Rattle.tree_layout.specs.Refusal.{valuesOk, treeLayoutRefusal as tree_layout-layoutRefusal}
 use Rattle.tree_leaf.specs.Leaf.{yardsIn, names, once, inRange, namedBy, firstList, sameYards, agreeing, leafOk}
 use Rattle.tree.specs.Shape.{childFits, siblings, subtree, shaped, treeRefusal}
-use Rattle.tree.specs.Yards.{endOf, levelBy, ownYards, yardsFrom as tree-yardsFrom, yardsBelow, treeYards}
-use Rattle.check_rules.specs.Truth.{leastFrom, least, greatestFrom, greatest, trueElement, trueList, trueSpan, trueRegion, trueFrom, trueTree}
+use Rattle.tree.specs.Yards.{endOf, levelBy, ownYards, leafYardsFrom as tree-yardsFrom, yardsBelow, treeYards}
+use Rattle.check_rules.specs.Truth.{leastDistanceFrom, least, greatestFrom, greatest, trueElement, trueList, trueSpan, trueRegion, trueFrom, trueTree}
 use Rattle.check_tree.specs.Check.{has, sameSet, treeRefusalBeside, checkAnswer}
 
 -- "junctions 0 to 4 in a chain, seconds 2, 3, 4, 1; yards 1, 3, 4"
@@ -35,23 +35,27 @@ yardN = 0 ∷ 0 ∷ 0 ∷ 9 ∷ 1 ∷ 0 ∷ 3 ∷ 0 ∷ 1 ∷ 0 ∷ 3 ∷ 0 ∷ 
 -- its tree passes
 pub net-n : checkAnswer roadN yardN netN 16384 ≡ 0
 unfolding netN roadN yardN choose refuse firstOf u8At u16At u32At openRefusal workRefusal junctions roadCount roadAt roadsTo roads after roadOk roadsOk
-    layoutRefusal along back arcs net at walked score nearer pick shorten relaxArc relax walkOn roundAt rounds start walkFrom distances dist reached
-    roadRefusal yardCount yardAt yardsFrom yardsOf rises inside bodyRefusal yardRefusal yardRefusalIn firstDistance lastFrom leafMark innerMark noRegion
+    roadLayoutRefusal along back arcs net at walked score nearer pickNearest shorten relaxArc relax walkOn roundAt rounds startWalk walkFrom distances dist
+    allReached
+    roadRefusal yardCount yardAt yardsFrom yardsOf yardsRise inside yardBodyRefusal yardRefusal yardRefusalIn firstDistance lastFrom leafMark innerMark noRegion
     regionAt elementAt readList listPart readLists readSpans readMarks markSize recordSize sizeAt readRegion readRegions junctionCount regionCount
     tree_layout-yardCount landmarkCount decode between all recordsOk near comes risesFrom tree_layout-rises listOk markOk childrenOk regionOk valuesOk
     tree_layout-layoutRefusal yardsIn names once inRange namedBy firstList sameYards agreeing leafOk childFits siblings subtree shaped treeRefusal endOf
-    levelBy ownYards tree-yardsFrom yardsBelow treeYards leastFrom least greatestFrom greatest trueElement trueList trueSpan trueRegion trueFrom trueTree has
+    levelBy ownYards tree-yardsFrom yardsBelow treeYards leastDistanceFrom least greatestFrom greatest trueElement trueList trueSpan trueRegion trueFrom
+    trueTree has
     sameSet treeRefusalBeside checkAnswer
 net-n = refl
 
 -- a distance one too small is a 9, also with a short work area
 pub net-n-small : checkAnswer roadN yardN (set netN 30 8) 16383 ≡ 9
 unfolding netN roadN yardN choose refuse firstOf u8At u16At u32At openRefusal workRefusal junctions roadCount roadAt roadsTo roads after roadOk roadsOk
-    layoutRefusal along back arcs net at walked score nearer pick shorten relaxArc relax walkOn roundAt rounds start walkFrom distances dist reached
-    roadRefusal yardCount yardAt yardsFrom yardsOf rises inside bodyRefusal yardRefusal yardRefusalIn firstDistance lastFrom leafMark innerMark noRegion
+    roadLayoutRefusal along back arcs net at walked score nearer pickNearest shorten relaxArc relax walkOn roundAt rounds startWalk walkFrom distances dist
+    allReached
+    roadRefusal yardCount yardAt yardsFrom yardsOf yardsRise inside yardBodyRefusal yardRefusal yardRefusalIn firstDistance lastFrom leafMark innerMark noRegion
     regionAt elementAt readList listPart readLists readSpans readMarks markSize recordSize sizeAt readRegion readRegions junctionCount regionCount
     tree_layout-yardCount landmarkCount decode between all recordsOk near comes risesFrom tree_layout-rises listOk markOk childrenOk regionOk valuesOk
     tree_layout-layoutRefusal yardsIn names once inRange namedBy firstList sameYards agreeing leafOk childFits siblings subtree shaped treeRefusal endOf
-    levelBy ownYards tree-yardsFrom yardsBelow treeYards leastFrom least greatestFrom greatest trueElement trueList trueSpan trueRegion trueFrom trueTree has
+    levelBy ownYards tree-yardsFrom yardsBelow treeYards leastDistanceFrom least greatestFrom greatest trueElement trueList trueSpan trueRegion trueFrom
+    trueTree has
     sameSet treeRefusalBeside checkAnswer
 net-n-small = refl

@@ -59,7 +59,7 @@ pub record TrueTotals (arcs : List Arc) (rs : List Region) : Type 0 where
 
 -- "Beside a sound road book and yard book, with full areas, a tree of sound layout and shape and of the road book's
 -- junction count"
-pub record Laid (road yard tree : List ℕ) (words : ℕ) : Type 0 where
+pub record SoundBeside (road yard tree : List ℕ) (words : ℕ) : Type 0 where
   pub roads : roadRefusal road ≡ 0
   pub yards : yardRefusalIn yard (junctions road) ≡ 0
   pub shape : treeRefusal tree ≡ 0
@@ -70,6 +70,6 @@ pub record Laid (road yard tree : List ℕ) (words : ℕ) : Type 0 where
 -- no other, and each stored distance is the least total of any walk .., with each least and greatest true of its
 -- region's yards"
 abbrev pub CheckExact : Type 0
-CheckExact = (road yard tree : List ℕ) (words : ℕ) → Laid road yard tree words
+CheckExact = (road yard tree : List ℕ) (words : ℕ) → SoundBeside road yard tree words
     → (checkAnswer road yard tree words ≡ 0)
     ↔ (HoldsEach (decode tree .regions) (yardsOf yard) × TrueTotals (net road) (decode tree .regions))

@@ -7,7 +7,7 @@ ghost use lib.ListN.{length};
 ghost use Rattle.yard.specs.Yards.{yardsOf, yardRefusal};
 ghost use Rattle.tree_layout.specs.Decode.{readList, readRegion, decode, landmarkCount};
 ghost use Rattle.tree_layout.specs.Marks.{RecordAt};
-ghost use Rattle.tree_layout.specs.Refusal.{layoutRefusal};
+ghost use Rattle.tree_layout.specs.Refusal.{treeLayoutRefusal};
 ghost use Rattle.check_tree.specs.Check.{has};
 ghost use Rattle.check_tree.specs.Known.{knownList, knownRegion, knownTree};
 
@@ -62,7 +62,7 @@ fn region_known(yard: &[u8], tree: &[u8], at: usize) -> bool
 
 // Whether a yard book has each yard of a tree's leaves.
 pub fn yards_known(yard: &[u8], tree: &[u8]) -> bool
-    requires { ⌜ (yardRefusal (now yard) ≡ 0) × (layoutRefusal (now tree) ≡ 0) ⌝ }
+    requires { ⌜ (yardRefusal (now yard) ≡ 0) × (treeLayoutRefusal (now tree) ≡ 0) ⌝ }
     ensures { λ r. ⌜ r ≡ knownTree (yardsOf (now (yard .entry))) (decode (now (tree .entry))) ⌝ }
 {
     let h = records::header(tree);

@@ -4,15 +4,15 @@ use mathlib.Core.List.{List}
 use Prim.Native.Nat.{ℕ, _+_, max}
 use native.Mathlib.Numerals.{add-one}
 use lib.ListN.{getD}
-use Rattle.eccentricity.specs.Rows.{furthestOf, totalOf}
+use Rattle.eccentricity.specs.Rows.{furthestOf, rowTotal}
 
 module _ (ds : List ℕ) where
   pub none-far : 0 ≡ furthestOf ds 0
   unfolding furthestOf
   none-far = refl
 
-  pub none-sum : 0 ≡ totalOf ds 0
-  unfolding totalOf
+  pub none-sum : 0 ≡ rowTotal ds 0
+  unfolding rowTotal
   none-sum = refl
 
   module _ (v x y r : ℕ) (read : y ≡ getD ds v 0) where
@@ -20,6 +20,6 @@ module _ (ds : List ℕ) where
     unfolding furthestOf
     further e f = rw (f, add-one, e, read) refl
 
-    pub more : x ≡ totalOf ds v → x + y ≡ totalOf ds (v + 1)
-    unfolding totalOf
+    pub more : x ≡ rowTotal ds v → x + y ≡ rowTotal ds (v + 1)
+    unfolding rowTotal
     more e = rw (add-one, e, read) refl

@@ -10,6 +10,6 @@ furthestOf ds zero = 0
 furthestOf ds (suc n) = max (furthestOf ds n) (getD ds n 0)
 
 -- the sum of the first n distances
-unfoldable pub totalOf : List ℕ → ℕ → ℕ
-totalOf ds zero = 0
-totalOf ds (suc n) = totalOf ds n + getD ds n 0
+unfoldable pub rowTotal : List ℕ → ℕ → ℕ
+rowTotal ds zero = 0
+rowTotal ds (suc n) = rowTotal ds n + getD ds n 0

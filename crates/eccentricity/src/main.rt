@@ -7,7 +7,7 @@ ghost use mathlib.Core.Path.{_≡_};
 ghost use Prim.Native.Nat.{_≤_, _<_, max};
 ghost use lib.ListN.{length};
 ghost use Rattle.adjacency.specs.Adjacency.{countIn, IsAdjacency};
-ghost use Rattle.eccentricity.specs.Rows.{furthestOf, totalOf};
+ghost use Rattle.eccentricity.specs.Rows.{furthestOf, rowTotal};
 
 fn wide(x: u32) -> u64
     ensures { λ r. ⌜ (r ≡ x) × (r < 4294967296) ⌝ }
@@ -38,7 +38,7 @@ fn furthest(ds: &[u32], n: usize) -> u64
 // The sum of the first n distances.
 fn total(ds: &[u32], n: usize) -> u64
     requires { ⌜ (n ≤ length (now ds)) × (n ≤ 1024) ⌝ }
-    ensures { λ r. ⌜ r ≡ totalOf (now (ds .entry)) n ⌝ }
+    ensures { λ r. ⌜ r ≡ rowTotal (now (ds .entry)) n ⌝ }
 {
     let mut sum: u64 = 0;
     let mut v: usize = 0;

@@ -24,8 +24,8 @@ valued crews = record {
 }
 
 -- a list's element at a distance
-unfoldable pub listAt : ℕ → Element
-listAt distance = record { distance = distance; yard = 0 }
+unfoldable pub exampleList : ℕ → Element
+exampleList distance = record { distance = distance; yard = 0 }
 
 -- "For N, sum, k 2, limit 4, crews 0 and 2"; "Below, values not named are the listing's, with limit 6."
 pub record Starred : Type 0 where
@@ -48,7 +48,7 @@ pub record Starred : Type 0 where
   -- "LB 5, UB 20, A 9, B 12: bound 0."
   pub no-bound : crewBound 5 20 9 12 ≡ 0
   -- "Crew values 5, 5, 10 and list 4, 7: f is 8 and 7."
-  pub far-side : (f (valued (5 ∷ 5 ∷ 10 ∷ [])) noMark (listAt 4) ≡ 8)
-      × (f (valued (5 ∷ 5 ∷ 10 ∷ [])) noMark (listAt 7) ≡ 7)
+  pub far-side : (f (valued (5 ∷ 5 ∷ 10 ∷ [])) noMark (exampleList 4) ≡ 8)
+      × (f (valued (5 ∷ 5 ∷ 10 ∷ [])) noMark (exampleList 7) ≡ 7)
   -- "Chain of three, seconds 1 and 1, yards 0 and 2, crew 1, k 1: yard 0."
   pub tied : row (onThree (asking 0 1 6 (1 ∷ []))) ≡ settledRow 2 4 (0 ∷ 1 ∷ [])

@@ -16,7 +16,7 @@ use Rattle.yard.proofs.YardLayout.{yard-layout-in}
 use Rattle.tree.specs.Shape.{treeRefusal}
 use Rattle.tree.proofs.Theorems.{accepted-iff}
 use Rattle.check_tree.specs.Check.{checkAnswer}
-use Rattle.check_tree.specs.Facts.{Laid}
+use Rattle.check_tree.specs.Facts.{SoundBeside}
 use Rattle.check_tree.proofs.Theorems.{check-exact}
 use Rattle.check_tree.proofs.Turning.{road-first, yard-next, tree-next, counts-next, yards-next, numbers-next, work-next, none-turned}
 use Rattle.build_tree.specs.Build.{buildAnswer}
@@ -29,7 +29,8 @@ use Rattle.search_call.proofs.Refusing.{by-areas}
 use Rattle.search_call.proofs.Calls.{on-number, on-refused, on-tests, work-zeroed, areas-kept}
 use Rattle.search_call.proofs.Demand.{demand-3, any-tree}
 use Rattle.search_call.proofs.Lists.{work-unread}
-use Rattle.finder.specs.Promises.{SoundBooks, SoundTree, FirstRefusal, Accepted, CheckSafe, CheckTrue, FirstBuildRefusal, BuildAccepted, BuildSafe}
+use Rattle.finder.specs.Promises.{SoundBooks, SoundTreeBook, FirstRefusal, AcceptedCheck, CheckSafe, CheckTrue, FirstBuildRefusal, BuildAccepted}
+use Rattle.finder.specs.Promises.{BuildSafe}
 use Rattle.finder.specs.Promises.{BuildTrue, SearchAreas, FirstSearchRefusal, SearchAccepted, SearchSafe, SearchesTrue, SearchesDecided}
 
 -- ---- sound books are those that no test turns back
@@ -44,12 +45,12 @@ module _ (road yard : List ℕ) where
   books-sound : roadRefusal road ≡ 0 → yardRefusalIn yard (junctions road) ≡ 0 → SoundBooks road yard
   books-sound r y = let l = yard-layout-in yard (junctions road) .0 y in record { roads = passing-exact road .0 r; yards = l .0; inside = l .1 }
 
-sound-tree : (road tree : List ℕ) → SoundTree road tree → treeRefusal tree ≡ 0
+sound-tree : (road tree : List ℕ) → SoundTreeBook road tree → treeRefusal tree ≡ 0
 sound-tree road tree s = accepted-iff tree .1 (s .facts)
 
 -- ---- demand 2, of check
 
-laid-out : (road yard tree : List ℕ) (words : ℕ) → SoundBooks road yard → workWords ≤ words → SoundTree road tree → Laid road yard tree words
+laid-out : (road yard tree : List ℕ) (words : ℕ) → SoundBooks road yard → workWords ≤ words → SoundTreeBook road tree → SoundBeside road yard tree words
 laid-out road yard tree words b w s =
     record { roads = sound-roads road yard b; yards = sound-yards road yard b; shape = sound-tree road tree s; counts = s .counts; full = w }
 
@@ -70,10 +71,10 @@ module _ (road yard tree : List ℕ) (words : ℕ) where
     by-work = λ b s. work-next road yard tree words (sound-roads road yard b) (sound-yards road yard b) (sound-tree road tree s) (s .counts);
   }
 
-  accepted-exact : (checkAnswer road yard tree words ≡ 0) ↔ Accepted road yard tree words
+  accepted-exact : (checkAnswer road yard tree words ≡ 0) ↔ AcceptedCheck road yard tree words
   accepted-exact = (there, λ a. check-true road yard tree words (a .books) (a .full) (a .tree-sound) .1 (a .yards, a .numbers))
     where
-      there : checkAnswer road yard tree words ≡ 0 → Accepted road yard tree words
+      there : checkAnswer road yard tree words ≡ 0 → AcceptedCheck road yard tree words
       there e =
           let l = none-turned road yard tree words e in
           let x = check-exact road yard tree words l .0 e in
@@ -158,7 +159,7 @@ module _ (c : Call) (a : Areas) where
   abbrev room : ℕ
   room = length (a .results)
 
-  agree : SoundTree (c .road) (c .tree) → treeRefusalIn (c .tree) (junctions (c .road)) ≡ 0
+  agree : SoundTreeBook (c .road) (c .tree) → treeRefusalIn (c .tree) (junctions (c .road)) ≡ 0
   agree s = counts-agree tree (junctions road) (sound-tree road tree s) (s .counts)
 
   -- 12, unless both areas are long enough

@@ -28,7 +28,7 @@ use Rattle.check_tree.specs.Check.{checkAnswer}
 use Rattle.check_tree.specs.Facts.{HoldsEach, TrueTotals}
 use Rattle.build_records.specs.Given.{given}
 use Rattle.build_tree.specs.Build.{treeBytes, buildAnswer, builtTree, builtLength, treeAfter}
-use Rattle.build_tree.specs.Facts.{InRange, Areas, writtenBook}
+use Rattle.build_tree.specs.Facts.{InRange, BuildAreas, writtenBook}
 use Rattle.query.specs.Query.{kOf, queryRefusal, QueryLayout}
 use Rattle.search_call.specs.Call.{Call, Found, foundOn, callOn, Areas as Lent, refused as refusedWith}
 use Rattle.search_call.specs.Demand.{Promised, OfBytes, AnyTree, WorkUnread}
@@ -45,7 +45,7 @@ pub record SoundBooks (road yard : List ℕ) : Type 0 where
   pub inside : (i : ℕ) → i < yardCount yard → yardAt yard i < junctions road
 
 -- "a tree of sound layout and shape and of the road book's junction count"
-pub record SoundTree (road tree : List ℕ) : Type 0 where
+pub record SoundTreeBook (road tree : List ℕ) : Type 0 where
   -- the paper's "Tree book" and "Tree shape", sentence by sentence
   pub facts : TreeFacts tree
   pub counts : junctionCount tree ≡ junctions road
@@ -78,18 +78,18 @@ pub record FirstRefusal (road yard tree : List ℕ) (words answer : ℕ) : Type 
   pub by-tree : SoundBooks road yard → treeRefusal tree ≢ 0 → answer ≡ treeRefusal tree
   -- 8: "Junction counts or yards disagree between books"
   pub by-counts : SoundBooks road yard → TreeFacts tree → junctionCount tree ≢ junctions road → answer ≡ 8
-  pub by-yards : SoundBooks road yard → SoundTree road tree → (YardsHeld yard tree → ⊥) → answer ≡ 8
+  pub by-yards : SoundBooks road yard → SoundTreeBook road tree → (YardsHeld yard tree → ⊥) → answer ≡ 8
   -- 9: "In a check only: a stored distance, least or greatest isn't the true one."
-  pub by-numbers : SoundBooks road yard → SoundTree road tree → YardsHeld yard tree → (NumbersTrue road tree → ⊥)
+  pub by-numbers : SoundBooks road yard → SoundTreeBook road tree → YardsHeld yard tree → (NumbersTrue road tree → ⊥)
       → answer ≡ 9
   -- 12: "A lent area is too short: work below 16,384 words"
-  pub by-work : SoundBooks road yard → SoundTree road tree → YardsHeld yard tree → NumbersTrue road tree
+  pub by-work : SoundBooks road yard → SoundTreeBook road tree → YardsHeld yard tree → NumbersTrue road tree
       → words < workWords → answer ≡ 12
 
 -- "The number of an accepted call is 0": what holds whenever the answer is 0
-pub record Accepted (road yard tree : List ℕ) (words : ℕ) : Type 0 where
+pub record AcceptedCheck (road yard tree : List ℕ) (words : ℕ) : Type 0 where
   pub books : SoundBooks road yard
-  pub tree-sound : SoundTree road tree
+  pub tree-sound : SoundTreeBook road tree
   pub yards : YardsHeld yard tree
   pub numbers : NumbersTrue road tree
   pub full : workWords ≤ words
@@ -98,7 +98,7 @@ pub record Accepted (road yard tree : List ℕ) (words : ℕ) : Type 0 where
 pub record CheckKept (road yard tree work : List ℕ) (answer : ℕ) (after : List ℕ) : Type 0 where
   -- a refused call gets exactly the refusal listed, and a call that gets none is accepted
   pub refused : FirstRefusal road yard tree (length work) answer
-  pub accepted : (answer ≡ 0) ↔ Accepted road yard tree (length work)
+  pub accepted : (answer ≡ 0) ↔ AcceptedCheck road yard tree (length work)
   -- "A refusal .. changes no lent byte or word."
   pub kept : answer ≢ 0 → after ≡ work
   -- "zero the first 16,384 words of the work area and leave any after them"
@@ -117,7 +117,7 @@ CheckSafe = (road yard tree work : List ℕ)
 -- through the roads, as the COLT paper
 -- defines it, with each least and greatest true of its region's yards."
 abbrev pub CheckTrue : Type 0
-CheckTrue = (road yard tree : List ℕ) (words : ℕ) → SoundBooks road yard → workWords ≤ words → SoundTree road tree
+CheckTrue = (road yard tree : List ℕ) (words : ℕ) → SoundBooks road yard → workWords ≤ words → SoundTreeBook road tree
     → (checkAnswer road yard tree words ≡ 0) ↔ (YardsHeld yard tree × NumbersTrue road tree)
 
 -- ---- demand 1, of build
@@ -131,13 +131,13 @@ pub record FirstBuildRefusal (road yard : List ℕ) (m limit words room answer :
   -- "then the call's m, leaf limit and areas", 11: m outside 1 to 4, or the leaf limit outside 1 to 256
   pub by-range : SoundBooks road yard → (InRange m limit → ⊥) → answer ≡ 11
   -- 12: "work below 16,384 words, .. a built tree's area below 21,981 bytes"
-  pub by-areas : SoundBooks road yard → InRange m limit → (Areas words room → ⊥) → answer ≡ 12
+  pub by-areas : SoundBooks road yard → InRange m limit → (BuildAreas words room → ⊥) → answer ≡ 12
 
 -- what holds whenever a build's answer is 0
 pub record BuildAccepted (road yard : List ℕ) (m limit words room : ℕ) : Type 0 where
   pub books : SoundBooks road yard
   pub range : InRange m limit
-  pub areas : Areas words room
+  pub areas : BuildAreas words room
 
 -- a build's answer and length, and its work area and its tree's area before and after
 pub record BuildKept (road yard : List ℕ) (m limit : ℕ) (work tree : List ℕ) (answer size : ℕ) (workLater treeLater :
@@ -177,7 +177,7 @@ pub record BuildWrites (road yard : List ℕ) (m limit : ℕ) (work tree : List 
 
 abbrev pub BuildTrue : Type 0
 BuildTrue = (road yard : List ℕ) (m limit : ℕ) (work tree : List ℕ) → SoundBooks road yard → InRange m limit
-    → Areas (length work) (length tree)
+    → BuildAreas (length work) (length tree)
     → BuildWrites road yard m limit work tree
 
 -- ---- demand 1, of search
@@ -196,16 +196,16 @@ pub record FirstSearchRefusal (road tree query : List ℕ) (words room answer : 
   -- 8: "Junction counts .. disagree between books"
   pub by-counts : Passing road → TreeFacts tree → junctionCount tree ≢ junctions road → answer ≡ 8
   -- of the query book 1 to 4, 10 and 11
-  pub by-query : Passing road → SoundTree road tree → queryRefusal query (junctions road) ≢ 0
+  pub by-query : Passing road → SoundTreeBook road tree → queryRefusal query (junctions road) ≢ 0
       → answer ≡ queryRefusal query (junctions road)
   -- 12: "A lent area is too short"
-  pub by-areas : Passing road → SoundTree road tree → QueryLayout query (junctions road)
+  pub by-areas : Passing road → SoundTreeBook road tree → QueryLayout query (junctions road)
       → (SearchAreas query words room → ⊥) → answer ≡ 12
 
 -- what holds whenever a search's refusal is 0
 pub record SearchAccepted (road tree query : List ℕ) (words room : ℕ) : Type 0 where
   pub roads : Passing road
-  pub tree-sound : SoundTree road tree
+  pub tree-sound : SoundTreeBook road tree
   pub asked : QueryLayout query (junctions road)
   pub areas : SearchAreas query words room
 

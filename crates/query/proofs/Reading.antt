@@ -14,8 +14,8 @@ use Rattle.book.specs.Open.{openRefusal, opened}
 use Rattle.book.specs.declared.Opened.the-variants as Opened
 use Rattle.book.proofs.Choosing.{first-none, first-later, first-earlier, passes, passed, passes-if, fails-if, eq→eqb}
 use Rattle.book.proofs.Opening.{opened-refused, opens, open-zero}
-use Rattle.query.specs.Query.{aggregateOf, kOf, limitOf, crewCount, crewsOf, inside, valueRefusal, bodyRefusal, queryRefusal, queryOf, queryBook}
-use Rattle.query.specs.Query.{numberOf, QueryLayout}
+use Rattle.query.specs.Query.{aggregateOf, kOf, limitOf, crewCount, crewsOf, inside, valueRefusal, queryBodyRefusal, queryRefusal, queryOf, queryBook}
+use Rattle.query.specs.Query.{queryNumber, QueryLayout}
 use Rattle.query.specs.declared.Query.{Query}
 use Rattle.query.specs.declared.QueryBook.{QueryBook}
 use Rattle.query.specs.declared.QueryBook.the-variants.{Asked, Refused}
@@ -46,7 +46,7 @@ module _ (b : List ℕ) (n : ℕ) (o : openRefusal b 7 ≡ 0) (crews : ℕ) (ec 
   body : queryRefusal b n
       ≡ refuse (eqb (length b) (12 + 2 * crews)) 4
       (refuse (leb 1 crews) 10 (refuse (leb crews 16) 10 (refuse (inside n (crewsOf b)) 10 (valueRefusal (aggregateOf b) (kOf b)))))
-  unfolding queryRefusal bodyRefusal
+  unfolding queryRefusal queryBodyRefusal
   body = first-later (openRefusal b 7) _ o ∙ rw ec refl
 
   pub misfit : (length b ≡ 12 + 2 * crews → ⊥) → queryRefusal b n ≡ 4
@@ -86,7 +86,7 @@ pub not-opened : (b : List ℕ) (n why : ℕ) → opened (openRefusal b 7) ≡ O
 unfolding queryRefusal
 not-opened b n why e =
     let p = opened-refused (openRefusal b 7) why e in
-    let s = first-earlier (openRefusal b 7) (bodyRefusal b n) (omega (arith, p .0, p .1)) ∙ p .0 in
+    let s = first-earlier (openRefusal b 7) (queryBodyRefusal b n) (omega (arith, p .0, p .1)) ∙ p .0 in
     answer-refused b n why (sym s) (omega (arith, p .1))
 
 pub answer-asked : (b : List ℕ) (n why : ℕ) (q : Query) → why ≡ queryRefusal b n → why ≡ 0 → q ≡ queryOf b
@@ -146,8 +146,8 @@ module _ (b : List ℕ) (q : Query) (e : q ≡ queryOf b) where
   its-crews = ap (λ (r : Query). r .crews) e ∙ asked-crews b
 
 -- the number that an answer has
-pub number-is : (x : ℕ) (q : Query) → numberOf (queryBook x q) ≡ x
-unfolding numberOf queryBook
+pub number-is : (x : ℕ) (q : Query) → queryNumber (queryBook x q) ≡ x
+unfolding queryNumber queryBook
 number-is zero q = refl
 number-is (suc x) q = refl
 
@@ -155,7 +155,7 @@ number-is (suc x) q = refl
 
 module _ (b : List ℕ) (n : ℕ) where
   pub passing : queryRefusal b n ≡ 0 → QueryLayout b n
-  unfolding queryRefusal bodyRefusal valueRefusal crewsOf
+  unfolding queryRefusal queryBodyRefusal valueRefusal crewsOf
   passing e =
       let o = first-none (openRefusal b 7) _ e in
       let a = passed _ _ _ (o .1) (omega arith) in
@@ -177,7 +177,7 @@ module _ (b : List ℕ) (n : ℕ) where
       }
 
   pub passes-all : QueryLayout b n → queryRefusal b n ≡ 0
-  unfolding queryRefusal bodyRefusal crewsOf
+  unfolding queryRefusal queryBodyRefusal crewsOf
   passes-all l =
       first-later _ _ (open-zero b 7 (l .opening))
       ∙ passes _ 4 _ (eq→eqb (length b) (12 + 2 * crewCount b) (l .sized)) ∙ passes _ 10 _ (le→leb 1 (crewCount b) (l .some-crew))

@@ -52,8 +52,8 @@ valueRefusal aggregate k =
     (refuse (leb k 64) 11 0))
 
 -- the tests after the opening, beside a road book with so many junctions
-unfoldable pub bodyRefusal : List ℕ → ℕ → ℕ
-bodyRefusal b junctions =
+unfoldable pub queryBodyRefusal : List ℕ → ℕ → ℕ
+queryBodyRefusal b junctions =
     -- 4: "A record is incomplete, or bytes follow the last one."
     refuse (eqb (length b) (12 + 2 * crewCount b)) 4
     -- 10: "Crews are none, more than 16, or at no junction of the road book."
@@ -64,7 +64,7 @@ bodyRefusal b junctions =
 
 -- the number of the first test that turns the book back, or 0: "Query values fall to 10 and 11, never to 3 or 5."
 unfoldable pub queryRefusal : List ℕ → ℕ → ℕ
-queryRefusal b junctions = firstOf (openRefusal b 7) (bodyRefusal b junctions)
+queryRefusal b junctions = firstOf (openRefusal b 7) (queryBodyRefusal b junctions)
 
 -- what the book asks
 unfoldable pub queryOf : List ℕ → Query
@@ -76,9 +76,9 @@ queryBook zero q = Asked q
 queryBook (suc n) q = Refused (suc n)
 
 -- the number of an answer: "The number of an accepted call is 0."
-unfoldable pub numberOf : QueryBook → ℕ
-numberOf (Asked q) = 0
-numberOf (Refused why) = why
+unfoldable pub queryNumber : QueryBook → ℕ
+queryNumber (Asked q) = 0
+queryNumber (Refused why) = why
 
 -- a query book that no test turns back, sentence by sentence
 pub record QueryLayout (b : List ℕ) (junctions : ℕ) : Type 0 where

@@ -6,7 +6,7 @@ ghost use Prim.Native.Nat.{_+_, _*_, _≤_, _<_};
 ghost use lib.ListN.{length, take};
 ghost use Rattle.book.specs.Open.{openRefusal};
 ghost use Rattle.query.specs.Query.{crewCount, crewAt, crewsOf, inside};
-ghost use Rattle.query.specs.Query.{valueRefusal, queryRefusal, queryOf, queryBook, numberOf};
+ghost use Rattle.query.specs.Query.{valueRefusal, queryRefusal, queryOf, queryBook, queryNumber};
 
 // What a query asks: the aggregate's code, k (how many yards), the limit of steps, and how many crews there are.
 pub struct Query {
@@ -24,7 +24,7 @@ pub enum QueryBook {
 
 // The number of an answer, 0 for a query that is accepted.
 pub fn number(o: QueryBook) -> u8
-    ensures { λ r. ⌜ r ≡ numberOf o ⌝ }
+    ensures { λ r. ⌜ r ≡ queryNumber o ⌝ }
 {
     match o {
         QueryBook::Asked(_) => 0,

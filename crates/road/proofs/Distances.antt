@@ -1,4 +1,4 @@
--- Dijkstra's distances are the least totals, and the mark stands where there is no walk; they are a metric along roads, and bounded.
+-- Dijkstra's distances are the least totals, and `far` stands where there is no walk; they are a metric along roads, and bounded.
 use mathlib.Core.Path.{_≡_, sym, _∙_}
 use mathlib.Core.Logic.{_⊎_, inl, inr, _≢_}
 use mathlib.Core.List.{List}
@@ -8,8 +8,8 @@ use native.Mathlib.Omega.{arith}
 use lib.Dec.{T}
 use Rattle.road_layout.specs.Road.{Road}
 use Rattle.adjacency.specs.Arcs.{Arc, arcs}
-use Rattle.road.specs.Walk.{Walk, stay, step, Least, Sound}
-use Rattle.road.specs.Dijkstra.{far, width, at, State, walked, walkFrom, distances}
+use Rattle.road.specs.Walk.{Walk, stay, step, Least, SoundArcs}
+use Rattle.road.specs.Dijkstra.{far, width, at, WalkState, walked, walkFrom, distances}
 use Rattle.road.proofs.Walks.{join, turn, least-symmetric}
 use Rattle.road.proofs.Picking.{tally, tally-full}
 use Rattle.road.proofs.Rounds.{Inv, Finished, after-rounds}
@@ -18,7 +18,7 @@ use Rattle.road.proofs.Rounds.{Inv, Finished, after-rounds}
 abbrev pub along-arcs : List Arc → ℕ → ℕ → ℕ → ℕ
 along-arcs net n u v = at (distances net n u) v
 
-module _ (net : List Arc) (n : ℕ) (small : n ≤ width) (sound : Sound n net) where
+module _ (net : List Arc) (n : ℕ) (small : n ≤ width) (sound : SoundArcs n net) where
   module _ (source : ℕ) (below : source < n) where
     inv : Inv net n source n (walkFrom net n source)
     unfolding walkFrom
@@ -28,7 +28,7 @@ module _ (net : List Arc) (n : ℕ) (small : n ≤ width) (sound : Sound n net) 
     unfolding walkFrom
     finished = go (after-rounds net n source small sound below n .so-far)
       where
-        st : State
+        st : WalkState
         st = walkFrom net n source
 
         go : Finished n st ⊎ (tally n (st .done) ≡ n) → Finished n st
@@ -84,7 +84,7 @@ module _ (net : List Arc) (n : ℕ) (small : n ≤ width) (sound : Sound n net) 
       reached e = dist-none u bu w e (along-arcs net n u v + along-arcs net n v w) legs
 
 -- Along roads the distance there is the distance back, the mark too.
-pub dist-symmetric : (rs : List Road) (n : ℕ) → n ≤ width → Sound n (arcs rs) → (u v : ℕ) → u < n → v < n
+pub dist-symmetric : (rs : List Road) (n : ℕ) → n ≤ width → SoundArcs n (arcs rs) → (u v : ℕ) → u < n → v < n
     → along-arcs (arcs rs) n u v ≡ along-arcs (arcs rs) n v u
 dist-symmetric rs n small sound u v bu bv = go (ℕ-discrete (along-arcs (arcs rs) n u v) far) (ℕ-discrete (along-arcs (arcs rs) n v u) far)
   where

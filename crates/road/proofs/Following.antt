@@ -15,7 +15,7 @@ use Rattle.road_layout.proofs.Layouts.{passing-layout}
 use Rattle.adjacency.specs.Arcs.{Arc, net}
 use Rattle.adjacency.specs.Adjacency.{headAt, nextAt, toAt, costAt, lastArc, Linked, Adjacency}
 use Rattle.adjacency.proofs.Linking.{last-none, last-own, last-other, last-low, linked-parts, net-length}
-use Rattle.road.specs.Walk.{Sound, Fit}
+use Rattle.road.specs.Walk.{SoundArcs, Fit}
 use Rattle.road.specs.Queue.{Reach, reach, Above, shortenBoth, relaxBoth}
 use Rattle.road.proofs.Shortening.{shorten-sizes, shorten-above}
 use Rattle.road.proofs.Theorems.{net-sound}
@@ -30,11 +30,11 @@ pub record Turn (n u d : ℕ) (xs : List Arc) (adj : List ℕ) (a : ℕ) : Type 
   pub cost-is : costAt adj a ≡ arc .seconds
   pub next-is : nextAt adj a ≡ lastArc u rest
   pub linked : Linked rest adj
-  pub sound : Sound n rest
+  pub sound : SoundArcs n rest
   pub relaxed : (s : Reach) → relaxBoth u d xs s ≡ relaxBoth u d rest (shortenBoth s (arc .to) (d + arc .seconds))
 
 module _ (n u d : ℕ) (adj : List ℕ) where
-  pub turn : (xs : List Arc) (a : ℕ) → Linked xs adj → Sound n xs → a ≡ lastArc u xs → a ≢ 0 → Turn n u d xs adj a
+  pub turn : (xs : List Arc) (a : ℕ) → Linked xs adj → SoundArcs n xs → a ≡ lastArc u xs → a ≢ 0 → Turn n u d xs adj a
   unfolding relaxBoth
   turn [] a k sound e z = absurd (z (e ∙ last-none u))
   turn (x ∷ xs) a k sound e z = go (ℕ-discrete (x .from) u) (λ f. turn xs a (parts .3) (λ y q. sound y (List·Memᴰ·tail q)) f z)
@@ -99,7 +99,7 @@ pub record Chain (b adj : List ℕ) (u d : ℕ) (s₀ s : Reach) (a : ℕ) : Typ
   pub small : junctions b ≤ 1024
   pub newest : a ≡ lastArc u rest
   pub linked : Linked rest adj
-  pub sound : Sound (junctions b) rest
+  pub sound : SoundArcs (junctions b) rest
   pub distances : length (s .ds) ≡ 1024
   pub words : length (s .queue) ≡ queueWords
   pub above : Above (s .ds) (s .queue)

@@ -9,19 +9,19 @@ use native.Mathlib.Omega.{arith}
 use lib.ListN.{length, set, replicate}
 use lib.Seq.{getD-set-same, getD-set-other}
 use lib.Dec.{T, ltb, ltb→lt, nltb→le}
-use Rattle.road.specs.Dijkstra.{far, at, State, walked, score, nearer, pick}
+use Rattle.road.specs.Dijkstra.{far, at, WalkState, walked, score, nearer, pickNearest}
 use Rattle.book.specs.Choose.{choose}
 use Rattle.book.proofs.Choosing.{choose-case, choose-yes, choose-no, choose-map, T-split}
 
 -- ---- the choice
 
 -- The score of a junction that is not walked on from.
-pub score-open : (st : State) (v : ℕ) → T (not (walked (st .done) v)) → score st v ≡ at (st .ds) v
+pub score-open : (st : WalkState) (v : ℕ) → T (not (walked (st .done) v)) → score st v ≡ at (st .ds) v
 unfolding score
 score-open st v h = choose-no (walked (st .done) v) far (at (st .ds) v) h
 
--- A score below the mark is that of a junction that is not walked on from.
-pub score-low : (st : State) (v : ℕ) → score st v < far → T (not (walked (st .done) v))
+-- A score below `far` is that of a junction that is not walked on from.
+pub score-low : (st : WalkState) (v : ℕ) → score st v < far → T (not (walked (st .done) v))
 unfolding score
 score-low st v h = go (T-split (walked (st .done) v))
   where
@@ -29,38 +29,39 @@ score-low st v h = go (T-split (walked (st .done) v))
     go (inl t) = absurd (omega (arith, choose-yes (walked (st .done) v) far (at (st .ds) v) t))
     go (inr t) = t
 
-module _ (st : State) where
-  pub pick-below : (n : ℕ) → 0 < n → pick st n < n
-  unfolding pick nearer
+module _ (st : WalkState) where
+  pub pick-below : (n : ℕ) → 0 < n → pickNearest st n < n
+  unfolding pickNearest nearer
   pick-below zero h = omega arith
   pick-below (suc zero) h = choose-case (λ p. p < 1) (ltb (score st 0) (score st 0)) (λ t. omega arith) (λ t. omega arith)
   pick-below (suc (suc k)) h =
-      choose-case (λ p. p < suc (suc k)) (ltb (score st (suc k)) (score st (pick st (suc k)))) (λ t. omega arith)
+      choose-case (λ p. p < suc (suc k)) (ltb (score st (suc k)) (score st (pickNearest st (suc k)))) (λ t. omega arith)
       (λ t. omega (arith, pick-below (suc k) (omega arith)))
 
-  pub pick-least : (k v : ℕ) → v < k → score st (pick st k) ≤ score st v
-  unfolding pick nearer
+  pub pick-least : (k v : ℕ) → v < k → score st (pickNearest st k) ≤ score st v
+  unfolding pickNearest nearer
   pick-least zero v h = absurd (omega arith)
   pick-least (suc k) v h =
-      choose-case (λ p. score st p ≤ score st v) (ltb (score st k) (score st (pick st k)))
-      (λ t. go (ltb→lt (score st k) (score st (pick st k)) t) (ℕ-discrete v k) (λ f. pick-least k v (omega arith)))
-      (λ t. stays (nltb→le (score st k) (score st (pick st k)) t) (ℕ-discrete v k) (λ f. pick-least k v (omega arith)))
+      choose-case (λ p. score st p ≤ score st v) (ltb (score st k) (score st (pickNearest st k)))
+      (λ t. go (ltb→lt (score st k) (score st (pickNearest st k)) t) (ℕ-discrete v k) (λ f. pick-least k v (omega arith)))
+      (λ t. stays (nltb→le (score st k) (score st (pickNearest st k)) t) (ℕ-discrete v k) (λ f. pick-least k v (omega arith)))
     where
-      go : score st k < score st (pick st k) → Dec (v ≡ k) → (v ≢ k → score st (pick st k) ≤ score st v) → score st k ≤ score st v
+      go : score st k < score st (pickNearest st k) → Dec (v ≡ k) → (v ≢ k → score st (pickNearest st k) ≤ score st v) → score st k ≤ score st v
       go t (yes f) below = rw f (omega arith)
       go t (no f) below = omega (arith, below f)
 
-      stays : score st (pick st k) ≤ score st k → Dec (v ≡ k) → (v ≢ k → score st (pick st k) ≤ score st v) → score st (pick st k) ≤ score st v
+      stays : score st (pickNearest st k) ≤ score st k → Dec (v ≡ k) → (v ≢ k → score st (pickNearest st k) ≤ score st v)
+          → score st (pickNearest st k) ≤ score st v
       stays t (yes f) below = rw f t
       stays t (no f) below = below f
 
   -- Ties go to the lower number: every junction below the one picked has a higher score.
-  pub pick-first : (k v : ℕ) → v < pick st k → score st (pick st k) < score st v
-  unfolding pick nearer
+  pub pick-first : (k v : ℕ) → v < pickNearest st k → score st (pickNearest st k) < score st v
+  unfolding pickNearest nearer
   pick-first zero v = λ h. omega arith
   pick-first (suc k) v =
-      choose-case (λ p. v < p → score st p < score st v) (ltb (score st k) (score st (pick st k)))
-      (λ t h. omega (arith, ltb→lt (score st k) (score st (pick st k)) t, pick-least k v h))
+      choose-case (λ p. v < p → score st p < score st v) (ltb (score st k) (score st (pickNearest st k)))
+      (λ t h. omega (arith, ltb→lt (score st k) (score st (pickNearest st k)) t, pick-least k v h))
       (λ t h. pick-first k v h)
 
 -- ---- the marks

@@ -14,24 +14,24 @@ use Rattle.book.proofs.Choosing.{choose-case, choose-yes, choose-no, choose-map
 use Rattle.tournament.specs.Tournament.{putLeaf, leaf}
 use Rattle.tournament.proofs.Laws.{put-tournament, put-same, put-other}
 use Rattle.adjacency.specs.Arcs.{Arc}
-use Rattle.road.specs.Walk.{Sound}
-use Rattle.road.specs.Dijkstra.{far, width, at, State, walked, score, shorten, relaxArc, relax}
-use Rattle.road.specs.Queue.{state, mark, word, wordOf, Queued, Reach, reach, Above, shortenBoth, relaxBoth}
+use Rattle.road.specs.Walk.{SoundArcs}
+use Rattle.road.specs.Dijkstra.{far, width, at, WalkState, walked, score, shorten, relaxArc, relax}
+use Rattle.road.specs.Queue.{state, absent, word, queueWord, QueueHolds, Reach, reach, Above, shortenBoth, relaxBoth}
 use Rattle.road.proofs.Relaxing.{at-set-same, at-set-other}
 use Rattle.road.proofs.Picking.{score-open, score-low}
 
 -- ---- words
 
-pub word-queued : (st : State) (v : ℕ) → score st v < far → wordOf st v ≡ word (score st v) v
-unfolding wordOf
+pub word-queued : (st : WalkState) (v : ℕ) → score st v < far → queueWord st v ≡ word (score st v) v
+unfolding queueWord
 word-queued st v h = choose-yes (ltb (score st v) far) _ _ (lt→ltb _ _ h)
 
-pub word-marked : (st : State) (v : ℕ) → far ≤ score st v → wordOf st v ≡ mark
-unfolding wordOf
+pub word-marked : (st : WalkState) (v : ℕ) → far ≤ score st v → queueWord st v ≡ absent
+unfolding queueWord
 word-marked st v h = choose-no (ltb (score st v) far) _ _ (false-T (le-ltb _ _ h))
 
-pub word-same : (st st′ : State) (v : ℕ) → score st v ≡ score st′ v → wordOf st v ≡ wordOf st′ v
-unfolding wordOf
+pub word-same : (st st′ : WalkState) (v : ℕ) → score st v ≡ score st′ v → queueWord st v ≡ queueWord st′ v
+unfolding queueWord
 word-same st st′ v e = rw e refl
 
 pub score-same : (ds ds′ : List ℕ) (done done′ : List Bool) (v : ℕ) → at ds v ≡ at ds′ v → walked done v ≡ walked done′ v
@@ -39,25 +39,25 @@ pub score-same : (ds ds′ : List ℕ) (done done′ : List Bool) (v : ℕ) → 
 unfolding score
 score-same ds ds′ done done′ v e f = rw (e, f) refl
 
--- a junction that is walked on from has the mark for a score
+-- a junction that is walked on from has `far` for a score
 pub score-done : (ds : List ℕ) (done : List Bool) (v : ℕ) → T (walked done v) → score (state ds done) v ≡ far
 unfolding score
 score-done ds done v t = choose-yes (walked done v) far (at ds v) t
 
 -- ---- relaxing
 
--- While u's arcs are relaxed: no distance is above the mark, those of junctions walked on from are at most d, and the queue holds the words.
+-- While u's arcs are relaxed: no distance is above `far`, those of junctions walked on from are at most d, and the queue holds the words.
 pub record Fine (done : List Bool) (d : ℕ) (s : Reach) : Type 0 where
   pub size : length (s .ds) ≡ width
   pub most : (v : ℕ) → at (s .ds) v ≤ far
   pub low : (w : ℕ) → T (walked done w) → at (s .ds) w ≤ d
-  pub queued : Queued (s .queue) (state (s .ds) done)
+  pub queued : QueueHolds (s .queue) (state (s .ds) done)
 
 -- no word is below its junction's distance
 pub fine-above : (done : List Bool) (d : ℕ) (s : Reach) → Fine done d s → Above (s .ds) (s .queue)
 fine-above done d s f = record { tournament = f .queued .tournament; below = λ v b. below v b (decLt (score st v) far) }
   where
-    st : State
+    st : WalkState
     st = state (s .ds) done
 
     below : (v : ℕ) → v < width → Dec (score st v < far) → at (s .ds) v * 1024 ≤ leaf (s .queue) v
@@ -101,7 +101,7 @@ module _ (done : List Bool) (d : ℕ) where
           new-score : score (state es done) v ≡ x
           new-score = score-open (state es done) v open-v ∙ at-set-same (s .ds) v x inside
 
-          words : (w : ℕ) → w < width → Dec (w ≡ v) → leaf (putLeaf (s .queue) v (word x v)) w ≡ wordOf (state es done) w
+          words : (w : ℕ) → w < width → Dec (w ≡ v) → leaf (putLeaf (s .queue) v (word x v)) w ≡ queueWord (state es done) w
           words w b (yes e) =
               rw e (put-same (s .queue) v (word x v) hv (f .queued .tournament .size)
               ∙ sym (word-queued (state es done) v (rw new-score (omega (arith, f .most v))) ∙ ap (λ (y : ℕ). word y v) new-score))
@@ -109,7 +109,7 @@ module _ (done : List Bool) (d : ℕ) where
               put-other (s .queue) v (word x v) w hv n ∙ f .queued .words w b
               ∙ word-same (state (s .ds) done) (state es done) w (score-same (s .ds) es done done w (sym (at-set-other (s .ds) v w x n)) refl)
 
-  pub relax-fine : (u : ℕ) (arcs : List Arc) (s : Reach) → Sound width arcs → Fine done d s → Fine done d (relaxBoth u d arcs s)
+  pub relax-fine : (u : ℕ) (arcs : List Arc) (s : Reach) → SoundArcs width arcs → Fine done d s → Fine done d (relaxBoth u d arcs s)
   unfolding relaxBoth
   relax-fine u [] s sound f = f
   relax-fine u (a ∷ arcs) s sound f =

@@ -11,14 +11,14 @@ use lib.ListN.{length, set, replicate, length-set, length-replicate}
 use lib.Dec.{T, ltb, ltb→lt, nltb→le, T-not}
 use Rattle.book.proofs.Choosing.{choose-case}
 use Rattle.adjacency.specs.Arcs.{Arc}
-use Rattle.road.specs.Walk.{Walk, stay, Sound}
-use Rattle.road.specs.Dijkstra.{far, width, at, State, walked, score, pick, relax, walkOn, roundAt, rounds, start}
+use Rattle.road.specs.Walk.{Walk, stay, SoundArcs}
+use Rattle.road.specs.Dijkstra.{far, width, at, WalkState, walked, score, pickNearest, relax, walkOn, roundAt, rounds, startWalk}
 use Rattle.road.proofs.Walks.{snoc}
 use Rattle.road.proofs.Relaxing.{Arrival, Relaxed, relax-is, at-set-same, at-set-other}
 use Rattle.road.proofs.Picking.{score-open, score-low, pick-below, pick-least, tally, tally-start, tally-set, walked-start, walked-new, walked-not}
 
 -- What holds after j rounds.
-pub record Inv (net : List Arc) (n source j : ℕ) (st : State) : Type 0 where
+pub record Inv (net : List Arc) (n source j : ℕ) (st : WalkState) : Type 0 where
   pub size : length (st .ds) ≡ width
   pub marks : length (st .done) ≡ width
   pub home : at (st .ds) source ≡ 0
@@ -32,10 +32,10 @@ pub record Inv (net : List Arc) (n source j : ℕ) (st : State) : Type 0 where
   pub settled : (a : Arc) → List·Memᴰ a net → T (walked (st .done) (a .from)) → at (st .ds) (a .to) ≤ at (st .ds) (a .from) + a .seconds
 
 -- Every junction that is reached is walked on from.
-abbrev pub Finished : ℕ → State → Type 0
+abbrev pub Finished : ℕ → WalkState → Type 0
 Finished n st = (v : ℕ) → v < n → at (st .ds) v < far → T (walked (st .done) v)
 
-module _ {net : List Arc} {n source j : ℕ} {st : State} (small : n ≤ width) (sound : Sound n net) (inv : Inv net n source j st) where
+module _ {net : List Arc} {n source j : ℕ} {st : WalkState} (small : n ≤ width) (sound : SoundArcs n net) (inv : Inv net n source j st) where
   -- Walking on from u, the nearest junction that is reached and not walked on from, keeps it all.
   module _ (u : ℕ) (below : u < n) (open-u : T (not (walked (st .done) u))) (reached : at (st .ds) u < far)
       (nearest : (v : ℕ) → v < n → T (not (walked (st .done) v)) → at (st .ds) u ≤ at (st .ds) v) where
@@ -110,7 +110,7 @@ module _ {net : List Arc} {n source j : ℕ} {st : State} (small : n ≤ width) 
         settled′ a m t (inr k) = omega (arith, kept (a .from) t, inv .settled a m k, relaxed .lower (a .to))
 
 -- What holds after j rounds, and how far they are: finished, or j junctions walked on from.
-pub record After (net : List Arc) (n source j : ℕ) (st : State) : Type 0 where
+pub record After (net : List Arc) (n source j : ℕ) (st : WalkState) : Type 0 where
   pub inv : Inv net n source j st
   pub so-far : Finished n st ⊎ (tally n (st .done) ≡ j)
 
@@ -122,8 +122,8 @@ at-replicate (suc n) zero = refl
 at-replicate (suc n) (suc v) = at-replicate n v
 
 module _ (net : List Arc) (n source : ℕ) (small : n ≤ width) (below : source < n) where
-  started : After net n source 0 (start source)
-  unfolding start
+  started : After net n source 0 (startWalk source)
+  unfolding startWalk
   started = record {
     inv = record {
       size = length-set (replicate width far) source 0 ∙ length-replicate width far;
@@ -161,9 +161,10 @@ module _ (net : List Arc) (n source : ℕ) (small : n ≤ width) (below : source
       near v h (no f) = omega (arith, rest v f)
 
 -- A round.
-module _ {net : List Arc} {n source j : ℕ} {st : State} (small : n ≤ width) (sound : Sound n net) (below : source < n) (after : After net n source j st) where
+module _ {net : List Arc} {n source j : ℕ} {st : WalkState} (small : n ≤ width) (sound : SoundArcs n net) (below : source < n) (after : After net n source j
+    st) where
   -- There is none to walk on from.
-  rest-round : far ≤ score st (pick st n) → After net n source (suc j) st
+  rest-round : far ≤ score st (pickNearest st n) → After net n source (suc j) st
   rest-round h = record {
     inv = record {
       size = i .size;
@@ -189,7 +190,7 @@ module _ {net : List Arc} {n source j : ℕ} {st : State} (small : n ≤ width) 
           go true f = tt
           go false f = f tt
 
-  walk-round : score st (pick st n) < far → After net n source (suc j) (walkOn net st (pick st n))
+  walk-round : score st (pickNearest st n) < far → After net n source (suc j) (walkOn net st (pickNearest st n))
   unfolding walkOn
   walk-round h = record {
     inv = walk-on small sound (after .inv) u b o (omega (arith, score-open st u o))
@@ -198,7 +199,7 @@ module _ {net : List Arc} {n source j : ℕ} {st : State} (small : n ≤ width) 
   }
     where
       u : ℕ
-      u = pick st n
+      u = pickNearest st n
 
       b : u < n
       b = pick-below st n (omega arith)
@@ -210,13 +211,13 @@ module _ {net : List Arc} {n source j : ℕ} {st : State} (small : n ≤ width) 
       more (inl f) = absurd (T-not (walked (st .done) u) o (f u b (omega (arith, score-open st u o))))
       more (inr e) = inr (tally-set (st .done) u (rw (after .inv .marks) (omega (arith, b))) n b o ∙ ap suc e)
 
-  a-round : After net n source (suc j) (roundAt net st (pick st n))
+  a-round : After net n source (suc j) (roundAt net st (pickNearest st n))
   unfolding roundAt
-  a-round = choose-case (After net n source (suc j)) (ltb (score st (pick st n)) far)
-      (λ t. walk-round (ltb→lt (score st (pick st n)) far t)) (λ t. rest-round (nltb→le (score st (pick st n)) far t))
+  a-round = choose-case (After net n source (suc j)) (ltb (score st (pickNearest st n)) far)
+      (λ t. walk-round (ltb→lt (score st (pickNearest st n)) far t)) (λ t. rest-round (nltb→le (score st (pickNearest st n)) far t))
 
-module _ (net : List Arc) (n source : ℕ) (small : n ≤ width) (sound : Sound n net) (below : source < n) where
-  pub after-rounds : (j : ℕ) → After net n source j (rounds net n j (start source))
+module _ (net : List Arc) (n source : ℕ) (small : n ≤ width) (sound : SoundArcs n net) (below : source < n) where
+  pub after-rounds : (j : ℕ) → After net n source j (rounds net n j (startWalk source))
   unfolding rounds
   after-rounds zero = started net n source small below
   after-rounds (suc j) = a-round small sound below (after-rounds j)

@@ -10,20 +10,20 @@ use lib.Dec.{T, not-T, ltb, ltb→lt, lt→ltb, nltb→le}
 use Rattle.book.specs.Choose.{refuse, firstOf}
 use Rattle.book.proofs.Choosing.{and-left, and-right, and-both, T-split, passes, fails, passed, first-none, first-later, first-earlier}
 use Rattle.road_layout.specs.Road.{Road, junctions, roads}
-use Rattle.road_layout.specs.Layout.{layoutRefusal}
-use Rattle.road_layout.specs.Facts.{Fits, RoadLayout}
+use Rattle.road_layout.specs.Layout.{roadLayoutRefusal}
+use Rattle.road_layout.specs.Facts.{RoadFits, RoadLayout}
 use Rattle.road_layout.proofs.Layouts.{passing-layout, layout-passes, layout-low, roads-member}
 use Rattle.adjacency.specs.Arcs.{arcs, net}
 use Rattle.adjacency.proofs.Netting.{arc, net-is, each-arc}
-use Rattle.road.specs.Walk.{Walk, Least, Fit, Sound}
+use Rattle.road.specs.Walk.{Walk, Least, Fit, SoundArcs}
 use Rattle.road.specs.Dijkstra.{far, width, at, distances, dist}
-use Rattle.road.specs.Refusal.{reached, roadRefusal}
+use Rattle.road.specs.Refusal.{allReached, roadRefusal}
 use Rattle.road.specs.Facts.{Joined, Passing, IsJunction, Metric}
 use Rattle.road.proofs.Walks.{join, turn}
 use Rattle.road.proofs.Distances
 
 -- the arcs of roads that fit are sound
-arcs-sound : (n : ℕ) (rs : List Road) → ((r : Road) → List·Memᴰ r rs → Fits n r) → Sound n (arcs rs)
+arcs-sound : (n : ℕ) (rs : List Road) → ((r : Road) → List·Memᴰ r rs → RoadFits n r) → SoundArcs n (arcs rs)
 arcs-sound n rs h = each-arc (Fit n) rs both
   where
     both : (r : Road) → List·Memᴰ r rs → Fit n (arc (r .low) (r .high) (r .seconds)) × Fit n (arc (r .high) (r .low) (r .seconds))
@@ -41,18 +41,18 @@ dist-at b u v = refl
 -- ---- of any book of sound layout
 
 module _ (b : List ℕ) (layout : RoadLayout b) where
-  pub net-sound : Sound (junctions b) (net b)
+  pub net-sound : SoundArcs (junctions b) (net b)
   net-sound = rw (net-is b) (arcs-sound (junctions b) (roads b) (λ r m. roads-member b layout r m))
 
-  -- a distance that is not the mark is the least total of a walk
+  -- a distance that is not `far` is the least total of a walk
   pub dist-least : (u v : ℕ) → IsJunction b u → dist b u v ≢ far → Least (net b) u v (dist b u v)
   unfolding dist
   dist-least u v h n = Distances.dist-least (net b) (junctions b) (layout .few-junctions) net-sound u h v n
 
-  -- the mark stands where there is no walk, and only there
-  pub dist-mark : (u v : ℕ) → IsJunction b u → (dist b u v ≡ far) ↔ (Joined (net b) u v → ⊥)
+  -- `far` stands where there is no walk, and only there
+  pub dist-far : (u v : ℕ) → IsJunction b u → (dist b u v ≡ far) ↔ (Joined (net b) u v → ⊥)
   unfolding dist
-  dist-mark u v h = (
+  dist-far u v h = (
     (λ e w. Distances.dist-none (net b) (junctions b) (layout .few-junctions) net-sound u h v e (w .0) (w .1)),
     (λ n. go n (ℕ-discrete (dist b u v) far)),
   )
@@ -63,36 +63,37 @@ module _ (b : List ℕ) (layout : RoadLayout b) where
 
   -- where a walk exists the distance is its least total
   pub walk-least : (u v : ℕ) → IsJunction b u → Joined (net b) u v → Least (net b) u v (dist b u v)
-  walk-least u v h w = dist-least u v h (λ e. dist-mark u v h .0 e w)
+  walk-least u v h w = dist-least u v h (λ e. dist-far u v h .0 e w)
 
 -- ---- refusal 6, and what passes
 
--- the first n distances are none of them the mark
-reached-all : (ds : List ℕ) (n : ℕ) → T (reached ds n) → (v : ℕ) → v < n → at ds v ≢ far
-unfolding reached
+-- the first n distances are none of them `far`
+reached-all : (ds : List ℕ) (n : ℕ) → T (allReached ds n) → (v : ℕ) → v < n → at ds v ≢ far
+unfolding allReached
 reached-all ds zero t v h = absurd (omega arith)
-reached-all ds (suc n) t v h = go (ℕ-discrete v n) (λ p. reached-all ds n (and-left (reached ds n) (ltb (at ds n) far) t) v p)
+reached-all ds (suc n) t v h = go (ℕ-discrete v n) (λ p. reached-all ds n (and-left (allReached ds n) (ltb (at ds n) far) t) v p)
   where
     go : Dec (v ≡ n) → (v < n → at ds v ≢ far) → at ds v ≢ far
-    go (yes e) rest = rw e (λ f. omega (arith, ltb→lt (at ds n) far (and-right (reached ds n) (ltb (at ds n) far) t)))
+    go (yes e) rest = rw e (λ f. omega (arith, ltb→lt (at ds n) far (and-right (allReached ds n) (ltb (at ds n) far) t)))
     go (no e) rest = rest (omega arith)
 
-all-reached : (ds : List ℕ) (n : ℕ) → ((v : ℕ) → v < n → at ds v < far) → T (reached ds n)
-unfolding reached
+all-reached : (ds : List ℕ) (n : ℕ) → ((v : ℕ) → v < n → at ds v < far) → T (allReached ds n)
+unfolding allReached
 all-reached ds zero h = tt
-all-reached ds (suc n) h = and-both (reached ds n) _ (all-reached ds n (λ v p. h v (omega arith))) (lt→ltb _ _ (h n (omega arith)))
+all-reached ds (suc n) h = and-both (allReached ds n) _ (all-reached ds n (λ v p. h v (omega arith))) (lt→ltb _ _ (h n (omega arith)))
 
-not-reached : (ds : List ℕ) (n : ℕ) → T (not (reached ds n)) → (v : ℕ) × (v < n) × (far ≤ at ds v)
-unfolding reached
+not-reached : (ds : List ℕ) (n : ℕ) → T (not (allReached ds n)) → (v : ℕ) × (v < n) × (far ≤ at ds v)
+unfolding allReached
 not-reached ds zero t = absurd t
-not-reached ds (suc n) t = go (T-split (reached ds n)) (λ p. not-reached ds n p)
+not-reached ds (suc n) t = go (T-split (allReached ds n)) (λ p. not-reached ds n p)
   where
     last : (a c : Bool) → T a → T (not (a && c)) → T (not c)
     last true c s t = t
     last false c s t = absurd s
 
-    go : T (reached ds n) ⊎ T (not (reached ds n)) → (T (not (reached ds n)) → (v : ℕ) × (v < n) × (far ≤ at ds v)) → (v : ℕ) × (v < suc n) × (far ≤ at ds v)
-    go (inl p) rest = (n, omega arith, nltb→le (at ds n) far (last (reached ds n) (ltb (at ds n) far) p t))
+    go : T (allReached ds n) ⊎ T (not (allReached ds n)) → (T (not (allReached ds n)) → (v : ℕ) × (v < n) × (far ≤ at ds v))
+        → (v : ℕ) × (v < suc n) × (far ≤ at ds v)
+    go (inl p) rest = (n, omega arith, nltb→le (at ds n) far (last (allReached ds n) (ltb (at ds n) far) p t))
     go (inr p) rest =
         let (v, q, r) = rest p in
         (v, omega arith, r)
@@ -101,24 +102,24 @@ module _ (b : List ℕ) where
   abbrev from-zero : List ℕ
   from-zero = distances (net b) (junctions b) 0
 
-  walks : (layout : RoadLayout b) → T (reached from-zero (junctions b)) → (v : ℕ) → v < junctions b → Joined (net b) 0 v
+  walks : (layout : RoadLayout b) → T (allReached from-zero (junctions b)) → (v : ℕ) → v < junctions b → Joined (net b) 0 v
   unfolding dist
   walks layout r v h = (dist b 0 v, dist-least b layout 0 v (layout .some-junction) (reached-all from-zero (junctions b) r v h) .walk)
 
-  -- where every junction can be reached none has the mark
-  unmarked : (p : Passing b) → T (reached from-zero (junctions b))
+  -- where every junction can be reached none has `far`
+  unmarked : (p : Passing b) → T (allReached from-zero (junctions b))
   unfolding dist
   unmarked p = all-reached from-zero (junctions b) (λ v h. near v h)
     where
       near : (v : ℕ) → v < junctions b → at from-zero v < far
       near v h =
-          let n : dist b 0 v ≢ far = λ e. dist-mark b (p .layout) 0 v (p .layout .some-junction) .0 e (p .connected v h) in
+          let n : dist b 0 v ≢ far = λ e. dist-far b (p .layout) 0 v (p .layout .some-junction) .0 e (p .connected v h) in
           omega (arith, Distances.dist-bound-all (net b) (junctions b) (p .layout .few-junctions) (net-sound b (p .layout)) 0 (p .layout .some-junction) v n)
 
   pub passing : roadRefusal b ≡ 0 → Passing b
   unfolding roadRefusal
   passing e =
-      let p = first-none (layoutRefusal b) _ e in
+      let p = first-none (roadLayoutRefusal b) _ e in
       let layout = passing-layout b (p .0) in
       let r = passed _ _ _ (p .1) (omega arith) .0 in
       record { layout = layout; connected = λ v h. walks layout r v h }
@@ -138,11 +139,11 @@ module _ (b : List ℕ) where
   -- refusal 6 exactly if the layout is sound and some junction has no walk from junction 0
   pub cut-off-exact : (roadRefusal b ≡ 6) ↔ (RoadLayout b × CutOff)
   unfolding roadRefusal
-  cut-off-exact = (λ e. there e (ℕ-discrete (layoutRefusal b) 0), λ c. back-again (c .0) (c .1))
+  cut-off-exact = (λ e. there e (ℕ-discrete (roadLayoutRefusal b) 0), λ c. back-again (c .0) (c .1))
     where
-      last : refuse (reached from-zero (junctions b)) 6 0 ≡ 6
-          → T (reached from-zero (junctions b)) ⊎ T (not (reached from-zero (junctions b))) → T (not (reached from-zero (junctions b)))
-      last e (inl t) = absurd (omega (arith, sym (passes (reached from-zero (junctions b)) 6 0 t) ∙ e))
+      last : refuse (allReached from-zero (junctions b)) 6 0 ≡ 6
+          → T (allReached from-zero (junctions b)) ⊎ T (not (allReached from-zero (junctions b))) → T (not (allReached from-zero (junctions b)))
+      last e (inl t) = absurd (omega (arith, sym (passes (allReached from-zero (junctions b)) 6 0 t) ∙ e))
       last e (inr t) = t
 
       far-off : (layout : RoadLayout b) → (v : ℕ) × (v < junctions b) × (far ≤ at from-zero v) → CutOff
@@ -158,17 +159,17 @@ module _ (b : List ℕ) where
             ),
       )
 
-      there : firstOf (layoutRefusal b) (refuse (reached from-zero (junctions b)) 6 0) ≡ 6 → Dec (layoutRefusal b ≡ 0) → RoadLayout b × CutOff
+      there : firstOf (roadLayoutRefusal b) (refuse (allReached from-zero (junctions b)) 6 0) ≡ 6 → Dec (roadLayoutRefusal b ≡ 0) → RoadLayout b × CutOff
       there e (yes z) =
           let layout = passing-layout b z in
-          let t = last (sym (first-later (layoutRefusal b) _ z) ∙ e) (T-split (reached from-zero (junctions b))) in
+          let t = last (sym (first-later (roadLayoutRefusal b) _ z) ∙ e) (T-split (allReached from-zero (junctions b))) in
           (layout, far-off layout (not-reached from-zero (junctions b) t))
-      there e (no z) = absurd (omega (arith, layout-low b, sym (first-earlier (layoutRefusal b) _ (omega arith)) ∙ e))
+      there e (no z) = absurd (omega (arith, layout-low b, sym (first-earlier (roadLayoutRefusal b) _ (omega arith)) ∙ e))
 
-      back-again : (layout : RoadLayout b) → CutOff → firstOf (layoutRefusal b) (refuse (reached from-zero (junctions b)) 6 0) ≡ 6
+      back-again : (layout : RoadLayout b) → CutOff → firstOf (roadLayoutRefusal b) (refuse (allReached from-zero (junctions b)) 6 0) ≡ 6
       back-again layout (v, h, n) =
-          first-later (layoutRefusal b) _ (layout-passes b layout)
-          ∙ fails (reached from-zero (junctions b)) 6 0 (not-T (reached from-zero (junctions b)) (λ t. n (walks layout t v h)))
+          first-later (roadLayoutRefusal b) _ (layout-passes b layout)
+          ∙ fails (allReached from-zero (junctions b)) 6 0 (not-T (allReached from-zero (junctions b)) (λ t. n (walks layout t v h)))
 
 -- ---- of a book that passes
 
@@ -185,7 +186,7 @@ module _ (b : List ℕ) (p : Passing b) where
       (s + t, join (turned b x) y)
 
   not-marked : (u v : ℕ) → IsJunction b u → IsJunction b v → dist b u v ≢ far
-  not-marked u v hu hv e = dist-mark b (p .layout) u v hu .0 e (all-joined u v hu hv)
+  not-marked u v hu hv e = dist-far b (p .layout) u v hu .0 e (all-joined u v hu hv)
 
   pub metric : Metric b
   unfolding dist
@@ -200,7 +201,7 @@ module _ (b : List ℕ) (p : Passing b) where
       small : junctions b ≤ width
       small = p .layout .few-junctions
 
-      sound : Sound (junctions b) (net b)
+      sound : SoundArcs (junctions b) (net b)
       sound = net-sound b (p .layout)
 
   -- the differences that bounds are made of: away from a landmark l, and towards it

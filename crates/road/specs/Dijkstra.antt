@@ -8,7 +8,7 @@ use Rattle.book.specs.Choose.{choose}
 use Rattle.adjacency.specs.Arcs.{Arc, net}
 use Rattle.road_layout.specs.Road.{junctions}
 
--- the mark of a junction that is not reached: above every distance
+-- the distance of a junction that is not reached: above every other
 abbrev pub far : ℕ
 far = 4294967295
 
@@ -21,7 +21,7 @@ unfoldable pub at : List ℕ → ℕ → ℕ
 at ds v = getD ds v far
 
 -- The state of a walk: the distances so far, and which junctions have been walked on from (settled).
-pub record State : Type 0 where
+pub record WalkState : Type 0 where
   pub ds : List ℕ
   pub done : List Bool
 
@@ -29,18 +29,18 @@ pub record State : Type 0 where
 unfoldable pub walked : List Bool → ℕ → Bool
 walked done v = getD done v false
 
--- what the choice goes by: the distance so far, or the mark if v has been walked on from
-unfoldable pub score : State → ℕ → ℕ
+-- what the choice goes by: the distance so far, or `far` if v has been walked on from
+unfoldable pub score : WalkState → ℕ → ℕ
 score st v = choose (walked (st .done) v) far (at (st .ds) v)
 
 -- the one of two junctions with the lower score; the second where they tie
-unfoldable pub nearer : State → ℕ → ℕ → ℕ
+unfoldable pub nearer : WalkState → ℕ → ℕ → ℕ
 nearer st a b = choose (ltb (score st a) (score st b)) a b
 
 -- the junction of lowest score below k, ties to the lower number
-unfoldable pub pick : State → ℕ → ℕ
-pick st zero = zero
-pick st (suc k) = let p = pick st k in nearer st k p
+unfoldable pub pickNearest : WalkState → ℕ → ℕ
+pickNearest st zero = zero
+pickNearest st (suc k) = let p = pickNearest st k in nearer st k p
 
 -- the distances with x for junction v if that is shorter
 unfoldable pub shorten : List ℕ → ℕ → ℕ → List ℕ
@@ -56,27 +56,27 @@ relax u d [] ds = ds
 relax u d (a ∷ arcs) ds = relax u d arcs (relaxArc u d a ds)
 
 -- walk on from u: mark it, and relax every arc that leaves it
-unfoldable pub walkOn : List Arc → State → ℕ → State
+unfoldable pub walkOn : List Arc → WalkState → ℕ → WalkState
 walkOn arcs st u = record { ds = relax u (at (st .ds) u) arcs (st .ds); done = set (st .done) u true }
 
 -- a round at u: walk on from it if it is reached and not yet walked on from
-unfoldable pub roundAt : List Arc → State → ℕ → State
+unfoldable pub roundAt : List Arc → WalkState → ℕ → WalkState
 roundAt arcs st u = let on = walkOn arcs st u in choose (ltb (score st u) far) on st
 
 -- k rounds among n junctions, each at the nearest junction that is not yet walked on from
-unfoldable pub rounds : List Arc → ℕ → ℕ → State → State
+unfoldable pub rounds : List Arc → ℕ → ℕ → WalkState → WalkState
 rounds arcs n zero st = st
-rounds arcs n (suc k) st = let r = rounds arcs n k st in roundAt arcs r (pick r n)
+rounds arcs n (suc k) st = let r = rounds arcs n k st in roundAt arcs r (pickNearest r n)
 
 -- only the source is reached, at 0, and none is walked on from
-unfoldable pub start : ℕ → State
-start source = record { ds = set (replicate width far) source 0; done = replicate width false }
+unfoldable pub startWalk : ℕ → WalkState
+startWalk source = record { ds = set (replicate width far) source 0; done = replicate width false }
 
 -- the state of a whole walk from a source
-unfoldable pub walkFrom : List Arc → ℕ → ℕ → State
-walkFrom arcs n source = rounds arcs n n (start source)
+unfoldable pub walkFrom : List Arc → ℕ → ℕ → WalkState
+walkFrom arcs n source = rounds arcs n n (startWalk source)
 
--- the distances from a source, the mark where there is no walk
+-- the distances from a source, `far` where there is no walk
 unfoldable pub distances : List Arc → ℕ → ℕ → List ℕ
 distances arcs n source = walkFrom arcs n source .ds
 

@@ -11,27 +11,27 @@ use Rattle.tournament.specs.Tournament.{queueWords, putLeaf, leaf, Tournament}
 use Rattle.road_layout.specs.Road.{junctions}
 use Rattle.adjacency.specs.Arcs.{Arc, net}
 use Rattle.adjacency.specs.Adjacency.{countIn, Adjacency}
-use Rattle.road.specs.Dijkstra.{far, width, at, State, score, start, rounds}
+use Rattle.road.specs.Dijkstra.{far, width, at, WalkState, score, startWalk, rounds}
 
-abbrev pub state : List ℕ → List Bool → State
+abbrev pub state : List ℕ → List Bool → WalkState
 state ds done = record { ds = ds; done = done }
 
 -- the word of a junction that is not queued: above every other
-abbrev pub mark : ℕ
-mark = 4398046510080
+abbrev pub absent : ℕ
+absent = 4398046510080
 
 -- the word of a queued junction: by distance, then by number
 abbrev pub word : ℕ → ℕ → ℕ
 word d v = d * 1024 + v
 
 -- junction v's word: it is queued while it is reached and not walked on from
-unfoldable pub wordOf : State → ℕ → ℕ
-wordOf st v = choose (ltb (score st v) far) (word (score st v) v) mark
+unfoldable pub queueWord : WalkState → ℕ → ℕ
+queueWord st v = choose (ltb (score st v) far) (word (score st v) v) absent
 
 -- The queue holds each junction's word.
-pub record Queued (queue : List ℕ) (st : State) : Type 0 where
+pub record QueueHolds (queue : List ℕ) (st : WalkState) : Type 0 where
   pub tournament : Tournament queue
-  pub words : (v : ℕ) → v < width → leaf queue v ≡ wordOf st v
+  pub words : (v : ℕ) → v < width → leaf queue v ≡ queueWord st v
 
 -- the distances and the queue
 pub record Reach : Type 0 where
@@ -57,8 +57,8 @@ relaxBoth u d (a ∷ arcs) s = relaxBoth u d arcs (choose (eqb (a .from) u) (sho
 
 -- The arrays of a walk from a source in a road book hold what k rounds give.
 pub record Walking (b : List ℕ) (source k : ℕ) (ds : List ℕ) (done : List Bool) (queue : List ℕ) : Type 0 where
-  pub rounded : state ds done ≡ rounds (net b) (junctions b) k (start source)
-  pub queued : Queued queue (state ds done)
+  pub rounded : state ds done ≡ rounds (net b) (junctions b) k (startWalk source)
+  pub queued : QueueHolds queue (state ds done)
 
 -- They do so in every road book whose adjacency the array is.
 abbrev pub WalkingIn : List ℕ → ℕ → ℕ → List ℕ → List Bool → List ℕ → Type 0

@@ -23,5 +23,5 @@ pub record Fit (n : ℕ) (a : Arc) : Type 0 where
   pub few : a .seconds ≤ 65535
 
 -- every arc is such a one
-abbrev pub Sound : ℕ → List Arc → Type 0
-Sound n arcs-of = (a : Arc) → List·Memᴰ a arcs-of → Fit n a
+abbrev pub SoundArcs : ℕ → List Arc → Type 0
+SoundArcs n arcs-of = (a : Arc) → List·Memᴰ a arcs-of → Fit n a

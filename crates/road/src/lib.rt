@@ -12,12 +12,12 @@ ghost use Rattle.road_layout.specs.Layout.{told};
 ghost use Rattle.adjacency.specs.Arcs.{net};
 ghost use Rattle.adjacency.specs.Adjacency.{adjacencyWords, Adjacency, IsAdjacency};
 ghost use Rattle.road.specs.Dijkstra.{distances};
-ghost use Rattle.road.specs.Refusal.{reached, roadRefusal};
+ghost use Rattle.road.specs.Refusal.{allReached, roadRefusal};
 
-// Whether none of the first n distances is the mark.
+// Whether each of the first n distances is one, and not FAR.
 fn all_reached(ds: &[u32], n: usize) -> bool
     requires { ⌜ n ≤ length (now ds) ⌝ }
-    ensures { λ r. ⌜ r ≡ reached (now (ds .entry)) n ⌝ }
+    ensures { λ r. ⌜ r ≡ allReached (now (ds .entry)) n ⌝ }
 {
     let mut i: usize = 0;
     while i < n {
@@ -33,7 +33,7 @@ fn all_reached(ds: &[u32], n: usize) -> bool
 fn connected(adj: &[u16]) -> bool
     requires { ⌜ IsAdjacency (now adj) ⌝ }
     ensures { λ r. ⌜ ((b : List ℕ) → Adjacency b (now (adj .entry))
-        → r ≡ reached (distances (net b) (junctions b) 0) (junctions b)) ⌝ }
+        → r ≡ allReached (distances (net b) (junctions b) 0) (junctions b)) ⌝ }
 {
     let mut row = [0u32; 1024];
     walk::distances(adj, &mut row, Junction { number: 0 });

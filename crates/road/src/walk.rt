@@ -10,15 +10,15 @@ ghost use Rattle.road_layout.specs.Road.{junctions};
 ghost use Rattle.adjacency.specs.Arcs.{net};
 ghost use Rattle.adjacency.specs.Adjacency.{countIn, Adjacency, IsAdjacency};
 ghost use Rattle.road.specs.Dijkstra.{far, at, distances};
-ghost use Rattle.road.specs.Queue.{mark, reach, Above, shortenBoth, relaxBoth};
+ghost use Rattle.road.specs.Queue.{absent, reach, Above, shortenBoth, relaxBoth};
 ghost use Rattle.road.specs.Queue.{Walking, WalkingIn, IsWalking, Roomy};
 
-// The mark of a junction that is not reached, and the word of one that is not queued.
+// The distance of a junction that is not reached, above every other, and the word of one that is not queued.
 pub const FAR: u32 = 4294967295;
 
-const MARK: u64 = 4398046510080;
+const ABSENT: u64 = 4398046510080;
 
-// The distance of junction v, the mark where the list has none.
+// The distance of junction v, FAR where the list has none.
 pub fn distance_to(ds: &[u32], v: u16) -> u32
     ensures { λ r. ⌜ r ≡ at (now (ds .entry)) v ⌝ }
 {
@@ -62,15 +62,15 @@ fn relax(adj: &[u16], row: &mut [u32], queue: &mut [u64], u: u16, d: u32)
 // Walks on from junction u at distance d: marks it, takes it off the queue, and relaxes its arcs.
 fn walk_on(adj: &[u16], row: &mut [u32], done: &mut [bool], queue: &mut [u64], u: u16, d: u32)
     requires { ⌜ IsAdjacency (now adj) × Roomy (now row) (now done) (now queue)
-        × (u < 1024) × (d ≤ 67042305) × Above (now row) (putLeaf (now queue) u mark) ⌝ }
+        × (u < 1024) × (d ≤ 67042305) × Above (now row) (putLeaf (now queue) u absent) ⌝ }
     ensures { λ _. ⌜
         ((b : List ℕ) → Adjacency b (now (adj .entry)) → reach (now (row .exit)) (now (queue .exit))
-        ≡ relaxBoth u d (net b) (reach (now (row .entry)) (putLeaf (now (queue .entry)) u mark)))
+        ≡ relaxBoth u d (net b) (reach (now (row .entry)) (putLeaf (now (queue .entry)) u absent)))
         × (now (done .exit) ≡ set (now (done .entry)) u true) ⌝ }
 {
     let i = u as usize;
     done[i] = true;
-    tournament::put(queue, i, MARK);
+    tournament::put(queue, i, ABSENT);
     relax(adj, row, queue, u, d);
 }
 
@@ -82,7 +82,7 @@ pub fn round(adj: &[u16], row: &mut [u32], done: &mut [bool], queue: &mut [u64])
         → WalkingIn (now (adj .entry)) source (k + 1) (now (row .exit)) (now (done .exit)) (now (queue .exit))) ⌝ }
 {
     let t = tournament::least(queue);
-    if t < MARK {
+    if t < ABSENT {
         walk_on(adj, row, done, queue, (t % 1024) as u16, (t / 1024) as u32);
     }
 }
@@ -107,13 +107,13 @@ pub fn start(row: &mut [u32], done: &mut [bool], queue: &mut [u64], source: Junc
         → Walking b (source .number) 0 (now (row .exit)) (now (done .exit)) (now (queue .exit))) ⌝ }
 {
     reset(row, done);
-    tournament::clear(queue, MARK);
+    tournament::clear(queue, ABSENT);
     let s = source.number as usize;
     row[s] = 0;
     tournament::put(queue, s, source.number as u64);
 }
 
-// Writes the distances from a source, the mark where there is no walk.
+// Writes the distances from a source, FAR where there is no walk.
 pub fn distances(adj: &[u16], row: &mut [u32], source: Junction)
     requires { ⌜ IsAdjacency (now adj) × (length (now row) ≡ 1024) × (source .number < countIn (now adj)) ⌝ }
     ensures { λ _. ⌜ ((b : List ℕ) → Adjacency b (now (adj .entry))

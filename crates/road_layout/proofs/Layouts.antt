@@ -13,8 +13,8 @@ use Rattle.book.proofs.Choosing.{and-left, and-right, and-both, or-cases, or-le
 use Rattle.book.proofs.Choosing.{passes, passed, first-none, first-later, first-low, refuse-low}
 use Rattle.book.proofs.Opening.{opens, open-zero, open-most}
 use Rattle.road_layout.specs.Road.{Road, junctions, roadCount, roadAt, roadsTo, roads}
-use Rattle.road_layout.specs.Layout.{after, roadOk, roadsOk, layoutRefusal}
-use Rattle.road_layout.specs.Facts.{Fits, Before, RoadLayout}
+use Rattle.road_layout.specs.Layout.{after, roadOk, roadsOk, roadLayoutRefusal}
+use Rattle.road_layout.specs.Facts.{RoadFits, EndsBefore, RoadLayout}
 
 -- the pair (l, h) comes before a road's
 abbrev Follows : ℕ → ℕ → Road → Type 0
@@ -35,13 +35,13 @@ module _ (l h : ℕ) (r : Road) where
   follows-after (inr s) = or-right (ltb l (r .low)) _ (and-both (eqb l (r .low)) _ (eq→eqb _ _ (s .0)) (lt→ltb _ _ (s .1)))
 
   -- a road passes exactly if it fits and follows
-  road-fits : (n : ℕ) → T (roadOk n l h r) → Fits n r × Follows l h r
+  road-fits : (n : ℕ) → T (roadOk n l h r) → RoadFits n r × Follows l h r
   unfolding roadOk
   road-fits n t =
       let t1 = and-right (ltb (r .low) (r .high)) _ t in
       let t2 = and-right (ltb (r .high) n) _ t1 in
       let t3 = and-right (leb 1 (r .seconds)) _ t2 in
-      let fits : Fits n r = record {
+      let fits : RoadFits n r = record {
         ends = ltb→lt _ _ (and-left (ltb (r .low) (r .high)) _ t);
         within = ltb→lt _ _ (and-left (ltb (r .high) n) _ t1);
         some = leb→le _ _ (and-left (leb 1 (r .seconds)) _ t2);
@@ -49,7 +49,7 @@ module _ (l h : ℕ) (r : Road) where
       } in
       (fits, after-follows (and-right (leb (r .seconds) 65535) _ t3))
 
-  fits-road : (n : ℕ) → Fits n r → Follows l h r → T (roadOk n l h r)
+  fits-road : (n : ℕ) → RoadFits n r → Follows l h r → T (roadOk n l h r)
   unfolding roadOk
   fits-road n f s =
       and-both (ltb (r .low) (r .high)) _ (lt→ltb _ _ (f .ends))
@@ -64,28 +64,28 @@ module _ (b : List ℕ) (n : ℕ) where
   unfolding roadsOk
   first-road left k l h t = (and-left (roadOk n l h (roadAt b k)) _ t, and-right (roadOk n l h (roadAt b k)) _ t)
 
-  roads-fit : (left k l h : ℕ) → T (roadsOk b n left k l h) → (j : ℕ) → k ≤ j → j < k + left → Fits n (roadAt b j)
+  roads-fit : (left k l h : ℕ) → T (roadsOk b n left k l h) → (j : ℕ) → k ≤ j → j < k + left → RoadFits n (roadAt b j)
   roads-fit zero k l h t j p q = absurd (omega arith)
   roads-fit (suc left) k l h t j p q = go (ℕ-discrete j k) (λ r. roads-fit left (k + 1) _ _ (first-road left k l h t .1) j r (omega arith))
     where
-      go : Dec (j ≡ k) → (k + 1 ≤ j → Fits n (roadAt b j)) → Fits n (roadAt b j)
+      go : Dec (j ≡ k) → (k + 1 ≤ j → RoadFits n (roadAt b j)) → RoadFits n (roadAt b j)
       go (yes e) rest = rw e (road-fits l h (roadAt b k) n (first-road left k l h t .0) .0)
       go (no e) rest = rest (omega arith)
 
-  roads-rise : (left k l h : ℕ) → T (roadsOk b n left k l h) → (j : ℕ) → k ≤ j → suc j < k + left → Before (roadAt b j) (roadAt b (suc j))
+  roads-rise : (left k l h : ℕ) → T (roadsOk b n left k l h) → (j : ℕ) → k ≤ j → suc j < k + left → EndsBefore (roadAt b j) (roadAt b (suc j))
   roads-rise zero k l h t j p q = absurd (omega arith)
   roads-rise (suc zero) k l h t j p q = absurd (omega arith)
   roads-rise (suc (suc left)) k l h t j p q =
       go (ℕ-discrete j k) (first-road (suc left) k l h t .1) (λ r. roads-rise (suc left) (k + 1) _ _ (first-road (suc left) k l h t .1) j r (omega arith))
     where
-      go : Dec (j ≡ k) → T (roadsOk b n (suc left) (k + 1) (roadAt b k .low) (roadAt b k .high)) → (k + 1 ≤ j → Before (roadAt b j) (roadAt b (suc j)))
-          → Before (roadAt b j) (roadAt b (suc j))
+      go : Dec (j ≡ k) → T (roadsOk b n (suc left) (k + 1) (roadAt b k .low) (roadAt b k .high)) → (k + 1 ≤ j → EndsBefore (roadAt b j) (roadAt b (suc j)))
+          → EndsBefore (roadAt b j) (roadAt b (suc j))
       go (yes e) s rest =
           rw e (rw (add-one k) at (road-fits (roadAt b k .low) (roadAt b k .high) (roadAt b (k + 1)) n (first-road left (k + 1) _ _ s .0) .1))
       go (no e) s rest = rest (omega arith)
 
-  roads-pass : (left k l h : ℕ) → ((j : ℕ) → k ≤ j → j < k + left → Fits n (roadAt b j))
-      → ((j : ℕ) → k ≤ j → suc j < k + left → Before (roadAt b j) (roadAt b (suc j)))
+  roads-pass : (left k l h : ℕ) → ((j : ℕ) → k ≤ j → j < k + left → RoadFits n (roadAt b j))
+      → ((j : ℕ) → k ≤ j → suc j < k + left → EndsBefore (roadAt b j) (roadAt b (suc j)))
       → (0 < left → Follows l h (roadAt b k)) → T (roadsOk b n left k l h)
   unfolding roadsOk
   roads-pass zero k l h f g s = tt
@@ -95,8 +95,8 @@ module _ (b : List ℕ) (n : ℕ) where
       (λ p. rw (add-one k) (g k (omega arith) (omega arith))))
 
 module _ (b : List ℕ) where
-  pub passing-layout : layoutRefusal b ≡ 0 → RoadLayout b
-  unfolding layoutRefusal
+  pub passing-layout : roadLayoutRefusal b ≡ 0 → RoadLayout b
+  unfolding roadLayoutRefusal
   passing-layout e =
       let o = first-none (openRefusal b 4) _ e in
       let a = passed _ _ _ (o .1) (omega arith) in
@@ -114,8 +114,8 @@ module _ (b : List ℕ) where
         rising = λ k h. roads-rise b (junctions b) (roadCount b) 0 0 0 (g .0) k (omega arith) (omega arith);
       }
 
-  pub layout-passes : RoadLayout b → layoutRefusal b ≡ 0
-  unfolding layoutRefusal
+  pub layout-passes : RoadLayout b → roadLayoutRefusal b ≡ 0
+  unfolding roadLayoutRefusal
   layout-passes r =
       first-later _ _ (open-zero b 4 (r .opens))
       ∙ passes _ _ _ (le→leb _ _ (r .some-junction)) ∙ passes _ _ _ (le→leb _ _ (r .few-junctions)) ∙ passes _ _ _ (le→leb _ _ (r .few-roads))
@@ -133,7 +133,7 @@ module _ (b : List ℕ) where
           roads-pass b (junctions b) (roadCount b) 0 0 0 (λ j p q. r .fits j (omega arith)) (λ j p q. r .rising j (omega arith)) first
 
   -- tests 1 to 5 all pass exactly if the layout is the stated one
-  pub layout-exact : (layoutRefusal b ≡ 0) ↔ RoadLayout b
+  pub layout-exact : (roadLayoutRefusal b ≡ 0) ↔ RoadLayout b
   layout-exact = (passing-layout, layout-passes)
 
 -- a road of the book is one of its numbered roads, and fits
@@ -145,15 +145,15 @@ to-member b (suc k) r (List·Memᴰ·tail m) =
     let (j, h, e) = to-member b k r m in
     (j, omega arith, e)
 
-pub roads-member : (b : List ℕ) → RoadLayout b → (r : Road) → List·Memᴰ r (roads b) → Fits (junctions b) r
+pub roads-member : (b : List ℕ) → RoadLayout b → (r : Road) → List·Memᴰ r (roads b) → RoadFits (junctions b) r
 unfolding roads
 roads-member b layout r m =
     let (j, h, e) = to-member b (roadCount b) r m in
     rw e (layout .fits j h)
 
 -- no refusal of the layout is above 5
-pub layout-low : (b : List ℕ) → layoutRefusal b ≤ 5
-unfolding layoutRefusal
+pub layout-low : (b : List ℕ) → roadLayoutRefusal b ≤ 5
+unfolding roadLayoutRefusal
 layout-low b =
     first-low (openRefusal b 4) _ 5 (omega (arith, open-most b 4))
     (refuse-low _ 3 _ 5 (omega arith) (refuse-low _ 3 _ 5 (omega arith) (refuse-low _ 3 _ 5 (omega arith)

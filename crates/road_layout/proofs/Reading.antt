@@ -1,4 +1,4 @@
--- Which facts lead to which answer of `layoutRefusal`. Assumes nothing.
+-- Which facts lead to which answer of `roadLayoutRefusal`. Assumes nothing.
 use mathlib.Core.Path.{_≡_, refl, sym, _∙_}
 use mathlib.Core.Bool.{true, false}
 use mathlib.Core.List.{List}
@@ -13,7 +13,7 @@ use Rattle.book.specs.declared.Opened.the-variants as Opened
 use Rattle.book.proofs.Choosing.{first-later, first-earlier, passes-if, fails-if}
 use Rattle.book.proofs.Opening.{opened-refused}
 use Rattle.road_layout.specs.Road.{junctions, roadCount}
-use Rattle.road_layout.specs.Layout.{roadsOk, layoutRefusal, told, numberOf}
+use Rattle.road_layout.specs.Layout.{roadsOk, roadLayoutRefusal, told, roadNumber}
 use Rattle.road_layout.specs.declared.RoadBook.the-variants.{Sound, Refused}
 
 -- a refusal's number is what is told
@@ -41,52 +41,52 @@ told-sound (suc x) j r n m e = let z : _≡_ {A = ℕ} 0 1 = cc in absurd (omega
 
 -- a book that does not open
 pub unopened : (b : List ℕ) (why : ℕ) → opened (openRefusal b 4) ≡ Opened.Refused why
-    → Refused why ≡ told (layoutRefusal b) (junctions b) (roadCount b)
-unfolding layoutRefusal
+    → Refused why ≡ told (roadLayoutRefusal b) (junctions b) (roadCount b)
+unfolding roadLayoutRefusal
 unopened b why e =
     let p = opened-refused (openRefusal b 4) why e in
     rw (first-earlier (openRefusal b 4) _ (omega (arith, p .0, p .1)), p .0) (sym (told-refused why (junctions b) (roadCount b) (p .1)))
 
 module _ (b : List ℕ) (o : openRefusal b 4 ≡ 0) (n count : ℕ) (en : n ≡ junctions b) (ec : count ≡ roadCount b) where
   -- an answer, from the number that the tests give
-  pub refused : (x : ℕ) → layoutRefusal b ≡ x → 1 ≤ x → Refused x ≡ told (layoutRefusal b) (junctions b) (roadCount b)
+  pub refused : (x : ℕ) → roadLayoutRefusal b ≡ x → 1 ≤ x → Refused x ≡ told (roadLayoutRefusal b) (junctions b) (roadCount b)
   refused x e h = rw e (sym (told-refused x (junctions b) (roadCount b) h))
 
-  pub sound : layoutRefusal b ≡ 0 → Sound n count ≡ told (layoutRefusal b) (junctions b) (roadCount b)
+  pub sound : roadLayoutRefusal b ≡ 0 → Sound n count ≡ told (roadLayoutRefusal b) (junctions b) (roadCount b)
   unfolding told
   sound e = rw (e, en, ec) refl
 
-  pub no-junction : n < 1 → layoutRefusal b ≡ 3
-  unfolding layoutRefusal
+  pub no-junction : n < 1 → roadLayoutRefusal b ≡ 3
+  unfolding roadLayoutRefusal
   no-junction p = first-later _ _ o ∙ fails-if _ _ _ (lt-leb _ _ (rw en at p))
 
-  pub many-junctions : 1 ≤ n → 1024 < n → layoutRefusal b ≡ 3
-  unfolding layoutRefusal
+  pub many-junctions : 1 ≤ n → 1024 < n → roadLayoutRefusal b ≡ 3
+  unfolding roadLayoutRefusal
   many-junctions p q =
       first-later _ _ o ∙ passes-if _ _ _ (le-leb _ _ (rw en at p)) ∙ fails-if _ _ _ (lt-leb _ _ (rw en at q))
 
   module _ (p : 1 ≤ n) (q : n ≤ 1024) where
-    counted : layoutRefusal b
+    counted : roadLayoutRefusal b
         ≡ refuse (leb count 4096) 3
         (refuse (eqb (length b) (9 + 6 * count)) 4 (refuse (roadsOk b n count 0 0 0) 5 0))
-    unfolding layoutRefusal
+    unfolding roadLayoutRefusal
     counted =
         first-later _ _ o ∙ passes-if _ _ _ (le-leb _ _ (rw en at p)) ∙ passes-if _ _ _ (le-leb _ _ (rw en at q)) ∙ rw (en, ec) refl
 
-    pub many-roads : 4096 < count → layoutRefusal b ≡ 3
+    pub many-roads : 4096 < count → roadLayoutRefusal b ≡ 3
     many-roads r = counted ∙ fails-if _ _ _ (lt-leb _ _ r)
 
-    pub misfit : count ≤ 4096 → (length b ≡ 9 + 6 * count → ⊥) → layoutRefusal b ≡ 4
+    pub misfit : count ≤ 4096 → (length b ≡ 9 + 6 * count → ⊥) → roadLayoutRefusal b ≡ 4
     misfit r s = counted ∙ passes-if _ _ _ (le-leb _ _ r) ∙ fails-if _ _ _ (ne-eqb _ _ s)
 
-    pub wrong : count ≤ 4096 → length b ≡ 9 + 6 * count → roadsOk b n count 0 0 0 ≡ false → layoutRefusal b ≡ 5
+    pub wrong : count ≤ 4096 → length b ≡ 9 + 6 * count → roadsOk b n count 0 0 0 ≡ false → roadLayoutRefusal b ≡ 5
     wrong r s t = counted ∙ passes-if _ _ _ (le-leb _ _ r) ∙ passes-if _ _ _ (eq-eqb _ _ s) ∙ fails-if _ _ _ t
 
-    pub right : count ≤ 4096 → length b ≡ 9 + 6 * count → roadsOk b n count 0 0 0 ≡ true → layoutRefusal b ≡ 0
+    pub right : count ≤ 4096 → length b ≡ 9 + 6 * count → roadsOk b n count 0 0 0 ≡ true → roadLayoutRefusal b ≡ 0
     right r s t = counted ∙ passes-if _ _ _ (le-leb _ _ r) ∙ passes-if _ _ _ (eq-eqb _ _ s) ∙ passes-if _ _ _ t
 
 -- the number that an answer has
-pub number-told : (x j r : ℕ) → numberOf (told x j r) ≡ x
-unfolding numberOf told
+pub number-told : (x j r : ℕ) → roadNumber (told x j r) ≡ x
+unfolding roadNumber told
 number-told zero j r = refl
 number-told (suc x) j r = refl

@@ -9,15 +9,15 @@ use Rattle.book.specs.Open.{Opens}
 use Rattle.road_layout.specs.Road.{Road, junctions, roadCount, roadAt}
 
 -- "Ends are below the junction count, low below high", "seconds u16 (1 to 65,535)"
-pub record Fits (n : ℕ) (r : Road) : Type 0 where
+pub record RoadFits (n : ℕ) (r : Road) : Type 0 where
   pub ends : r .low < r .high
   pub within : r .high < n
   pub some : 1 ≤ r .seconds
   pub few : r .seconds ≤ 65535
 
 -- "pairs rise strictly": by the low end, then by the high end
-abbrev pub Before : Road → Road → Type 0
-Before r s = (r .low < s .low) ⊎ ((r .low ≡ s .low) × (r .high < s .high))
+abbrev pub EndsBefore : Road → Road → Type 0
+EndsBefore r s = (r .low < s .low) ⊎ ((r .low ≡ s .low) × (r .high < s .high))
 
 -- "Road book: junctions u16 (1 to 1,024), roads u16 (0 to 4,096); per road .."
 pub record RoadLayout (b : List ℕ) : Type 0 where
@@ -26,5 +26,5 @@ pub record RoadLayout (b : List ℕ) : Type 0 where
   pub few-junctions : junctions b ≤ 1024
   pub few-roads : roadCount b ≤ 4096
   pub whole : length b ≡ 9 + 6 * roadCount b
-  pub fits : (k : ℕ) → k < roadCount b → Fits (junctions b) (roadAt b k)
-  pub rising : (k : ℕ) → suc k < roadCount b → Before (roadAt b k) (roadAt b (suc k))
+  pub fits : (k : ℕ) → k < roadCount b → RoadFits (junctions b) (roadAt b k)
+  pub rising : (k : ℕ) → suc k < roadCount b → EndsBefore (roadAt b k) (roadAt b (suc k))

@@ -27,8 +27,8 @@ roadsOk b n (suc left) k l h = roadOk n l h (roadAt b k)
     && roadsOk b n left (k + 1) (roadAt b k .low) (roadAt b k .high)
 
 -- the first of tests 1 to 5 that fails, or 0, each over the whole book before the next
-unfoldable pub layoutRefusal : List ℕ → ℕ
-layoutRefusal b =
+unfoldable pub roadLayoutRefusal : List ℕ → ℕ
+roadLayoutRefusal b =
     firstOf (openRefusal b 4)
     -- 3: "a junction, road .. count is outside its limits": junctions 1 to 1,024, roads 0 to 4,096
     (refuse (leb 1 (junctions b)) 3
@@ -45,6 +45,6 @@ told zero j r = Sound j r
 told (suc n) j r = Refused (suc n)
 
 -- the number of an answer: "The number of an accepted call is 0."
-unfoldable pub numberOf : RoadBook → ℕ
-numberOf (Sound j r) = 0
-numberOf (Refused why) = why
+unfoldable pub roadNumber : RoadBook → ℕ
+roadNumber (Sound j r) = 0
+roadNumber (Refused why) = why

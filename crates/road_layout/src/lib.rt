@@ -3,7 +3,7 @@ ghost use mathlib.Core.Path.{_≡_};
 ghost use Prim.Native.Nat.{_+_, _*_, _≤_};
 ghost use lib.ListN.{length};
 ghost use Rattle.road_layout.specs.Road.{junctions, roadCount, roadAt};
-ghost use Rattle.road_layout.specs.Layout.{roadOk, roadsOk, layoutRefusal, told, numberOf};
+ghost use Rattle.road_layout.specs.Layout.{roadOk, roadsOk, roadLayoutRefusal, told, roadNumber};
 
 // What reading a road book finds: its counts, or the number of the test that turns it back.
 pub enum RoadBook {
@@ -13,7 +13,7 @@ pub enum RoadBook {
 
 // The number of an answer, 0 for a book that is read.
 pub fn number(o: RoadBook) -> u8
-    ensures { λ r. ⌜ r ≡ numberOf o ⌝ }
+    ensures { λ r. ⌜ r ≡ roadNumber o ⌝ }
 {
     match o {
         RoadBook::Sound {
@@ -108,7 +108,7 @@ fn roads_ok(b: &[u8], count: usize, n: u16) -> bool
 // Reads a road book through tests 1 to 5.
 pub fn read(b: &[u8]) -> RoadBook
     ensures { λ r. ⌜ r
-        ≡ told (layoutRefusal (now (b .entry))) (junctions (now (b .entry))) (roadCount (now (b .entry))) ⌝ }
+        ≡ told (roadLayoutRefusal (now (b .entry))) (junctions (now (b .entry))) (roadCount (now (b .entry))) ⌝ }
 {
     let o = book::open(b, 4);
     let Opened::Body = o else {

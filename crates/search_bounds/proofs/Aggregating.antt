@@ -5,29 +5,29 @@ use Prim.Native.Nat.{ℕ, _+_, _*_, _≤_, _<_, max}
 use native.Mathlib.Numerals.{add-one}
 use native.Mathlib.Omega.{arith}
 use lib.ListN.{length, getD}
-use Rattle.search_rules.specs.Bounds.{apart, combine, aggregate}
+use Rattle.search_rules.specs.Bounds.{absDiff, combine, aggregate}
 use Rattle.search_rules.proofs.Measures.{combine-most}
 use Rattle.search_bounds.specs.Rows.{rowsLower}
-use Rattle.search_bounds.specs.Measures.{fBy, crewApart, yardBoundBy}
+use Rattle.search_bounds.specs.Measures.{fBy, crewAbsDiff, yardBoundBy}
 
 -- f is the aggregate of the differences
-pub f-all : (code : ℕ) (out : List ℕ) (distance r : ℕ) → r ≡ aggregate code (λ x. apart x distance) out → r ≡ fBy code out distance
+pub f-all : (code : ℕ) (out : List ℕ) (distance r : ℕ) → r ≡ aggregate code (λ x. absDiff x distance) out → r ≡ fBy code out distance
 unfolding fBy
 f-all code out distance r e = e
 
 -- ---- a yard's bound, with j crews done
 
-module _ (code : ℕ) (sheet : List ℕ) (rows : ℕ) (crews out : List ℕ) (yard distance : ℕ) where
+module _ (code : ℕ) (table : List ℕ) (rows : ℕ) (crews out : List ℕ) (yard distance : ℕ) where
   pub record Bounding (j total : ℕ) : Type 0 where
     pub inside : j ≤ length crews
-    pub so-far : total ≡ yardBoundBy code sheet rows crews out yard distance j
+    pub so-far : total ≡ yardBoundBy code table rows crews out yard distance j
     pub low : total ≤ j * 4294967295
 
   pub bounding-none : Bounding 0 0
   unfolding yardBoundBy
   bounding-none = record { inside = omega arith; so-far = refl; low = omega arith }
 
-  pub bounding-more : (j total : ℕ) → Bounding j total → (x y r : ℕ) → j < length crews → x ≡ crewApart sheet rows crews out yard distance j
+  pub bounding-more : (j total : ℕ) → Bounding j total → (x y r : ℕ) → j < length crews → x ≡ crewAbsDiff table rows crews out yard distance j
       → y ≡ x → y < 4294967296 → r ≡ combine code total y → Bounding (j + 1) r
   unfolding yardBoundBy
   bounding-more j total b x y r h e g small k = record {
@@ -36,11 +36,11 @@ module _ (code : ℕ) (sheet : List ℕ) (rows : ℕ) (crews out : List ℕ) (ya
     low = omega (arith, combine-most code total y, b .low);
   }
 
-  pub bounding-all : (j total : ℕ) → Bounding j total → length crews ≤ j → total ≡ yardBoundBy code sheet rows crews out yard distance (length crews)
+  pub bounding-all : (j total : ℕ) → Bounding j total → length crews ≤ j → total ≡ yardBoundBy code table rows crews out yard distance (length crews)
   bounding-all j total b h = let e : j ≡ length crews = omega (arith, b .inside) in rw (← e) (b .so-far)
 
 -- crew number j's greatest difference, by the two that were computed
-pub crew-apart : (sheet : List ℕ) (rows : ℕ) (crews out : List ℕ) (yard distance j x y r : ℕ) → x ≡ rowsLower sheet rows yard (getD crews j 0)
-    → y ≡ apart (getD out j 0) distance → r ≡ max x y → r ≡ crewApart sheet rows crews out yard distance j
-unfolding crewApart
-crew-apart sheet rows crews out yard distance j x y r e g k = k ∙ rw (e, g) refl
+pub crew-abs-diff : (table : List ℕ) (rows : ℕ) (crews out : List ℕ) (yard distance j x y r : ℕ) → x ≡ rowsLower table rows yard (getD crews j 0)
+    → y ≡ absDiff (getD out j 0) distance → r ≡ max x y → r ≡ crewAbsDiff table rows crews out yard distance j
+unfolding crewAbsDiff
+crew-abs-diff table rows crews out yard distance j x y r e g k = k ∙ rw (e, g) refl

@@ -43,46 +43,46 @@ module _ (b : List ℕ) (at : ℕ) (r : RecordAt b at) (j : ℕ) (h : j < landma
   place-there = rw place-read (r .placed (getD (marksAt b at) j noMark) (getD-mem (marksAt b at) j noMark (omega (arith, marks-count b at))))
 
 -- the bound of a landmark that is read is that of the landmark
-pub mark-read : (sheet : List ℕ) (rows q w : ℕ) (n : Mark) (k : Landmark) → k ≡ landmarkOf n
-    → w ≡ crewBound (rowsLower sheet rows (k .place) q) (rowsUpper sheet rows (k .place) q) (k .least) (k .greatest) → w ≡ rowsMark sheet rows q n
+pub mark-read : (table : List ℕ) (rows q w : ℕ) (n : Mark) (k : Landmark) → k ≡ landmarkOf n
+    → w ≡ crewBound (rowsLower table rows (k .place) q) (rowsUpper table rows (k .place) q) (k .least) (k .greatest) → w ≡ rowsMark table rows q n
 unfolding rowsMark landmarkOf
-mark-read sheet rows q w n k e f = rw e at f
+mark-read table rows q w n k e f = rw e at f
 
 -- ---- the definitions, opened
 
 pub mark-bound-made : (lb ub x a b w : ℕ) (y : ℕ) → lb ≡ x → ub ≡ y → w ≡ crewBound lb ub a b → w ≡ crewBound x y a b
 mark-bound-made lb ub x a b w y e f g = rw (← e, ← f) g
 
-pub crew-made : (sheet : List ℕ) (rows : ℕ) (ks : List Mark) (q x : ℕ) → x ≡ greatestOf (rowsMark sheet rows q) ks → x ≡ rowsCrew sheet rows ks q
+pub crew-made : (table : List ℕ) (rows : ℕ) (ks : List Mark) (q x : ℕ) → x ≡ greatestOf (rowsMark table rows q) ks → x ≡ rowsCrew table rows ks q
 unfolding rowsCrew
-crew-made sheet rows ks q x e = e
+crew-made table rows ks q x e = e
 
-pub bound-made : (sheet : List ℕ) (rows code : ℕ) (crews : List ℕ) (ks : List Mark) (x : ℕ) → x ≡ aggregate code (rowsCrew sheet rows ks) crews
-    → x ≡ rowsBound sheet rows code crews ks
+pub bound-made : (table : List ℕ) (rows code : ℕ) (crews : List ℕ) (ks : List Mark) (x : ℕ) → x ≡ aggregate code (rowsCrew table rows ks) crews
+    → x ≡ rowsBound table rows code crews ks
 unfolding rowsBound
-bound-made sheet rows code crews ks x e = e
+bound-made table rows code crews ks x e = e
 
-pub weight-made : (sheet : List ℕ) (rows : ℕ) (crews : List ℕ) (l x : ℕ) → x ≡ aggregate 0 (rowsLower sheet rows l) crews
-    → x ≡ rowsWeight sheet rows crews l
+pub weight-made : (table : List ℕ) (rows : ℕ) (crews : List ℕ) (l x : ℕ) → x ≡ aggregate 0 (rowsLower table rows l) crews
+    → x ≡ rowsWeight table rows crews l
 unfolding rowsWeight
-weight-made sheet rows crews l x e = e
+weight-made table rows crews l x e = e
 
-pub weight-read : (sheet : List ℕ) (rows : ℕ) (crews : List ℕ) (ks : List Mark) (j u x : ℕ) → u ≡ getD ks j noMark .place
-    → x ≡ rowsWeight sheet rows crews u → x ≡ markWeight sheet rows crews ks j
+pub weight-read : (table : List ℕ) (rows : ℕ) (crews : List ℕ) (ks : List Mark) (j u x : ℕ) → u ≡ getD ks j noMark .place
+    → x ≡ rowsWeight table rows crews u → x ≡ markWeight table rows crews ks j
 unfolding markWeight
-weight-read sheet rows crews ks j u x e f = rw (← e) f
+weight-read table rows crews ks j u x e f = rw (← e) f
 
-pub chosen-made : (sheet : List ℕ) (rows : ℕ) (crews : List ℕ) (ks : List Mark) (m p : ℕ) → length ks ≡ m
-    → p ≡ firstGreatest (markWeight sheet rows crews ks) m → p ≡ rowsChosen sheet rows crews ks
+pub chosen-made : (table : List ℕ) (rows : ℕ) (crews : List ℕ) (ks : List Mark) (m p : ℕ) → length ks ≡ m
+    → p ≡ firstGreatest (markWeight table rows crews ks) m → p ≡ rowsChosen table rows crews ks
 unfolding rowsChosen
-chosen-made sheet rows crews ks m p e f = rw e f
+chosen-made table rows crews ks m p e f = rw e f
 
 -- ---- a region by its number
 
-pub bound-moved : (sheet : List ℕ) (rows code : ℕ) (crews : List ℕ) (ks ms : List Mark) (x : ℕ) → ks ≡ ms → x ≡ rowsBound sheet rows code crews ks
-    → x ≡ rowsBound sheet rows code crews ms
-bound-moved sheet rows code crews ks ms x e f = rw (← e) f
+pub bound-moved : (table : List ℕ) (rows code : ℕ) (crews : List ℕ) (ks ms : List Mark) (x : ℕ) → ks ≡ ms → x ≡ rowsBound table rows code crews ks
+    → x ≡ rowsBound table rows code crews ms
+bound-moved table rows code crews ks ms x e f = rw (← e) f
 
-pub chosen-moved : (sheet : List ℕ) (rows : ℕ) (crews : List ℕ) (ks ms : List Mark) (p : ℕ) → ks ≡ ms → p ≡ rowsChosen sheet rows crews ks
-    → p ≡ rowsChosen sheet rows crews ms
-chosen-moved sheet rows crews ks ms p e f = rw (← e) f
+pub chosen-moved : (table : List ℕ) (rows : ℕ) (crews : List ℕ) (ks ms : List Mark) (p : ℕ) → ks ≡ ms → p ≡ rowsChosen table rows crews ks
+    → p ≡ rowsChosen table rows crews ms
+chosen-moved table rows crews ks ms p e f = rw (← e) f

@@ -1,4 +1,4 @@
--- The rows of the root's landmarks are a search's sheet. Assumes nothing.
+-- The rows of the root's landmarks are a search's landmark table. Assumes nothing.
 use mathlib.Core.Path.{_≡_, sym, ap, _∙_}
 use mathlib.Core.List.{List, _++_}
 use Prim.Native.Nat.{ℕ, _*_, _≤_, _<_}
@@ -15,12 +15,12 @@ use Rattle.tree_layout.specs.Reading.{headerOf}
 use Rattle.tree_layout.specs.declared.Header.{Header}
 use Rattle.search_rules.specs.Instance.{Instance, marks}
 use Rattle.search_rules.specs.Books.{searchOf}
-use Rattle.search_rules.specs.Bounds.{sheetAt}
+use Rattle.search_rules.specs.Bounds.{tableAt}
 use Rattle.tree_layout.specs.Values.{noMark}
-use Rattle.search_rules.proofs.Equations.{sheet-at, search-of}
+use Rattle.search_rules.proofs.Equations.{table-at, search-of}
 use Rattle.tree_layout.specs.Marks.{marksAt, RecordAt}
-use Rattle.search_bounds.specs.Rows.{sheetWords}
-use Rattle.search_bounds.specs.Sheet.{rootPlaces, Sheet}
+use Rattle.search_bounds.specs.Rows.{tableWords}
+use Rattle.search_bounds.specs.Tables.{rootPlaces, LandmarkTable}
 use Rattle.tree_layout.proofs.RecordFields.{marks-count}
 use Rattle.search_bounds.proofs.Bounding.{count-read}
 use Rattle.search_bounds.proofs.Numbered.{layout-marks, layout-record, layout-placed}
@@ -70,13 +70,13 @@ module _ (tree : List ℕ) (layout : TreeLayout tree) where
         taken-within n counts =
             rw taken (root-each tree n (λ k j. omega (arith, counts, layout-placed tree layout 0 (layout .regions .0) 12 (sym (place-first tree)) k j)))
 
-        pub taken-room : (w : ℕ) → w ≡ sheetWords → 1024 * length (take m (new ++ drop m old)) ≤ w
+        pub taken-room : (w : ℕ) → w ≡ tableWords → 1024 * length (take m (new ++ drop m old)) ≤ w
         taken-room w f = omega (arith, root-taken, root-few)
 
-        pub taken-rowed : (road sheet : List ℕ) → Rowed road (take m (new ++ drop m old)) sheet → Rowed road (rootPlaces tree) sheet
-        taken-rowed road sheet rowed = rw taken at rowed
+        pub taken-rowed : (road table : List ℕ) → Rowed road (take m (new ++ drop m old)) table → Rowed road (rootPlaces tree) table
+        taken-rowed road table rowed = rw taken at rowed
 
--- ---- a search's sheet
+-- ---- a search's landmark table
 
 module _ (road tree : List ℕ) (layout : TreeLayout tree) (code goal : ℕ) (crews : List ℕ) where
   abbrev i : Instance
@@ -85,15 +85,15 @@ module _ (road tree : List ℕ) (layout : TreeLayout tree) (code goal : ℕ) (cr
   root-marks : marksAt tree 12 ≡ marks i 0
   root-marks = layout-marks tree layout 0 (layout .regions .0) 12 (sym (place-first tree)) ∙ sym (marks-book road tree code goal crews 0)
 
-  distance-is : (k : Mark) (v : ℕ) → dist road (k .place) v ≡ sheetAt i k v
-  distance-is k v = ap (λ (x : Instance). x .d (k .place) v) (sym (search-of road tree code goal crews)) ∙ sym (sheet-at i k v)
+  distance-is : (k : Mark) (v : ℕ) → dist road (k .place) v ≡ tableAt i k v
+  distance-is k v = ap (λ (x : Instance). x .d (k .place) v) (sym (search-of road tree code goal crews)) ∙ sym (table-at i k v)
 
   junctions-are : i .tree .junctions ≡ junctionCount tree
   junctions-are = ap (λ (x : Instance). x .tree .junctions) (search-of road tree code goal crews) ∙ decode-junctions tree
 
   -- "The sheet holds d from the root's landmarks r to every junction."
-  pub sheet-filled : (sheet : List ℕ) → length sheet ≡ sheetWords → Rowed road (rootPlaces tree) sheet → Sheet i (landmarkCount tree) sheet
-  sheet-filled sheet room rowed = record {
+  pub table-filled : (table : List ℕ) → length table ≡ tableWords → Rowed road (rootPlaces tree) table → LandmarkTable i (landmarkCount tree) table
+  table-filled table room rowed = record {
     limits = record {
       room = room;
       some = layout .landmarks .0;
@@ -103,7 +103,7 @@ module _ (road tree : List ℕ) (layout : TreeLayout tree) (code goal : ℕ) (cr
     filled = λ r v h k. words r v h (omega (arith, junctions-are, layout .junctions .1));
   }
     where
-      words : (r v : ℕ) → r < landmarkCount tree → v < 1024 → cell sheet r v ≡ sheetAt i (getD (marks i 0) r noMark) v
+      words : (r v : ℕ) → r < landmarkCount tree → v < 1024 → cell table r v ≡ tableAt i (getD (marks i 0) r noMark) v
       words r v h k =
           let source : dist road (getD (rootPlaces tree) r 0) v ≡ dist road (getD (marksAt tree 12) r noMark .place) v = rw (root-at tree r h) in
           let filled = rowed .filled r v (omega (arith, root-length tree)) k in

@@ -3,7 +3,7 @@ pub mod Folds
 pub mod Bounding
 pub mod Picking
 pub mod Numbered
-pub mod Sheets
+pub mod Tables
 pub mod Searching
 pub mod Places
 pub mod Filled

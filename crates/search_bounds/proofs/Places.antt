@@ -15,7 +15,7 @@ use Rattle.tree_layout.specs.declared.Landmark.{Landmark}
 use Rattle.tree_layout.specs.Marks.{marksAt, landmarkOf, RecordAt}
 use Rattle.tree_layout.proofs.RecordFields.{marks-count}
 use Rattle.search_bounds.proofs.Bounding.{place-read}
-use Rattle.search_bounds.specs.Sheet.{placesOf, rootPlaces}
+use Rattle.search_bounds.specs.Tables.{placesOf, rootPlaces}
 
 -- ---- of some landmarks
 

@@ -18,16 +18,16 @@ use Rattle.search_rules.proofs.Books.{accepted-of, well-of, count}
 use Rattle.search_rules.proofs.Equations.{marks-is, search-of}
 use Rattle.search_bounds.specs.Rows.{rowsLower}
 use Rattle.search_bounds.specs.Bounds.{rowsBound, rowsChosen, Crews}
-use Rattle.search_bounds.specs.Sheet.{Sheet}
-use Rattle.search_bounds.proofs.Sheets.{lower-sheet, bound-sheet, chosen-sheet, chosen-below}
+use Rattle.search_bounds.specs.Tables.{LandmarkTable}
+use Rattle.search_bounds.proofs.Tables.{lower-table, bound-table, chosen-table, chosen-below}
 
-same-bound : (sheet : List ℕ) (rows code code′ : ℕ) (crews crews′ : List ℕ) (ks ks′ : List Mark) → code ≡ code′ → crews ≡ crews′ → ks ≡ ks′
-    → rowsBound sheet rows code crews ks ≡ rowsBound sheet rows code′ crews′ ks′
-same-bound sheet rows code code′ crews crews′ ks ks′ e f g = rw (e, f, g) refl
+same-bound : (table : List ℕ) (rows code code′ : ℕ) (crews crews′ : List ℕ) (ks ks′ : List Mark) → code ≡ code′ → crews ≡ crews′ → ks ≡ ks′
+    → rowsBound table rows code crews ks ≡ rowsBound table rows code′ crews′ ks′
+same-bound table rows code code′ crews crews′ ks ks′ e f g = rw (e, f, g) refl
 
-same-chosen : (sheet : List ℕ) (rows : ℕ) (crews crews′ : List ℕ) (ks ks′ : List Mark) → crews ≡ crews′ → ks ≡ ks′
-    → rowsChosen sheet rows crews ks ≡ rowsChosen sheet rows crews′ ks′
-same-chosen sheet rows crews crews′ ks ks′ e f = rw (e, f) refl
+same-chosen : (table : List ℕ) (rows : ℕ) (crews crews′ : List ℕ) (ks ks′ : List Mark) → crews ≡ crews′ → ks ≡ ks′
+    → rowsChosen table rows crews ks ≡ rowsChosen table rows crews′ ks′
+same-chosen table rows crews crews′ ks ks′ e f = rw (e, f) refl
 
 module _ (road tree : List ℕ) (code goal : ℕ) (crews : List ℕ) where
   abbrev i : Instance
@@ -47,7 +47,7 @@ module _ (road tree : List ℕ) (code goal : ℕ) (crews : List ℕ) where
   marks-book r = marks-is i r ∙ ap (λ t. regionAt (t .regions) r .marks) tree-is
 
   module _ (p : Passed road tree crews) where
-    -- the crews have their places in the sheet's rows
+    -- the crews have their places in the landmark table's rows
     pub crews-of : Crews crews
     crews-of =
         let a = accepted-of road tree code goal crews p .few-junctions in
@@ -56,23 +56,23 @@ module _ (road tree : List ℕ) (code goal : ℕ) (crews : List ℕ) where
     inside : (v : ℕ) → v < junctions road → v < i .tree .junctions
     inside v h = omega (arith, count road tree code goal crews p, ap (λ t. t .junctions) tree-is)
 
-    module _ (rows : ℕ) (sheet : List ℕ) (s : Sheet i rows sheet) where
-      pub lower-of : (l q x : ℕ) → l < junctions road → q < junctions road → x ≡ rowsLower sheet rows l q → x ≡ lower i l q
-      lower-of l q x h k e = e ∙ lower-sheet i rows sheet s l q (inside l h) (inside q k)
+    module _ (rows : ℕ) (table : List ℕ) (s : LandmarkTable i rows table) where
+      pub lower-of : (l q x : ℕ) → l < junctions road → q < junctions road → x ≡ rowsLower table rows l q → x ≡ lower i l q
+      lower-of l q x h k e = e ∙ lower-table i rows table s l q (inside l h) (inside q k)
 
       module _ (r : ℕ) where
-        pub bound-of : (x : ℕ) → x ≡ rowsBound sheet rows code crews (regionAt (decode tree .regions) r .marks) → x ≡ bound i r
+        pub bound-of : (x : ℕ) → x ≡ rowsBound table rows code crews (regionAt (decode tree .regions) r .marks) → x ≡ bound i r
         bound-of x e =
             e
-            ∙ same-bound sheet rows code (i .code) crews (i .crews) (regionAt (decode tree .regions) r .marks) (marks i r) (sym code-is)
+            ∙ same-bound table rows code (i .code) crews (i .crews) (regionAt (decode tree .regions) r .marks) (marks i r) (sym code-is)
             (sym crews-is) (sym (marks-book r))
-            ∙ bound-sheet i (well-of road tree code goal crews p) rows sheet s r
+            ∙ bound-table i (well-of road tree code goal crews p) rows table s r
 
         module _ (h : r < length (decode tree .regions)) (j : ℕ)
-            (e : j ≡ rowsChosen sheet rows crews (regionAt (decode tree .regions) r .marks)) where
-          chosen-is : j ≡ rowsChosen sheet rows (i .crews) (marks i r)
+            (e : j ≡ rowsChosen table rows crews (regionAt (decode tree .regions) r .marks)) where
+          chosen-is : j ≡ rowsChosen table rows (i .crews) (marks i r)
           chosen-is =
-              e ∙ same-chosen sheet rows crews (i .crews) (regionAt (decode tree .regions) r .marks) (marks i r) (sym crews-is) (sym (marks-book r))
+              e ∙ same-chosen table rows crews (i .crews) (regionAt (decode tree .regions) r .marks) (marks i r) (sym crews-is) (sym (marks-book r))
 
           marks-length : length (regionAt (decode tree .regions) r .marks) ≡ landmarkCount tree
           marks-length = decode-formed tree (regionAt (decode tree .regions) r) (at-mem (decode tree .regions) r h) .count ∙ decode-landmarks tree
@@ -85,9 +85,9 @@ module _ (road tree : List ℕ) (code goal : ℕ) (crews : List ℕ) where
 
           -- the landmark that leaf r picks is its landmark j
           pub chosen-of : getD (regionAt (decode tree .regions) r .marks) j noMark ≡ chosen i r
-          chosen-of = rw (← marks-book r, chosen-is) (chosen-sheet i (well-of road tree code goal crews p) rows sheet s r marked)
+          chosen-of = rw (← marks-book r, chosen-is) (chosen-table i (well-of road tree code goal crews p) rows table s r marked)
 
           pub chosen-few : j < landmarkCount tree
           chosen-few =
               omega
-              (arith, chosen-is, chosen-below i (well-of road tree code goal crews p) rows sheet s r marked, ap length (marks-book r), marks-length)
+              (arith, chosen-is, chosen-below i (well-of road tree code goal crews p) rows table s r marked, ap length (marks-book r), marks-length)

@@ -11,14 +11,14 @@ use Rattle.tree_layout.specs.Values.{Element, Mark}
 use Rattle.tree_layout.specs.Decode.{decode}
 use Rattle.search_rules.specs.Instance.{Instance}
 use Rattle.search_rules.specs.Books.{searchOf}
-use Rattle.search_rules.specs.Bounds.{apart, combine, aggregate, lower, total, f, yardBound}
+use Rattle.search_rules.specs.Bounds.{absDiff, combine, aggregate, lower, total, f, yardBound}
 use Rattle.search_rules.proofs.Equations.{aggregate-none, aggregate-same, search-of}
 use Rattle.search_rules.proofs.Turns.{aggregate-take}
 use Rattle.search_rules.proofs.Measures.{aggregate-cons, total-is, f-is, yard-bound-is}
 use Rattle.search_bounds.specs.Rows.{rowsLower}
-use Rattle.search_bounds.specs.Sheet.{Sheet}
-use Rattle.search_bounds.proofs.Sheets.{lower-sheet}
-use Rattle.search_bounds.specs.Measures.{toCrews, totalOf, fBy, crewApart, yardBoundBy}
+use Rattle.search_bounds.specs.Tables.{LandmarkTable}
+use Rattle.search_bounds.proofs.Tables.{lower-table}
+use Rattle.search_bounds.specs.Measures.{toCrews, totalOf, fBy, crewAbsDiff, yardBoundBy}
 use Rattle.search_bounds.proofs.ToCrews.{to-none, to-cons, to-at}
 
 -- an aggregate of the distances to the crews is one over the crews
@@ -45,32 +45,32 @@ module _ (road tree : List ℕ) (code goal : ℕ) (crews : List ℕ) where
   module _ (m : Mark) (e : Element) (out : List ℕ) (o : out ≡ toCrews road (m .place) crews) where
     pub f-by : fBy code out (e .distance) ≡ f i m e
     unfolding fBy
-    f-by = rw (search-of road tree code goal crews, o) (aggregate-to code (λ x. apart x (e .distance)) road (m .place) crews ∙ sym (f-is j m e))
+    f-by = rw (search-of road tree code goal crews, o) (aggregate-to code (λ x. absDiff x (e .distance)) road (m .place) crews ∙ sym (f-is j m e))
 
-    module _ (sheet : List ℕ) (rows : ℕ) (low : (q : ℕ) → Mem q crews → rowsLower sheet rows (e .yard) q ≡ lower i (e .yard) q) where
+    module _ (table : List ℕ) (rows : ℕ) (low : (q : ℕ) → Mem q crews → rowsLower table rows (e .yard) q ≡ lower i (e .yard) q) where
       abbrev g : ℕ → ℕ
-      g q = max (lower i (e .yard) q) (apart (dist road (m .place) q) (e .distance))
+      g q = max (lower i (e .yard) q) (absDiff (dist road (m .place) q) (e .distance))
 
-      one : (k : ℕ) → k < length crews → crewApart sheet rows crews out (e .yard) (e .distance) k ≡ g (getD crews k 0)
-      unfolding crewApart
+      one : (k : ℕ) → k < length crews → crewAbsDiff table rows crews out (e .yard) (e .distance) k ≡ g (getD crews k 0)
+      unfolding crewAbsDiff
       one k h = rw (low (getD crews k 0) (getD-mem crews k 0 h), o, to-at road (m .place) crews k h) refl
 
-      first : (k : ℕ) → k ≤ length crews → yardBoundBy code sheet rows crews out (e .yard) (e .distance) k ≡ aggregate code g (take k crews)
+      first : (k : ℕ) → k ≤ length crews → yardBoundBy code table rows crews out (e .yard) (e .distance) k ≡ aggregate code g (take k crews)
       unfolding yardBoundBy
       first zero h = sym (aggregate-none code g)
       first (suc k) h = rw (one k h, first k (omega arith)) (sym (aggregate-take code g crews k h))
 
-      whole : yardBoundBy code sheet rows crews out (e .yard) (e .distance) (length crews) ≡ aggregate code g crews
+      whole : yardBoundBy code table rows crews out (e .yard) (e .distance) (length crews) ≡ aggregate code g crews
       whole = first (length crews) (omega arith) ∙ ap (aggregate code g) (take-all (length crews) crews (omega arith))
 
-      pub bound-by : yardBoundBy code sheet rows crews out (e .yard) (e .distance) (length crews) ≡ yardBound i m e
+      pub bound-by : yardBoundBy code table rows crews out (e .yard) (e .distance) (length crews) ≡ yardBound i m e
       bound-by = whole ∙ alike ∙ sym (yard-bound-is j m e) ∙ sym (ap (λ (z : Instance). yardBound z m e) (search-of road tree code goal crews))
         where
-          alike : aggregate code g crews ≡ aggregate code (λ q. max (lower j (e .yard) q) (apart (dist road (m .place) q) (e .distance))) crews
-          alike = aggregate-same code g (λ q. max (lower j (e .yard) q) (apart (dist road (m .place) q) (e .distance))) crews
-              (λ q k. ap (λ (z : Instance). max (lower z (e .yard) q) (apart (dist road (m .place) q) (e .distance))) (search-of road tree code goal crews))
+          alike : aggregate code g crews ≡ aggregate code (λ q. max (lower j (e .yard) q) (absDiff (dist road (m .place) q) (e .distance))) crews
+          alike = aggregate-same code g (λ q. max (lower j (e .yard) q) (absDiff (dist road (m .place) q) (e .distance))) crews
+              (λ q k. ap (λ (z : Instance). max (lower z (e .yard) q) (absDiff (dist road (m .place) q) (e .distance))) (search-of road tree code goal crews))
 
-    -- under the search's sheet
-    pub bound-of : (rows : ℕ) (sheet : List ℕ) → Sheet i rows sheet → e .yard < i .tree .junctions → ((q : ℕ) → Mem q crews → q < i .tree .junctions)
-        → yardBoundBy code sheet rows crews out (e .yard) (e .distance) (length crews) ≡ yardBound i m e
-    bound-of rows sheet s h there = bound-by sheet rows (λ q k. lower-sheet i rows sheet s (e .yard) q h (there q k))
+    -- under the search's landmark table
+    pub bound-of : (rows : ℕ) (table : List ℕ) → LandmarkTable i rows table → e .yard < i .tree .junctions → ((q : ℕ) → Mem q crews → q < i .tree .junctions)
+        → yardBoundBy code table rows crews out (e .yard) (e .distance) (length crews) ≡ yardBound i m e
+    bound-of rows table s h there = bound-by table rows (λ q k. lower-table i rows table s (e .yard) q h (there q k))

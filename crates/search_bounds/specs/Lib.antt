@@ -1,4 +1,4 @@
 pub mod Rows
 pub mod Bounds
-pub mod Sheet
+pub mod Tables
 pub mod Measures

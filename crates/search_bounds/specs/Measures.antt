@@ -7,7 +7,7 @@ use Rattle.road_layout.specs.Road.{junctions}
 use Rattle.road.specs.Dijkstra.{dist}
 use Rattle.road.specs.Facts.{Passing}
 use Rattle.road.specs.Rows.{Rowed}
-use Rattle.search_rules.specs.Bounds.{apart, combine, aggregate}
+use Rattle.search_rules.specs.Bounds.{absDiff, combine, aggregate}
 use Rattle.search_bounds.specs.Rows.{rowsLower}
 
 -- at most sixteen crews, at junctions of a road book that passes, with a row of distances for each
@@ -34,17 +34,18 @@ totalOf road code crews p = aggregate code (λ q. dist road q p) crews
 
 -- "f, the aggregate of |d(l, q) − d(l, p)| with the list's d(l, p)": out has d(l, q) for each crew q
 unfoldable pub fBy : ℕ → List ℕ → ℕ → ℕ
-fBy code out distance = aggregate code (λ x. apart x distance) out
+fBy code out distance = aggregate code (λ x. absDiff x distance) out
 
 -- "per crew the greatest of these differences over the sheet's landmarks and l (for l with the list's distance)": of
 -- crew number j
-unfoldable pub crewApart : List ℕ → ℕ → List ℕ → List ℕ → ℕ → ℕ → ℕ → ℕ
-crewApart sheet rows crews out yard distance j = max (rowsLower sheet rows yard (getD crews j 0)) (apart (getD out j 0)
+unfoldable pub crewAbsDiff : List ℕ → ℕ → List ℕ → List ℕ → ℕ → ℕ → ℕ → ℕ
+crewAbsDiff table rows crews out yard distance j = max (rowsLower table rows yard (getD crews j 0)) (absDiff (getD out
+    j 0)
     distance)
 
 -- "A yard's bound takes [these], then aggregates.": over the first j crews
 unfoldable pub yardBoundBy : ℕ → List ℕ → ℕ → List ℕ → List ℕ → ℕ → ℕ → ℕ → ℕ
-yardBoundBy code sheet rows crews out yard distance zero = 0
-yardBoundBy code sheet rows crews out yard distance (suc j) =
-    combine code (yardBoundBy code sheet rows crews out yard distance j) (crewApart sheet rows crews out yard distance
+yardBoundBy code table rows crews out yard distance zero = 0
+yardBoundBy code table rows crews out yard distance (suc j) =
+    combine code (yardBoundBy code table rows crews out yard distance j) (crewAbsDiff table rows crews out yard distance
     j)

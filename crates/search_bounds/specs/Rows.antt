@@ -1,4 +1,4 @@
--- LB and UB by the rows of the sheet. Assumes nothing: these are definitions.
+-- LB and UB by the rows of the landmark table. Assumes nothing: these are definitions.
 use mathlib.Core.Path.{_≡_}
 use mathlib.Core.List.{List}
 use Prim.Native.Nat.{ℕ, zero, suc, _+_, _≤_, min, max}
@@ -6,25 +6,25 @@ use lib.ListN.{length}
 use lib.Dec.{eqb}
 use Rattle.book.specs.Choose.{choose}
 use Rattle.road.specs.Rows.{cell}
-use Rattle.search_rules.specs.Bounds.{apart}
+use Rattle.search_rules.specs.Bounds.{absDiff}
 
 -- "LB(l, q) is the greatest difference .. of sheet values at l and q": of the first rows
 unfoldable pub rowsLower : List ℕ → ℕ → ℕ → ℕ → ℕ
-rowsLower sheet zero l q = 0
-rowsLower sheet (suc r) l q = max (rowsLower sheet r l q) (apart (cell sheet r l) (cell sheet r q))
+rowsLower table zero l q = 0
+rowsLower table (suc r) l q = max (rowsLower table r l q) (absDiff (cell table r l) (cell table r q))
 
 -- "UB(l, q) the least sum, of sheet values at l and q": of the first rows, at least one
 unfoldable pub rowsUpper : List ℕ → ℕ → ℕ → ℕ → ℕ
-rowsUpper sheet zero l q = 0
-rowsUpper sheet (suc r) l q = let s = cell sheet r l + cell sheet r q in
-    choose (eqb r 0) s (min (rowsUpper sheet r l q) s)
+rowsUpper table zero l q = 0
+rowsUpper table (suc r) l q = let s = cell table r l + cell table r q in
+    choose (eqb r 0) s (min (rowsUpper table r l q) s)
 
--- the words of a sheet: four rows of 1,024
-abbrev pub sheetWords : ℕ
-sheetWords = 4096
+-- the words of a landmark table: four rows of 1,024
+abbrev pub tableWords : ℕ
+tableWords = 4096
 
--- a sheet has four rows, of which from one to all are filled
-pub record Rows (sheet : List ℕ) (rows : ℕ) : Type 0 where
-  pub room : length sheet ≡ sheetWords
+-- a landmark table has four rows, of which from one to all are filled
+pub record Rows (table : List ℕ) (rows : ℕ) : Type 0 where
+  pub room : length table ≡ tableWords
   pub some : 1 ≤ rows
   pub few : rows ≤ 4

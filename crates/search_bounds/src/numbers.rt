@@ -1,11 +1,11 @@
 // The difference, the aggregate and the greater of two numbers, and a number in 64 bits.
 ghost use mathlib.Core.Path.{_≡_};
 ghost use Prim.Native.Nat.{_+_, _<_, max};
-ghost use Rattle.search_rules.specs.Bounds.{apart, combine};
+ghost use Rattle.search_rules.specs.Bounds.{absDiff, combine};
 
 // The difference of two numbers.
-pub fn apart(a: u32, b: u32) -> u32
-    ensures { λ r. ⌜ r ≡ apart a b ⌝ }
+pub fn abs_diff(a: u32, b: u32) -> u32
+    ensures { λ r. ⌜ r ≡ absDiff a b ⌝ }
 {
     if a < b {
         return b - a;

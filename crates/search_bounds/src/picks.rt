@@ -17,14 +17,14 @@ ghost use Rattle.tree_layout.specs.Marks.{marksAt, RecordAt};
 ghost use Rattle.search_bounds.specs.Bounds.{rowsWeight, markWeight, rowsChosen, Crews};
 
 // The "sum of LB over crews" of a landmark at junction l.
-fn weight(sheet: &[u32], rows: usize, crews: &[u16], l: u16) -> u64
-    requires { ⌜ Rows (now sheet) rows × Crews (now crews) × (l < 1024) ⌝ }
-    ensures { λ x. ⌜ x ≡ rowsWeight (now (sheet .entry)) rows (now (crews .entry)) l ⌝ }
+fn weight(table: &[u32], rows: usize, crews: &[u16], l: u16) -> u64
+    requires { ⌜ Rows (now table) rows × Crews (now crews) × (l < 1024) ⌝ }
+    ensures { λ x. ⌜ x ≡ rowsWeight (now (table .entry)) rows (now (crews .entry)) l ⌝ }
 {
     let mut x: u64 = 0;
     let mut j: usize = 0;
     while j < crews.len() {
-        let w = rows::lower(sheet, rows, l, crews[j]);
+        let w = rows::lower(table, rows, l, crews[j]);
         x = numbers::combine(0, x, w as u64);
         j += 1;
     }
@@ -32,13 +32,13 @@ fn weight(sheet: &[u32], rows: usize, crews: &[u16], l: u16) -> u64
 }
 
 // The same of landmark j of the record at a place.
-fn mark_weight(tree: &[u8], at: usize, j: usize, sheet: &[u32], rows: usize, crews: &[u16]) -> u64
-    requires { ⌜ RecordAt (now tree) at × (j < landmarkCount (now tree)) × Rows (now sheet) rows × Crews (now crews) ⌝ }
+fn mark_weight(tree: &[u8], at: usize, j: usize, table: &[u32], rows: usize, crews: &[u16]) -> u64
+    requires { ⌜ RecordAt (now tree) at × (j < landmarkCount (now tree)) × Rows (now table) rows × Crews (now crews) ⌝ }
     ensures { λ x. ⌜ x
-        ≡ markWeight (now (sheet .entry)) rows (now (crews .entry)) (marksAt (now (tree .entry)) at) j ⌝ }
+        ≡ markWeight (now (table .entry)) rows (now (crews .entry)) (marksAt (now (tree .entry)) at) j ⌝ }
 {
     let k = landmarks::landmark(tree, at, j);
-    weight(sheet, rows, crews, k.place)
+    weight(table, rows, crews, k.place)
 }
 
 // Place j if its weight w is greater than the greatest one before it, which is that of place p; else p: "ties to the
@@ -53,17 +53,17 @@ fn first_greater(best: u64, p: usize, w: u64, j: usize) -> usize
 }
 
 // The number of the landmark that is picked, of the record at a place.
-fn pick_at(tree: &[u8], at: usize, sheet: &[u32], rows: usize, crews: &[u16]) -> usize
-    requires { ⌜ RecordAt (now tree) at × Rows (now sheet) rows × Crews (now crews) ⌝ }
-    ensures { λ p. ⌜ p ≡ rowsChosen (now (sheet .entry)) rows (now (crews .entry)) (marksAt (now (tree .entry)) at) ⌝ }
+fn pick_at(tree: &[u8], at: usize, table: &[u32], rows: usize, crews: &[u16]) -> usize
+    requires { ⌜ RecordAt (now tree) at × Rows (now table) rows × Crews (now crews) ⌝ }
+    ensures { λ p. ⌜ p ≡ rowsChosen (now (table .entry)) rows (now (crews .entry)) (marksAt (now (tree .entry)) at) ⌝ }
 {
     let h = records::header(tree);
     let m = h.landmarks as usize;
-    let mut best = mark_weight(tree, at, 0, sheet, rows, crews);
+    let mut best = mark_weight(tree, at, 0, table, rows, crews);
     let mut p: usize = 0;
     let mut j: usize = 1;
     while j < m {
-        let w = mark_weight(tree, at, j, sheet, rows, crews);
+        let w = mark_weight(tree, at, j, table, rows, crews);
         p = first_greater(best, p, w, j);
         best = numbers::greater64(best, w);
         j += 1;
@@ -75,16 +75,16 @@ fn pick_at(tree: &[u8], at: usize, sheet: &[u32], rows: usize, crews: &[u16]) ->
 pub fn choose_mark(
     tree: &[u8],
     places: &[usize],
-    sheet: &[u32],
+    table: &[u32],
     rows: usize,
     crews: &[u16],
     r: Region,
 ) -> usize
-    requires { ⌜ Laid (now tree) (now places) × (r .number < length (now places)) × Rows (now sheet) rows
+    requires { ⌜ Laid (now tree) (now places) × (r .number < length (now places)) × Rows (now table) rows
         × Crews (now crews) ⌝ }
-    ensures { λ p. ⌜ p ≡ rowsChosen (now (sheet .entry)) rows (now (crews .entry))
+    ensures { λ p. ⌜ p ≡ rowsChosen (now (table .entry)) rows (now (crews .entry))
         (regionAt (decode (now (tree .entry)) .regions) (r .number) .marks) ⌝ }
 {
     let at = places[r.number as usize];
-    pick_at(tree, at, sheet, rows, crews)
+    pick_at(tree, at, table, rows, crews)
 }

@@ -17,20 +17,20 @@ ghost use Rattle.tree_layout.specs.Marks.{marksAt, RecordAt};
 ghost use Rattle.search_bounds.specs.Bounds.{rowsCrew, rowsBound, Crews};
 
 // "the crew's bound": of crew q for a landmark.
-fn mark_bound(sheet: &[u32], rows: usize, k: Landmark, q: u16) -> u32
-    requires { ⌜ Rows (now sheet) rows × (k .place < 1024) × (q < 1024) ⌝ }
-    ensures { λ x. ⌜ x ≡ crewBound (rowsLower (now (sheet .entry)) rows (k .place) q)
-        (rowsUpper (now (sheet .entry)) rows (k .place) q) (k .least) (k .greatest) ⌝ }
+fn mark_bound(table: &[u32], rows: usize, k: Landmark, q: u16) -> u32
+    requires { ⌜ Rows (now table) rows × (k .place < 1024) × (q < 1024) ⌝ }
+    ensures { λ x. ⌜ x ≡ crewBound (rowsLower (now (table .entry)) rows (k .place) q)
+        (rowsUpper (now (table .entry)) rows (k .place) q) (k .least) (k .greatest) ⌝ }
 {
-    let lb = rows::lower(sheet, rows, k.place, q);
-    let ub = rows::upper(sheet, rows, k.place, q);
+    let lb = rows::lower(table, rows, k.place, q);
+    let ub = rows::upper(table, rows, k.place, q);
     rows::crew_bound(lb, ub, k.least, k.greatest)
 }
 
 // "The greatest over the region's landmarks is taken": for crew q, of the record at a place.
-fn crew_region(tree: &[u8], at: usize, sheet: &[u32], rows: usize, q: u16) -> u32
-    requires { ⌜ RecordAt (now tree) at × Rows (now sheet) rows × (q < 1024) ⌝ }
-    ensures { λ x. ⌜ x ≡ rowsCrew (now (sheet .entry)) rows (marksAt (now (tree .entry)) at) q ⌝ }
+fn crew_region(tree: &[u8], at: usize, table: &[u32], rows: usize, q: u16) -> u32
+    requires { ⌜ RecordAt (now tree) at × Rows (now table) rows × (q < 1024) ⌝ }
+    ensures { λ x. ⌜ x ≡ rowsCrew (now (table .entry)) rows (marksAt (now (tree .entry)) at) q ⌝ }
 {
     let h = records::header(tree);
     let m = h.landmarks as usize;
@@ -38,22 +38,22 @@ fn crew_region(tree: &[u8], at: usize, sheet: &[u32], rows: usize, q: u16) -> u3
     let mut j: usize = 0;
     while j < m {
         let k = landmarks::landmark(tree, at, j);
-        x = numbers::greater(x, mark_bound(sheet, rows, k, q));
+        x = numbers::greater(x, mark_bound(table, rows, k, q));
         j += 1;
     }
     x
 }
 
 // "then the aggregate over crews": of the record at a place.
-fn record_bound(tree: &[u8], at: usize, sheet: &[u32], rows: usize, code: u8, crews: &[u16]) -> u64
-    requires { ⌜ RecordAt (now tree) at × Rows (now sheet) rows × Crews (now crews) ⌝ }
-    ensures { λ x. ⌜ x ≡ rowsBound (now (sheet .entry)) rows code (now (crews .entry)) (marksAt (now (tree .entry)) at)
+fn record_bound(tree: &[u8], at: usize, table: &[u32], rows: usize, code: u8, crews: &[u16]) -> u64
+    requires { ⌜ RecordAt (now tree) at × Rows (now table) rows × Crews (now crews) ⌝ }
+    ensures { λ x. ⌜ x ≡ rowsBound (now (table .entry)) rows code (now (crews .entry)) (marksAt (now (tree .entry)) at)
         ⌝ }
 {
     let mut x: u64 = 0;
     let mut j: usize = 0;
     while j < crews.len() {
-        let w = crew_region(tree, at, sheet, rows, crews[j]);
+        let w = crew_region(tree, at, table, rows, crews[j]);
         x = numbers::combine(code, x, w as u64);
         j += 1;
     }
@@ -64,17 +64,17 @@ fn record_bound(tree: &[u8], at: usize, sheet: &[u32], rows: usize, code: u8, cr
 pub fn region_bound(
     tree: &[u8],
     places: &[usize],
-    sheet: &[u32],
+    table: &[u32],
     rows: usize,
     code: u8,
     crews: &[u16],
     r: Region,
 ) -> u64
-    requires { ⌜ Laid (now tree) (now places) × (r .number < length (now places)) × Rows (now sheet) rows
+    requires { ⌜ Laid (now tree) (now places) × (r .number < length (now places)) × Rows (now table) rows
         × Crews (now crews) ⌝ }
-    ensures { λ x. ⌜ x ≡ rowsBound (now (sheet .entry)) rows code (now (crews .entry))
+    ensures { λ x. ⌜ x ≡ rowsBound (now (table .entry)) rows code (now (crews .entry))
         (regionAt (decode (now (tree .entry)) .regions) (r .number) .marks) ⌝ }
 {
     let at = places[r.number as usize];
-    record_bound(tree, at, sheet, rows, code, crews)
+    record_bound(tree, at, table, rows, code, crews)
 }

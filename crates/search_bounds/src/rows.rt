@@ -1,4 +1,4 @@
-// LB and UB by the sheet's rows, and a crew's bound.
+// LB and UB by the landmark table's rows, and a crew's bound.
 use crate::numbers;
 use crate::numbers::wide;
 use road::rows::cell;
@@ -7,48 +7,48 @@ ghost use mathlib.Core.Path.{_≡_};
 ghost use Prim.Native.Nat.{_+_, _-_, _<_};
 ghost use lib.ListN.{length};
 ghost use Rattle.road.specs.Rows.{cell};
-ghost use Rattle.search_rules.specs.Bounds.{apart, crewBound};
+ghost use Rattle.search_rules.specs.Bounds.{absDiff, crewBound};
 ghost use Rattle.search_bounds.specs.Rows.{rowsLower, rowsUpper, Rows};
 
 // The difference of row r's words for junctions l and q.
-fn row_apart(sheet: &[u32], r: usize, l: u16, q: u16) -> u32
-    requires { ⌜ (length (now sheet) ≡ 4096) × (r < 4) × (l < 1024) × (q < 1024) ⌝ }
-    ensures { λ x. ⌜ x ≡ apart (cell (now (sheet .entry)) r l) (cell (now (sheet .entry)) r q) ⌝ }
+fn row_abs_diff(table: &[u32], r: usize, l: u16, q: u16) -> u32
+    requires { ⌜ (length (now table) ≡ 4096) × (r < 4) × (l < 1024) × (q < 1024) ⌝ }
+    ensures { λ x. ⌜ x ≡ absDiff (cell (now (table .entry)) r l) (cell (now (table .entry)) r q) ⌝ }
 {
-    numbers::apart(cell(sheet, r, l), cell(sheet, r, q))
+    numbers::abs_diff(cell(table, r, l), cell(table, r, q))
 }
 
 // The sum of row r's words for junctions l and q.
-fn row_sum(sheet: &[u32], r: usize, l: u16, q: u16) -> u64
-    requires { ⌜ (length (now sheet) ≡ 4096) × (r < 4) × (l < 1024) × (q < 1024) ⌝ }
-    ensures { λ x. ⌜ x ≡ cell (now (sheet .entry)) r l + cell (now (sheet .entry)) r q ⌝ }
+fn row_sum(table: &[u32], r: usize, l: u16, q: u16) -> u64
+    requires { ⌜ (length (now table) ≡ 4096) × (r < 4) × (l < 1024) × (q < 1024) ⌝ }
+    ensures { λ x. ⌜ x ≡ cell (now (table .entry)) r l + cell (now (table .entry)) r q ⌝ }
 {
-    wide(cell(sheet, r, l)) + wide(cell(sheet, r, q))
+    wide(cell(table, r, l)) + wide(cell(table, r, q))
 }
 
 // "LB(l, q) is the greatest difference .. of sheet values at l and q."
-pub fn lower(sheet: &[u32], rows: usize, l: u16, q: u16) -> u32
-    requires { ⌜ Rows (now sheet) rows × (l < 1024) × (q < 1024) ⌝ }
-    ensures { λ x. ⌜ x ≡ rowsLower (now (sheet .entry)) rows l q ⌝ }
+pub fn lower(table: &[u32], rows: usize, l: u16, q: u16) -> u32
+    requires { ⌜ Rows (now table) rows × (l < 1024) × (q < 1024) ⌝ }
+    ensures { λ x. ⌜ x ≡ rowsLower (now (table .entry)) rows l q ⌝ }
 {
     let mut x: u32 = 0;
     let mut r: usize = 0;
     while r < rows {
-        x = numbers::greater(x, row_apart(sheet, r, l, q));
+        x = numbers::greater(x, row_abs_diff(table, r, l, q));
         r += 1;
     }
     x
 }
 
 // "UB(l, q) the least sum, of sheet values at l and q": of at least one row.
-pub fn upper(sheet: &[u32], rows: usize, l: u16, q: u16) -> u64
-    requires { ⌜ Rows (now sheet) rows × (l < 1024) × (q < 1024) ⌝ }
-    ensures { λ x. ⌜ x ≡ rowsUpper (now (sheet .entry)) rows l q ⌝ }
+pub fn upper(table: &[u32], rows: usize, l: u16, q: u16) -> u64
+    requires { ⌜ Rows (now table) rows × (l < 1024) × (q < 1024) ⌝ }
+    ensures { λ x. ⌜ x ≡ rowsUpper (now (table .entry)) rows l q ⌝ }
 {
-    let mut x = row_sum(sheet, 0, l, q);
+    let mut x = row_sum(table, 0, l, q);
     let mut r: usize = 1;
     while r < rows {
-        x = lesser(x, row_sum(sheet, r, l, q));
+        x = lesser(x, row_sum(table, r, l, q));
         r += 1;
     }
     x

@@ -10,7 +10,7 @@ ghost use lib.ListN.{length};
 ghost use Rattle.road_layout.specs.Road.{junctions};
 ghost use Rattle.search_bounds.specs.Rows.{Rows};
 ghost use Rattle.search_bounds.specs.Bounds.{Crews};
-ghost use Rattle.search_bounds.specs.Measures.{Driven, IsDriven, toCrews, totalOf, fBy, crewApart, yardBoundBy};
+ghost use Rattle.search_bounds.specs.Measures.{Driven, IsDriven, toCrews, totalOf, fBy, crewAbsDiff, yardBoundBy};
 
 // "f, the aggregate of |d(l, q) − d(l, p)|": of landmark l's distances to the crews and of an element's distance.
 pub fn f_of(out: &[u32], code: u8, distance: u32) -> u64
@@ -20,7 +20,7 @@ pub fn f_of(out: &[u32], code: u8, distance: u32) -> u64
     let mut total: u64 = 0;
     let mut j: usize = 0;
     while j < out.len() {
-        total = numbers::combine(code, total, wide(numbers::apart(out[j], distance)));
+        total = numbers::combine(code, total, wide(numbers::abs_diff(out[j], distance)));
         j += 1;
     }
     total
@@ -56,9 +56,10 @@ pub fn to_crews(drives: &[u32], crews: &[u16], l: Junction, out: &mut [u32])
     }
 }
 
-// Crew number j's greatest difference: of the sheet's rows for the yard and the crew, and of landmark l's distances.
-fn crew_apart(
-    sheet: &[u32],
+// Crew number j's greatest difference: of the landmark table's rows for the yard and the crew, and of landmark l's
+// distances.
+fn crew_abs_diff(
+    table: &[u32],
     rows: usize,
     crews: &[u16],
     out: &[u32],
@@ -66,18 +67,19 @@ fn crew_apart(
     distance: u32,
     j: usize,
 ) -> u32
-    requires { ⌜ Rows (now sheet) rows × Crews (now crews) × (length (now out) ≡ length (now crews)) × (yard < 1024)
+    requires { ⌜ Rows (now table) rows × Crews (now crews) × (length (now out) ≡ length (now crews)) × (yard < 1024)
         × (j < length (now crews)) ⌝ }
-    ensures { λ r. ⌜ r ≡ crewApart (now (sheet .entry)) rows (now (crews .entry)) (now (out .entry)) yard distance j ⌝ }
+    ensures { λ r. ⌜ r ≡ crewAbsDiff (now (table .entry)) rows (now (crews .entry)) (now (out .entry)) yard distance j
+        ⌝ }
 {
-    let lb = rows::lower(sheet, rows, yard, crews[j]);
-    numbers::greater(lb, numbers::apart(out[j], distance))
+    let lb = rows::lower(table, rows, yard, crews[j]);
+    numbers::greater(lb, numbers::abs_diff(out[j], distance))
 }
 
-// "A yard's bound takes per crew the greatest of these differences over the sheet's landmarks and l .., then
+// "A yard's bound takes per crew the greatest of these differences over the landmark table's landmarks and l .., then
 // aggregates."
 pub fn yard_bound(
-    sheet: &[u32],
+    table: &[u32],
     rows: usize,
     crews: &[u16],
     out: &[u32],
@@ -85,15 +87,15 @@ pub fn yard_bound(
     yard: u16,
     distance: u32,
 ) -> u64
-    requires { ⌜ Rows (now sheet) rows × Crews (now crews) × (length (now out) ≡ length (now crews)) × (yard < 1024) ⌝ }
-    ensures { λ r. ⌜ r ≡ yardBoundBy code (now (sheet .entry)) rows (now (crews .entry)) (now (out .entry)) yard
+    requires { ⌜ Rows (now table) rows × Crews (now crews) × (length (now out) ≡ length (now crews)) × (yard < 1024) ⌝ }
+    ensures { λ r. ⌜ r ≡ yardBoundBy code (now (table .entry)) rows (now (crews .entry)) (now (out .entry)) yard
         distance
         (length (now (crews .entry))) ⌝ }
 {
     let mut total: u64 = 0;
     let mut j: usize = 0;
     while j < crews.len() {
-        let x = crew_apart(sheet, rows, crews, out, yard, distance, j);
+        let x = crew_abs_diff(table, rows, crews, out, yard, distance, j);
         total = numbers::combine(code, total, wide(x));
         j += 1;
     }

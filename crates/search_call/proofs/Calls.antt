@@ -22,14 +22,14 @@ use Rattle.query.specs.Query.{kOf, crewsOf, QueryLayout}
 use Rattle.query.proofs.CrewList.{crews-length, crews-below}
 use Rattle.query.proofs.Reading.{passing as query-passing}
 use Rattle.search_rules.specs.Run.{Answer, words}
-use Rattle.search_call.specs.Accepted.{Accepted}
+use Rattle.search_call.specs.Accepted.{AcceptedSearch}
 use Rattle.search_call.specs.Call.{treeRefusalIn, areasRefusal, searchRefusal, searchAnswer, Found, refused, accepted, searchFound, overStart}
 use Rattle.search_call.specs.Call.{resultsAfter, Call, Areas, foundOn, callOn}
 
 -- ---- the tests
 
 module _ (road tree query : List ℕ) (work results : ℕ) where
-  pub tests : searchRefusal road tree query work results ≡ 0 → Accepted road tree query work results
+  pub tests : searchRefusal road tree query work results ≡ 0 → AcceptedSearch road tree query work results
   unfolding searchRefusal treeRefusalIn areasRefusal
   tests e =
       let a = first-none _ _ e in
@@ -174,7 +174,7 @@ module _ (c : Call) (a : Areas) where
   unfolding accepted
   on-measured e = ap (λ (x : Found). x .measured) (on-accepted e)
 
-  pub on-tests : foundOn c a .refusal ≡ 0 → Accepted (c .road) (c .tree) (c .query) (length (a .work)) (length (a .results))
+  pub on-tests : foundOn c a .refusal ≡ 0 → AcceptedSearch (c .road) (c .tree) (c .query) (length (a .work)) (length (a .results))
   on-tests e = tests (c .road) (c .tree) (c .query) (length (a .work)) (length (a .results)) (sym on-number ∙ e)
 
   -- ---- the areas

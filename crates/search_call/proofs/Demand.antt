@@ -17,10 +17,10 @@ use Rattle.tree_layout.specs.Facts.{Before}
 use Rattle.tree_layout.specs.Decode.{decode}
 use Rattle.check_rules.specs.Facts.{TrueNumbers}
 use Rattle.check_rules.proofs.Theorems.{tested}
-use Rattle.check_tree.specs.Facts.{Laid}
+use Rattle.check_tree.specs.Facts.{SoundBeside}
 use Rattle.check_tree.proofs.Passing.{passed-laid, passed-yards, passed-true}
 use Rattle.search_rules.specs.Run.{words, answer}
-use Rattle.search_rules.specs.Facts.{WellFormed, Sound}
+use Rattle.search_rules.specs.Facts.{WellFormed, SoundInstance}
 use Rattle.search_rules.specs.Theorems.{Sorted, TreeYards, Listing, Decided as RulesDecided}
 use Rattle.search_rules.proofs.Held.{before-not, greatest-is}
 use Rattle.search_rules.specs.Books.{Passed}
@@ -30,7 +30,7 @@ use Rattle.search_rules.proofs.Theorems.{decided, answer-taken, answer-measured
 use Rattle.search_rules.proofs.Walks.{total-least, first-yards}
 use Rattle.search_call.specs.Call.{Call, Areas, Search, searches}
 use Rattle.search_call.specs.Demand.{OnPassing, NotRefused, Settled, code, k, crews, limit, yards, instanceOf, list, Full, lastDistance, measured}
-use Rattle.search_call.specs.Demand.{BoundOf, Demand3, TrueList, Decided, AnyTree, OwnYards}
+use Rattle.search_call.specs.Demand.{BoundOf, Demand3, TrueList, DecidedSearch, AnyTree, OwnYards}
 use Rattle.search_call.proofs.Calls.{on-settled, settled-on, spent-on, on-listed, on-taken, on-measured, on-tests, on-refused, work-zeroed}
 use Rattle.search_call.proofs.Calls.{results-written, results-kept, areas-kept}
 use Rattle.search_call.proofs.Bounded.{has-bound, one-bound}
@@ -73,10 +73,10 @@ module _ (s : Search) where
     tree-yards = asked-yards road tree (code s) (k s) (crews s) p
 
     -- on a tree that passes it is sound
-    sound : OnPassing s → Sound (instanceOf s)
+    sound : OnPassing s → SoundInstance (instanceOf s)
     sound q =
         let numbers : TrueNumbers (dist road) (decode tree) = passed-true road (q .yard) tree (q .work) (q .zero) in
-        let laid : Laid road (q .yard) tree (q .work) = passed-laid road (q .yard) tree (q .work) (q .zero) in
+        let laid : SoundBeside road (q .yard) tree (q .work) = passed-laid road (q .yard) tree (q .work) (q .zero) in
         sound-of road tree (code s) (k s) (crews s) p (numbers .lists) (tested tree (laid .shape) .encloses (dist road) numbers)
 
     true-list : T (answer (instanceOf s) (limit s) .settled) → TrueList s
@@ -123,7 +123,7 @@ module _ (s : Search) where
     not-settled : NotRefused s → (Settled s → ⊥) → T (not (answer (instanceOf s) (limit s) .settled))
     not-settled n h = not-T (answer (instanceOf s) (limit s) .settled) (λ t. h (settled-on c a n t))
 
-    decided-search : Decided s
+    decided-search : DecidedSearch s
     decided-search = record {
       listed = true-settled;
       count = λ t. on-listed c a (on-settled c a t .0);

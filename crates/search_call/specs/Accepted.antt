@@ -11,7 +11,7 @@ use Rattle.tree.specs.Shape.{treeRefusal}
 use Rattle.query.specs.Query.{kOf, crewsOf, QueryLayout}
 use Rattle.search_rules.specs.Books.{Passed}
 
-pub record Accepted (road tree query : List ℕ) (work results : ℕ) : Type 0 where
+pub record AcceptedSearch (road tree query : List ℕ) (work results : ℕ) : Type 0 where
   pub roads : roadRefusal road ≡ 0
   pub shape : treeRefusal tree ≡ 0
   pub counts : junctionCount tree ≡ junctions road

@@ -95,7 +95,8 @@ lastDistance s = lastFrom 0 (list s)
 abbrev pub measured : Search → List ℕ
 measured s = run (instanceOf s) (limit s) .state .measured
 
--- "A yard's bound takes per crew the greatest of these differences over the sheet's landmarks and l (for l with the
+-- "A yard's bound takes per crew the greatest of these differences over the landmark table's landmarks and l (for l
+-- with the
 -- list's distance), then aggregates.": b is
 -- yard y's, which stands in the list of the landmark that its leaf picks
 pub record BoundIn (i : Instance) (y b : ℕ) : Type 0 where
@@ -157,7 +158,7 @@ pub record TrueList (s : Search) : Type 0 where
   pub few : length (list s) ≤ k s
 
 -- a search, whether its tree passes or is one "that check would refuse by 9"
-pub record Decided (s : Search) : Type 0 where
+pub record DecidedSearch (s : Search) : Type 0 where
   -- a settled list is true, and the returned number is that of its yards
   pub listed : Settled s → TrueList s
   pub count : Settled s → found s .listed ≡ length (list s)
@@ -185,7 +186,7 @@ pub record Decided (s : Search) : Type 0 where
 
 abbrev pub AnyTree : Type 0
 AnyTree = (calls : List Call) → OfBytes calls → (first : Areas) → (s : Search) → Mem s (searches calls first)
-    → Decided s
+    → DecidedSearch s
 
 -- the work area's contents never matter: only its length does
 abbrev pub WorkUnread : Type 0

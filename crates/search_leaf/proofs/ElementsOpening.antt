@@ -59,14 +59,14 @@ module _ (b : List ℕ) (h : Header) (e : h ≡ headerOf b) where
   pub header-words : (ws : List ℕ) → length ws ≡ wordCount (regionCount b) (junctionCount b) → length ws ≡ wordCount (h .regions) (h .junctions)
   header-words ws q = rw (← header-regions-are, ← header-junctions-are) q
 
-  pub header-rows : (sheet : List ℕ) → Rows sheet (landmarkCount b) → Rows sheet (h .landmarks)
-  header-rows sheet r = rw (← header-landmarks-are) r
+  pub header-rows : (table : List ℕ) → Rows table (landmarkCount b) → Rows table (h .landmarks)
+  header-rows table r = rw (← header-landmarks-are) r
 
 -- the junction that was read is one of the road book's
 pub driven-at : (crews drives : List ℕ) (v w : ℕ) → v ≡ w → IsDriven crews drives w → IsDriven crews drives v
 driven-at crews drives v w e d = rw e d
 
--- the crews have places in the sheet
+-- the crews have places in the landmark table
 pub crews-wide : (road crews drives : List ℕ) → Driven road crews drives → Crews crews
 crews-wide road crews drives d = record { few = d .few; there = λ q m. omega (arith, d .there q m, d .roads .layout .few-junctions) }
 
@@ -83,12 +83,12 @@ module _ (crews out rest : List ℕ) (e : length out ≡ length crews) where
 
 -- words set by the list and the distances that were read
 module _ (tree : List ℕ) (at yards : ℕ) (l : List ℕ) (el : l ≡ listPart tree yards (at + 2)) (h : Header) (eh : h ≡ headerOf tree)
-    (code : ℕ) (sheet crews out rest : List ℕ) (count : length out ≡ length crews) (ws ws′ : List ℕ)
+    (code : ℕ) (table crews out rest : List ℕ) (count : length out ≡ length crews) (ws ws′ : List ℕ)
     (filled : ws′ ≡ byYards (h .regions) (h .junctions) (fIn code (take (length crews) (out ++ rest)))
-    (boundIn code sheet (h .landmarks) crews (take (length crews) (out ++ rest))) (readList l yards 0) ws) where
+    (boundIn code table (h .landmarks) crews (take (length crews) (out ++ rest))) (readList l yards 0) ws) where
   pub opened-words : (road : List ℕ) (place : ℕ) → place ≡ u16At tree at → out ≡ toCrews road place crews
       → ws′ ≡ byYards (regionCount tree) (junctionCount tree) (fIn code (toCrews road (u16At tree at) crews))
-      (boundIn code sheet (landmarkCount tree) crews (toCrews road (u16At tree at) crews)) (listAt tree at yards) ws
+      (boundIn code table (landmarkCount tree) crews (toCrews road (u16At tree at) crews)) (listAt tree at yards) ws
   opened-words road place p o = rw (
     ← p,
     ← o,
@@ -104,20 +104,20 @@ module _ (tree : List ℕ) (at yards : ℕ) (l : List ℕ) (el : l ≡ listPart 
 abbrev pub Once : List Element → Type 0
 Once es = (e h : Element) → Mem e es → Mem h es → e .yard ≡ h .yard → e ≡ h
 
-module _ (road tree : List ℕ) (code goal : ℕ) (crews : List ℕ) (sheet : List ℕ) (rows : ℕ) (m : Mark) (fs bounds fs′ bounds′ : List ℕ)
+module _ (road tree : List ℕ) (code goal : ℕ) (crews : List ℕ) (table : List ℕ) (rows : ℕ) (m : Mark) (fs bounds fs′ bounds′ : List ℕ)
     (f-set : fs′ ≡ byYard (fIn code (toCrews road (m .place) crews)) (m .list) fs)
-    (bound-set : bounds′ ≡ byYard (boundIn code sheet rows crews (toCrews road (m .place) crews)) (m .list) bounds)
+    (bound-set : bounds′ ≡ byYard (boundIn code table rows crews (toCrews road (m .place) crews)) (m .list) bounds)
     (near-fs : Near (length fs) (m .list)) (near-bounds : Near (length bounds) (m .list)) where
   abbrev i : Instance
   i = searchOf road tree code goal crews
 
-  pub opened : Once (m .list) → ((e : Element) → Mem e (m .list) → (q : ℕ) → Mem q crews → rowsLower sheet rows (e .yard) q ≡ lower i (e .yard) q) →
+  pub opened : Once (m .list) → ((e : Element) → Mem e (m .list) → (q : ℕ) → Mem q crews → rowsLower table rows (e .yard) q ≡ lower i (e .yard) q) →
       Opened i m fs′ bounds′
   opened once low = record {
     words = λ e k. rw f-set (by-yard-at (fIn code (toCrews road (m .place) crews)) (m .list) fs near-fs once e k)
         ∙ f-by road tree code goal crews m e (toCrews road (m .place) crews) refl;
-    keys = λ e k. rw bound-set (by-yard-at (boundIn code sheet rows crews (toCrews road (m .place) crews)) (m .list) bounds near-bounds once e k)
-        ∙ bound-by road tree code goal crews m e (toCrews road (m .place) crews) refl sheet rows (low e k);
+    keys = λ e k. rw bound-set (by-yard-at (boundIn code table rows crews (toCrews road (m .place) crews)) (m .list) bounds near-bounds once e k)
+        ∙ bound-by road tree code goal crews m e (toCrews road (m .place) crews) refl table rows (low e k);
   }
 
   -- a leaf of other yards that is open stays so
@@ -126,7 +126,7 @@ module _ (road tree : List ℕ) (code goal : ℕ) (crews : List ℕ) (sheet : Li
     words = λ h k. rw f-set
         (by-yard-kept (fIn code (toCrews road (m .place) crews)) (m .list) fs (h .yard) (f i n h) near-fs (o .words h k) (λ e j q. absurd (other e h j k q)));
     keys = λ h k. rw bound-set
-        (by-yard-kept (boundIn code sheet rows crews (toCrews road (m .place) crews)) (m .list) bounds (h .yard) (yardBound i n h) near-bounds (o .keys h k)
+        (by-yard-kept (boundIn code table rows crews (toCrews road (m .place) crews)) (m .list) bounds (h .yard) (yardBound i n h) near-bounds (o .keys h k)
         (λ e j q. absurd (other e h j k q)));
   }
 

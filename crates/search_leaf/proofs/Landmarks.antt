@@ -51,8 +51,8 @@ yards-of tree at f e = rw e refl
 pub same-none : (r n : ℕ) (ws : List ℕ) → SameQueue r n ws ws
 same-none r n ws = record { keys = refl; yards = refl; firsts = refl; gone = refl }
 
-module _ (road tree : List ℕ) (code goal : ℕ) (crews drives places sheet : List ℕ)
-    (ready : Ready road tree code goal crews drives places sheet) where
+module _ (road tree : List ℕ) (code goal : ℕ) (crews drives places table : List ℕ)
+    (ready : Ready road tree code goal crews drives places table) where
   abbrev i : Instance
   i = searchOf road tree code goal crews
 
@@ -78,28 +78,28 @@ module _ (road tree : List ℕ) (code goal : ℕ) (crews drives places sheet : L
   leaf-at r t = sym (ap (λ (z : Instance). regionAt (z .tree .regions) r .children) (search-of road tree code goal crews)) ∙ eqb→eq (regionAt
       (i .tree .regions) r .children) 0 (rw (leaf-is i r) at t)
 
-  -- the crews have places in the sheet's rows
-  pub sheet-crews : Crews crews
-  sheet-crews = rows-crews road tree code goal crews (ready .passed)
+  -- the crews have places in the landmark table's rows
+  pub table-crews : Crews crews
+  table-crews = rows-crews road tree code goal crews (ready .passed)
 
   marks-count : (r : ℕ) → r < length places → length (marks i r) ≡ landmarkCount tree
   marks-count r h = rw (marks-at r, laid-region tree places (ready .laid) r h) (region-marks tree (landmarkCount tree) (placeOf tree r))
 
   -- the number that the rows give is that of the landmark
   pub pick-of : (r : ℕ) → r < size i → (p rows : ℕ) → landmarkCount tree ≡ rows
-      → p ≡ rowsChosen sheet rows crews (regionAt (decode tree .regions) r .marks) → IsPick i r p
+      → p ≡ rowsChosen table rows crews (regionAt (decode tree .regions) r .marks) → IsPick i r p
   pick-of r h p rows w q = record {
     inside = omega (
       arith,
       marks-count r (omega (arith, size-of, ready .laid .count)),
       chosen-few road tree code goal crews
-          (ready .passed) (landmarkCount tree) sheet (ready .sheeted) r (omega (arith, size-of, decode-length tree)) p e,
+          (ready .passed) (landmarkCount tree) table (ready .tableed) r (omega (arith, size-of, decode-length tree)) p e,
     );
-    is = rw (marks-at r) (chosen-of road tree code goal crews (ready .passed) (landmarkCount tree) sheet (ready .sheeted) r
+    is = rw (marks-at r) (chosen-of road tree code goal crews (ready .passed) (landmarkCount tree) table (ready .tableed) r
         (omega (arith, size-of, decode-length tree)) p e);
   }
     where
-      e : p ≡ rowsChosen sheet (landmarkCount tree) crews (regionAt (decode tree .regions) r .marks)
+      e : p ≡ rowsChosen table (landmarkCount tree) crews (regionAt (decode tree .regions) r .marks)
       e = rw w q
 
   -- the tree book's junctions are the instance's
@@ -204,7 +204,7 @@ module _ (road tree : List ℕ) (code goal : ℕ) (crews drives places sheet : L
 
       module _ (picks fs bounds fs′ bounds′ : List ℕ) (c : Cached i picks fs bounds)
           (f-set : fs′ ≡ byYard (fIn code (toCrews road (u16At tree place) crews)) (listAt tree place n) fs)
-          (bound-set : bounds′ ≡ byYard (boundIn code sheet (landmarkCount tree) crews (toCrews road (u16At tree place) crews))
+          (bound-set : bounds′ ≡ byYard (boundIn code table (landmarkCount tree) crews (toCrews road (u16At tree place) crews))
           (listAt tree place n) bounds) where
         m : Mark
         m = chosen i r
@@ -213,7 +213,7 @@ module _ (road tree : List ℕ) (code goal : ℕ) (crews drives places sheet : L
         unfolding m
         f-new = rw (place-of, list-of) f-set
 
-        bound-new : bounds′ ≡ byYard (boundIn code sheet (landmarkCount tree) crews (toCrews road (m .place) crews)) (m .list) bounds
+        bound-new : bounds′ ≡ byYard (boundIn code table (landmarkCount tree) crews (toCrews road (m .place) crews)) (m .list) bounds
         unfolding m
         bound-new = rw (place-of, list-of) bound-set
 
@@ -223,17 +223,17 @@ module _ (road tree : List ℕ) (code goal : ℕ) (crews drives places sheet : L
 
         new : Opened i (chosen i r) fs′ bounds′
         unfolding m
-        new = opened road tree code goal crews sheet (landmarkCount tree) m fs bounds fs′ bounds′ f-new bound-new (near fs (c .fs-count)) (near bounds
+        new = opened road tree code goal crews table (landmarkCount tree) m fs bounds fs′ bounds′ f-new bound-new (near fs (c .fs-count)) (near bounds
             (c .bounds-count))
             (λ e h j k. well .shape .once-listed r (chosen i r) e h (l .is) chosen-mark j k)
-            (λ e k q j. lower-of road tree code goal crews (ready .passed) (landmarkCount tree) sheet (ready .sheeted) (e .yard) q
-            (rowsLower sheet (landmarkCount tree) (e .yard) q)
+            (λ e k q j. lower-of road tree code goal crews (ready .passed) (landmarkCount tree) table (ready .tableed) (e .yard) q
+            (rowsLower table (landmarkCount tree) (e .yard) q)
             (omega (arith, well .shape .yards r (chosen i r) e (l .is) chosen-mark k, junctions-of)) (ready .passed .there q j) refl)
 
         -- another leaf stays open
         old : (s : ℕ) → s ≢ r → s < size i → T (leaf i s) → Opened i (chosen i s) fs bounds → Opened i (chosen i s) fs′ bounds′
         unfolding m
-        old s d h t o = opened-kept road tree code goal crews sheet (landmarkCount tree) m fs bounds fs′ bounds′ f-new bound-new (near fs (c .fs-count))
+        old s d h t o = opened-kept road tree code goal crews table (landmarkCount tree) m fs bounds fs′ bounds′ f-new bound-new (near fs (c .fs-count))
             (near bounds (c .bounds-count)) (chosen i s)
             (λ e g k j q. d (well .shape .one-leaf s r (chosen i s) (chosen i r) (e .yard) t (l .is) (chosen-in i well s h) chosen-mark
             (record { element = g; mem = j; names = sym q }) (record { element = e; mem = k; names = refl })))
@@ -259,7 +259,7 @@ module _ (road tree : List ℕ) (code goal : ℕ) (crews drives places sheet : L
               picks-count = length-set picks r p ∙ c .picks-count;
               fs-count = ap length f-set ∙ (by-yard-length (fIn code (toCrews road (u16At tree place) crews))
                   (listAt tree place n) fs ∙ c .fs-count);
-              bounds-count = ap length bound-set ∙ (by-yard-length (boundIn code sheet (landmarkCount tree) crews (toCrews road (u16At tree place) crews))
+              bounds-count = ap length bound-set ∙ (by-yard-length (boundIn code table (landmarkCount tree) crews (toCrews road (u16At tree place) crews))
                   (listAt tree place n) bounds ∙ c .bounds-count);
               picked = λ s h t o. one s (ℕ-discrete s r) h t o .0;
               opened = λ s h t o. one s (ℕ-discrete s r) h t o .1;
@@ -269,18 +269,18 @@ module _ (road tree : List ℕ) (code goal : ℕ) (crews drives places sheet : L
       module _ (ws ws′ : List ℕ) (q : Leafed i (length places) (junctionCount tree) ws r) (h : Header) (eh : h ≡ headerOf tree) (j : ℕ)
           (ej : j ≡ picksAt (h .regions) (h .junctions) + r)
           (stored : ws′ ≡ byYards (regionCount tree) (junctionCount tree) (fIn code (toCrews road (u16At tree place) crews))
-          (boundIn code sheet (landmarkCount tree) crews (toCrews road (u16At tree place) crews)) (listAt tree place n) (set ws j p)) where
+          (boundIn code table (landmarkCount tree) crews (toCrews road (u16At tree place) crews)) (listAt tree place n) (set ws j p)) where
         parts : Parts (length places) (junctionCount tree) ws′
             (regionKeysIn (length places) (junctionCount tree) ws)
             (yardKeysIn (length places) (junctionCount tree) ws)
             (firstsIn (length places) (junctionCount tree) ws)
             (set (picksIn (length places) (junctionCount tree) ws) r p)
             (byYard (fIn code (toCrews road (u16At tree place) crews)) (listAt tree place n) (fsIn (length places) (junctionCount tree) ws))
-            (byYard (boundIn code sheet (landmarkCount tree) crews (toCrews road (u16At tree place) crews)) (listAt tree place n)
+            (byYard (boundIn code table (landmarkCount tree) crews (toCrews road (u16At tree place) crews)) (listAt tree place n)
             (boundsIn (length places) (junctionCount tree) ws))
             (goneIn (length places) (junctionCount tree) ws)
         parts = rw (stored, ← ready .laid .count) (by-yards-parts (length places) (junctionCount tree)
-            (fIn code (toCrews road (u16At tree place) crews)) (boundIn code sheet (landmarkCount tree) crews (toCrews road (u16At tree place) crews))
+            (fIn code (toCrews road (u16At tree place) crews)) (boundIn code table (landmarkCount tree) crews (toCrews road (u16At tree place) crews))
             (listAt tree place n) list-near (store-pick (parts-of (length places) (junctionCount tree) ws) j p r (pick-place r ws q h eh j ej) (slot r l)))
 
         pub same-queue : SameQueue (length places) (junctionCount tree) ws ws′
@@ -292,6 +292,6 @@ module _ (road tree : List ℕ) (code goal : ℕ) (crews drives places sheet : L
             (picksIn (length places) (junctionCount tree) ws) (fsIn (length places) (junctionCount tree) ws)
             (boundsIn (length places) (junctionCount tree) ws)
             (byYard (fIn code (toCrews road (u16At tree place) crews)) (listAt tree place n) (fsIn (length places) (junctionCount tree) ws))
-            (byYard (boundIn code sheet (landmarkCount tree) crews (toCrews road (u16At tree place) crews)) (listAt tree place n)
+            (byYard (boundIn code table (landmarkCount tree) crews (toCrews road (u16At tree place) crews)) (listAt tree place n)
             (boundsIn (length places) (junctionCount tree) ws))
             (q .cached) refl refl (λ e. omega (arith, pick-small)))

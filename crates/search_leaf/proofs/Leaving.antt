@@ -17,7 +17,7 @@ use Rattle.search_rules.specs.Instance.{Instance}
 use Rattle.search_rules.specs.Books.{searchOf}
 use Rattle.search_rules.specs.Bounds.{chosen, yardBound}
 use Rattle.search_rules.specs.Queue.{wordAt, pick}
-use Rattle.search_rules.specs.Step.{State, noElement, againKey, nextPlace, nextF, openLeaf}
+use Rattle.search_rules.specs.Step.{SearchState, noElement, againKey, nextPlace, nextF, openLeaf}
 use Rattle.search_rules.proofs.Queue.{pick-range}
 use Rattle.search_rules.proofs.Steps.{open-leaf-on}
 use Rattle.search_rules.proofs.Turns.{word-at}
@@ -54,8 +54,8 @@ module _ (i : Instance) (m : Mark) (fs bounds : List ℕ) (o : Opened i m fs bou
 
 -- ---- the list of a ready search's leaf
 
-module _ (road tree : List ℕ) (code k : ℕ) (crews drives places sheet : List ℕ)
-    (ready : Ready road tree code k crews drives places sheet)
+module _ (road tree : List ℕ) (code k : ℕ) (crews drives places table : List ℕ)
+    (ready : Ready road tree code k crews drives places table)
     (r : ℕ) (l : IsLeaf (searchOf road tree code k crews) r) (at : ℕ) (e : at ≡ getD places r 0)
     (p n place : ℕ) (picks : IsPick (searchOf road tree code k crews) r p) (en : n ≡ u16At tree (at + 5)) (ep : place ≡ markPlace tree at p)
     (list : List ℕ) (el : list ≡ listPart tree n (place + 2)) where
@@ -73,10 +73,10 @@ module _ (road tree : List ℕ) (code k : ℕ) (crews drives places sheet : List
 
   list-is : es ≡ chosen i r .list
   list-is = list-here tree place n list el
-      ∙ sym (list-of road tree code k crews drives places sheet ready r l at e p n place picks en ep)
+      ∙ sym (list-of road tree code k crews drives places table ready r l at e p n place picks en ep)
 
   pub list-some : 1 ≤ n
-  list-some = rw en (record-here road tree code k crews drives places sheet ready r l at e .some)
+  list-some = rw en (record-here road tree code k crews drives places table ready r l at e .some)
 
   count : n ≡ length (chosen i r .list)
   count = sym (readList-length list n 0) ∙ ap length list-is
@@ -110,7 +110,7 @@ module _ (road tree : List ℕ) (code k : ℕ) (crews drives places sheet : List
         ) refl
         ∙ sym (open-leaf-on i st r m x refl (next-is i m fs bounds o gone n es count list-is) (w .waits))
       where
-        st : State
+        st : SearchState
         st = record { regionKeys = keys; yardKeys = yards; firsts = firsts; gone = gone; held = heldOf held; measured = newest measured counted }
 
   -- the words before, when the leaf is open, and when its next yard and the leaf are queued
@@ -129,10 +129,10 @@ module _ (road tree : List ℕ) (code k : ℕ) (crews drives places sheet : List
     unfolding y
     y-inside = omega (
       arith,
-      tree-junctions road tree code k crews drives places sheet ready,
-      well road tree code k crews drives places sheet ready .shape .yards r (chosen i r)
+      tree-junctions road tree code k crews drives places table ready,
+      well road tree code k crews drives places table ready .shape .yards r (chosen i r)
           (nextIn (fsIn regions junctions ws′) (goneIn regions junctions ws′) es n) (l .is)
-          (chosen-mark road tree code k crews drives places sheet ready r l at e)
+          (chosen-mark road tree code k crews drives places table ready r l at e)
           (next-mem i (chosen i r) (fsIn regions junctions ws′) (boundsIn regions junctions ws′) (o .opened)
           (goneIn regions junctions ws′) n es count list-is list-some),
     )
@@ -161,7 +161,7 @@ module _ (road tree : List ℕ) (code k : ℕ) (crews drives places sheet : List
           (firstsIn regions junctions ws′) (picksIn regions junctions ws′) (fsIn regions junctions ws′) (boundsIn regions junctions ws′)
           (set (goneIn regions junctions ws′) y true)
       unfolding y
-      parts = rw is (leaf-queued regions junctions es n ws′ r (slot road tree code k crews drives places sheet ready r l) y
+      parts = rw is (leaf-queued regions junctions es n ws′ r (slot road tree code k crews drives places table ready r l) y
           (sym (leaving-by regions junctions es n ws′)) y-inside)
 
       pub leaf-cached : Cached i (picksIn (length places) (junctionCount tree) ws″) (fsIn (length places) (junctionCount tree) ws″)
@@ -176,4 +176,4 @@ module _ (road tree : List ℕ) (code k : ℕ) (crews drives places sheet : List
           state-by parts held measured counted
           ∙ (leaf-state (fsIn regions junctions ws′) (boundsIn regions junctions ws′) (regionKeysIn regions junctions ws′)
           (yardKeysIn regions junctions ws′) (firstsIn regions junctions ws′) (goneIn regions junctions ws′) (o .opened) waits held measured counted
-          ∙ sym (ap (λ (s : State). openLeaf i s r) (same-state held measured counted)))
+          ∙ sym (ap (λ (s : SearchState). openLeaf i s r) (same-state held measured counted)))

@@ -24,18 +24,18 @@ use Rattle.search_rules.proofs.Turns.{word-at, pick-none, pick-more}
 use Rattle.search_rules.proofs.Measures.{left-is, waiting-none, waiting-cons, next-place-is, next-f-is}
 use Rattle.search_state.specs.State.{wordCount, fsAt, goneAt, fsIn, goneIn}
 use Rattle.search_state.proofs.Cells.{part-at, gone-at}
-use Rattle.search_leaf.specs.Leaves.{wordOf, wordsOf}
+use Rattle.search_leaf.specs.Leaves.{elementWord, wordsOf}
 
 -- ---- a word
 
 module _ (r n : ℕ) (ws : List ℕ) (y : ℕ) (count : length ws ≡ wordCount r n) (h : y < n) (g : ℕ) (eg : g ≡ goneAt r n + y) where
-  pub word-gone : getD ws g 0 ≡ 0 → unqueued ≡ wordOf (fsIn r n ws) (goneIn r n ws) y
-  unfolding wordOf
+  pub word-gone : getD ws g 0 ≡ 0 → unqueued ≡ elementWord (fsIn r n ws) (goneIn r n ws) y
+  unfolding elementWord
   word-gone e = sym (choose-yes (left (goneIn r n ws) y) unqueued (getD (fsIn r n ws) y 0)
       (true-T (left-is (goneIn r n ws) y ∙ (gone-at r n ws y g 0 count eg h ∙ eq-eqb (getD ws g 0) 0 e))))
 
-  pub word-there : (getD ws g 0 ≡ 0 → ⊥) → (i : ℕ) → i ≡ fsAt r n + y → getD ws i 0 ≡ wordOf (fsIn r n ws) (goneIn r n ws) y
-  unfolding wordOf
+  pub word-there : (getD ws g 0 ≡ 0 → ⊥) → (i : ℕ) → i ≡ fsAt r n + y → getD ws i 0 ≡ elementWord (fsIn r n ws) (goneIn r n ws) y
+  unfolding elementWord
   word-there e i ei = sym (choose-no (left (goneIn r n ws) y) unqueued (getD (fsIn r n ws) y 0)
       (false-T (left-is (goneIn r n ws) y ∙ (gone-at r n ws y g 0 count eg h ∙ ne-eqb (getD ws g 0) 0 e)))
       ∙ part-at ws (fsAt r n) n y i 0 ei h)
@@ -49,7 +49,7 @@ module _ (fs : List ℕ) (gone : List Bool) where
   words-length (e ∷ es) = ap suc (words-length es)
 
   -- the word of element number k of a book's list
-  words-read : (p : List ℕ) (n at k : ℕ) → k < n → getD (wordsOf fs gone (readList p n at)) k 0 ≡ wordOf fs gone (u16At p (at + 6 * k + 4))
+  words-read : (p : List ℕ) (n at k : ℕ) → k < n → getD (wordsOf fs gone (readList p n at)) k 0 ≡ elementWord fs gone (u16At p (at + 6 * k + 4))
   unfolding wordsOf
   words-read p zero at k h = absurd (omega arith)
   words-read p (suc n) at zero h =
@@ -63,14 +63,14 @@ module _ (fs : List ℕ) (gone : List Bool) where
   list-length p zero at = rw (read-list-none p at) refl
   list-length p (suc n) at = rw (read-list-next p n at) (ap suc (list-length p n (at + 6)))
 
-  words-at : (p : List ℕ) (n k : ℕ) → k < n → wordAt (wordsOf fs gone (readList p n 0)) k ≡ wordOf fs gone (u16At p (6 * k + 4))
+  words-at : (p : List ℕ) (n k : ℕ) → k < n → wordAt (wordsOf fs gone (readList p n 0)) k ≡ elementWord fs gone (u16At p (6 * k + 4))
   words-at p n k h =
       let z : 0 + 6 * k + 4 ≡ 6 * k + 4 = omega arith in
       word-at (wordsOf fs gone (readList p n 0)) k 0 (rw (words-length (readList p n 0), list-length p n 0) h) ∙ words-read p n 0 k h ∙ ap
-      (λ (x : ℕ). wordOf fs gone (u16At p x)) z
+      (λ (x : ℕ). elementWord fs gone (u16At p x)) z
 
   -- by the yard and the word that were read
-  pub words-by : (p : List ℕ) (n k x : ℕ) (e : Listed) → k < n → e ≡ listedAt p k → x ≡ wordOf fs gone (e .yard)
+  pub words-by : (p : List ℕ) (n k x : ℕ) (e : Listed) → k < n → e ≡ listedAt p k → x ≡ elementWord fs gone (e .yard)
       → x ≡ wordAt (wordsOf fs gone (readList p n 0)) k
   words-by p n k x e h l q = q ∙ (rw l refl ∙ sym (words-at p n k h))
 
@@ -117,7 +117,7 @@ scanned-all ws n k place word s h j = let z : k ≡ n = omega arith in (rw (← 
 
 module _ (i : Instance) (fs : List ℕ) (gone : List Bool) (m : Mark) where
   words-waiting : (es : List Element) → ((e : Element) → Mem e es → getD fs (e .yard) 0 ≡ f i m e) → wordsOf fs gone es ≡ waiting i gone m es
-  unfolding wordsOf wordOf
+  unfolding wordsOf elementWord
   words-waiting [] h = sym (waiting-none i gone m)
   words-waiting (e ∷ es) h = rw (h e (head refl), words-waiting es (λ x k. h x (tail k))) (sym (waiting-cons i gone m e es))
 

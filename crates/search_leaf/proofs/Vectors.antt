@@ -8,7 +8,7 @@ use Rattle.book.specs.Choose.{choose}
 use Rattle.tree_layout.specs.Values.{Element}
 use Rattle.search_rules.specs.Queue.{wordAt, pick}
 use Rattle.search_rules.specs.Step.{left}
-use Rattle.search_leaf.specs.Leaves.{byYard, byYards, wordOf, wordsOf}
+use Rattle.search_leaf.specs.Leaves.{byYard, byYards, elementWord, wordsOf}
 
 pair : ℕ → ℕ → Element
 pair distance yard = record { distance = distance; yard = yard }
@@ -29,9 +29,9 @@ at-both = refl
 
 -- of two that tie the first leaves; a yard that has left has no word
 ties : pick (wordsOf (4 ∷ 6 ∷ 0 ∷ 4 ∷ []) (false ∷ false ∷ false ∷ false ∷ []) three) 3 ≡ 1
-unfolding pick wordAt wordsOf wordOf left choose three pair
+unfolding pick wordAt wordsOf elementWord left choose three pair
 ties = refl
 
 gone : pick (wordsOf (4 ∷ 6 ∷ 0 ∷ 4 ∷ []) (false ∷ false ∷ false ∷ true ∷ []) three) 3 ≡ 2
-unfolding pick wordAt wordsOf wordOf left choose three pair
+unfolding pick wordAt wordsOf elementWord left choose three pair
 gone = refl

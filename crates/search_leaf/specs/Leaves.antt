@@ -35,16 +35,16 @@ abbrev pub fIn : ℕ → List ℕ → Element → ℕ
 fIn code out e = fBy code out (e .distance)
 
 abbrev pub boundIn : ℕ → List ℕ → ℕ → List ℕ → List ℕ → Element → ℕ
-boundIn code sheet rows crews out e = yardBoundBy code sheet rows crews out (e .yard) (e .distance) (length crews)
+boundIn code table rows crews out e = yardBoundBy code table rows crews out (e .yard) (e .distance) (length crews)
 
 -- yard y's word, or `unqueued` if it has left
-unfoldable pub wordOf : List ℕ → List Bool → ℕ → ℕ
-wordOf fs gone y = choose (left gone y) unqueued (getD fs y 0)
+unfoldable pub elementWord : List ℕ → List Bool → ℕ → ℕ
+elementWord fs gone y = choose (left gone y) unqueued (getD fs y 0)
 
 -- for each element its word
 unfoldable pub wordsOf : List ℕ → List Bool → List Element → List ℕ
 wordsOf fs gone [] = []
-wordsOf fs gone (e ∷ es) = wordOf fs gone (e .yard) ∷ wordsOf fs gone es
+wordsOf fs gone (e ∷ es) = elementWord fs gone (e .yard) ∷ wordsOf fs gone es
 
 -- the list of the leaf's landmark that stands at a place of a tree book
 unfoldable pub listAt : List ℕ → ℕ → ℕ → List Element

@@ -16,7 +16,7 @@ use Rattle.search_rules.specs.Bounds.{chosen}
 use Rattle.tree_layout.specs.Values.{noMark}
 use Rattle.search_rules.specs.Queue.{unqueued}
 use Rattle.search_rules.specs.Step.{nextF}
-use Rattle.search_bounds.specs.Sheet.{Sheet}
+use Rattle.search_bounds.specs.Tables.{LandmarkTable}
 use Rattle.search_state.specs.State.{wordCount, regionKeysIn, yardKeysIn, firstsIn, picksIn, fsIn, boundsIn, goneIn}
 use Rattle.search_leaf.specs.Leaves.{Opened}
 
@@ -26,17 +26,17 @@ pub record IsPick (i : Instance) (r p : ℕ) : Type 0 where
   pub is : getD (marks i r) p noMark ≡ chosen i r
 
 -- the books and the crews are accepted, each crew has its row of distances, the places are the tree book's, and the
--- sheet is filled
-pub record Ready (road tree : List ℕ) (code k : ℕ) (crews drives places sheet : List ℕ) : Type 0 where
+-- landmark table is filled
+pub record Ready (road tree : List ℕ) (code k : ℕ) (crews drives places table : List ℕ) : Type 0 where
   pub passed : Passed road tree crews
   pub driven : Rowed road crews drives
   pub laid : Laid tree places
-  pub sheeted : Sheet (searchOf road tree code k crews) (landmarkCount tree) sheet
+  pub tableed : LandmarkTable (searchOf road tree code k crews) (landmarkCount tree) table
 
 -- beside some road book
-pub record Readied (tree : List ℕ) (code k : ℕ) (crews drives places sheet : List ℕ) : Type 0 where
+pub record Readied (tree : List ℕ) (code k : ℕ) (crews drives places table : List ℕ) : Type 0 where
   pub road : List ℕ
-  pub ready : Ready road tree code k crews drives places sheet
+  pub ready : Ready road tree code k crews drives places table
 
 -- the mark of a leaf that was never taken
 abbrev pub unopened : ℕ

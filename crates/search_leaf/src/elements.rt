@@ -16,24 +16,24 @@ ghost use Rattle.search_bounds.specs.Rows.{Rows};
 ghost use Rattle.search_bounds.specs.Bounds.{Crews};
 ghost use Rattle.search_bounds.specs.Measures.{Driven, IsDriven, toCrews};
 ghost use Rattle.search_state.specs.State.{wordCount, fsIn, goneIn};
-ghost use Rattle.search_leaf.specs.Leaves.{Near, byYards, fIn, boundIn, wordOf, wordsOf, listAt};
+ghost use Rattle.search_leaf.specs.Leaves.{Near, byYards, fIn, boundIn, elementWord, wordsOf, listAt};
 
 // Sets f and the bound of each yard of a landmark's list, given the landmark's distances to the crews.
 fn fill(
     list: &[u8],
     yards: usize,
-    sheet: &[u32],
+    table: &[u32],
     crews: &[u16],
     out: &[u32],
     code: u8,
     h: Header,
     words: &mut [u64],
 )
-    requires { ⌜ (6 * yards ≤ length (now list)) × Rows (now sheet) (h .landmarks) × Crews (now crews)
+    requires { ⌜ (6 * yards ≤ length (now list)) × Rows (now table) (h .landmarks) × Crews (now crews)
         × (length (now out) ≡ length (now crews)) × Near (h .junctions) (readList (now list) yards 0)
         × (h .junctions ≤ 1024) × (length (now words) ≡ wordCount (h .regions) (h .junctions)) ⌝ }
     ensures { λ _. ⌜ now (words .exit) ≡ byYards (h .regions) (h .junctions) (fIn code (now (out .entry)))
-        (boundIn code (now (sheet .entry)) (h .landmarks) (now (crews .entry)) (now (out .entry)))
+        (boundIn code (now (table .entry)) (h .landmarks) (now (crews .entry)) (now (out .entry)))
         (readList (now (list .entry)) yards 0) (now (words .entry)) ⌝ }
 {
     let rows = h.landmarks as usize;
@@ -42,7 +42,7 @@ fn fill(
         let e = records::element(list, k);
         let y = e.yard;
         let f = search_bounds::yards::f_of(out, code, e.distance);
-        let bound = search_bounds::yards::yard_bound(sheet, rows, crews, out, code, y, e.distance);
+        let bound = search_bounds::yards::yard_bound(table, rows, crews, out, code, y, e.distance);
         let f_place = parts::f_at(h, y);
         let bound_place = parts::bound_at(h, y);
         words[f_place] = f;
@@ -56,13 +56,13 @@ pub fn open(
     tree: &[u8],
     at: usize,
     yards: usize,
-    sheet: &[u32],
+    table: &[u32],
     drives: &[u32],
     crews: &[u16],
     code: u8,
     words: &mut [u64],
 )
-    requires { ⌜ IsDriven (now crews) (now drives) (u16At (now tree) at) × Rows (now sheet) (landmarkCount (now tree))
+    requires { ⌜ IsDriven (now crews) (now drives) (u16At (now tree) at) × Rows (now table) (landmarkCount (now tree))
         × (12 ≤ length (now tree)) × (at + (2 + 6 * yards) ≤ length (now tree)) × (junctionCount (now tree) ≤ 1024)
         × Near (junctionCount (now tree)) (listAt (now tree) at yards)
         × (length (now words) ≡ wordCount (regionCount (now tree)) (junctionCount (now tree))) ⌝ }
@@ -70,7 +70,7 @@ pub fn open(
         → u16At (now (tree .entry)) at < junctions road
         → now (words .exit) ≡ byYards (regionCount (now (tree .entry))) (junctionCount (now (tree .entry)))
         (fIn code (toCrews road (u16At (now (tree .entry)) at) (now (crews .entry))))
-        (boundIn code (now (sheet .entry)) (landmarkCount (now (tree .entry))) (now (crews .entry))
+        (boundIn code (now (table .entry)) (landmarkCount (now (tree .entry))) (now (crews .entry))
         (toCrews road (u16At (now (tree .entry)) at) (now (crews .entry))))
         (listAt (now (tree .entry)) at yards) (now (words .entry))) ⌝ }
 {
@@ -80,13 +80,13 @@ pub fn open(
     search_bounds::yards::to_crews(drives, crews, l, &mut out[..q]);
     let list = records::list(tree, at, yards);
     let h = records::header(tree);
-    fill(list, yards, sheet, crews, &out[..q], code, h, words);
+    fill(list, yards, table, crews, &out[..q], code, h, words);
 }
 
 // A yard's f, or UNQUEUED if it has left.
 fn word_of(h: Header, words: &[u64], y: u16) -> u64
     requires { ⌜ (y < h .junctions) × (length (now words) ≡ wordCount (h .regions) (h .junctions)) ⌝ }
-    ensures { λ r. ⌜ r ≡ wordOf (fsIn (h .regions) (h .junctions) (now (words .entry)))
+    ensures { λ r. ⌜ r ≡ elementWord (fsIn (h .regions) (h .junctions) (now (words .entry)))
         (goneIn (h .regions) (h .junctions) (now (words .entry))) y ⌝ }
 {
     let g = parts::gone_at(h, y);

@@ -29,28 +29,28 @@ pub struct Next {
 pub fn take(
     tree: &[u8],
     places: &[usize],
-    sheet: &[u32],
+    table: &[u32],
     drives: &[u32],
     crews: &[u16],
     asked: Query,
     words: &mut [u64],
     r: Region,
 )
-    requires { ⌜ Readied (now tree) (asked .aggregate) (asked .k) (now crews) (now drives) (now places) (now sheet)
+    requires { ⌜ Readied (now tree) (asked .aggregate) (asked .k) (now crews) (now drives) (now places) (now table)
         × ((road : List ℕ)
-        → Ready road (now tree) (asked .aggregate) (asked .k) (now crews) (now drives) (now places) (now sheet)
+        → Ready road (now tree) (asked .aggregate) (asked .k) (now crews) (now drives) (now places) (now table)
         → Leafed (searchOf road (now tree) (asked .aggregate) (asked .k) (now crews))
         (length (now places)) (junctionCount (now tree)) (now words) (r .number)) ⌝ }
     ensures cached { λ _. ⌜ ((road : List ℕ)
         → Ready road (now (tree .entry)) (asked .aggregate) (asked .k)
-        (now (crews .entry)) (now (drives .entry)) (now (places .entry)) (now (sheet .entry))
+        (now (crews .entry)) (now (drives .entry)) (now (places .entry)) (now (table .entry))
         → Cached (searchOf road (now (tree .entry)) (asked .aggregate) (asked .k) (now (crews .entry)))
         (picksIn (length (now (places .entry))) (junctionCount (now (tree .entry))) (now (words .exit)))
         (fsIn (length (now (places .entry))) (junctionCount (now (tree .entry))) (now (words .exit)))
         (boundsIn (length (now (places .entry))) (junctionCount (now (tree .entry))) (now (words .exit)))) ⌝ }
     ensures state { λ _. ⌜ ((road : List ℕ)
         → Ready road (now (tree .entry)) (asked .aggregate) (asked .k)
-        (now (crews .entry)) (now (drives .entry)) (now (places .entry)) (now (sheet .entry))
+        (now (crews .entry)) (now (drives .entry)) (now (places .entry)) (now (table .entry))
         → (held : Held) (measured : List ℕ) (count : ℕ)
         → stateOf (length (now (places .entry))) (junctionCount (now (tree .entry))) (now (words .exit))
         held measured count
@@ -58,7 +58,7 @@ pub fn take(
         (stateOf (length (now (places .entry))) (junctionCount (now (tree .entry))) (now (words .entry))
         held measured count) (r .number)) ⌝ }
 {
-    let p = opening::landmark(tree, places, sheet, drives, crews, asked, words, r);
+    let p = opening::landmark(tree, places, table, drives, crews, asked, words, r);
     let at = places[r.number as usize];
     let yards = records::fields(tree, at).yards as usize;
     let place = landmarks::mark_place(tree, at, p);

@@ -18,23 +18,23 @@ ghost use Rattle.search_leaf.specs.Ready.{Ready, Readied, Leafed, SameQu
 fn open(
     tree: &[u8],
     places: &[usize],
-    sheet: &[u32],
+    table: &[u32],
     drives: &[u32],
     crews: &[u16],
     asked: Query,
     words: &mut [u64],
     r: Region,
 ) -> usize
-    requires { ⌜ Readied (now tree) (asked .aggregate) (asked .k) (now crews) (now drives) (now places) (now sheet)
+    requires { ⌜ Readied (now tree) (asked .aggregate) (asked .k) (now crews) (now drives) (now places) (now table)
         × ((road : List ℕ)
-        → Ready road (now tree) (asked .aggregate) (asked .k) (now crews) (now drives) (now places) (now sheet)
+        → Ready road (now tree) (asked .aggregate) (asked .k) (now crews) (now drives) (now places) (now table)
         → Leafed (searchOf road (now tree) (asked .aggregate) (asked .k) (now crews))
         (length (now places)) (junctionCount (now tree)) (now words) (r .number)) ⌝ }
     ensures same { λ _. ⌜ SameQueue (length (now (places .entry))) (junctionCount (now (tree .entry)))
         (now (words .entry)) (now (words .exit)) ⌝ }
     ensures open { λ p. ⌜ ((road : List ℕ)
         → Ready road (now (tree .entry)) (asked .aggregate) (asked .k)
-        (now (crews .entry)) (now (drives .entry)) (now (places .entry)) (now (sheet .entry))
+        (now (crews .entry)) (now (drives .entry)) (now (places .entry)) (now (table .entry))
         → OpenLeaf (searchOf road (now (tree .entry)) (asked .aggregate) (asked .k) (now (crews .entry)))
         (picksIn (length (now (places .entry))) (junctionCount (now (tree .entry))) (now (words .exit)))
         (fsIn (length (now (places .entry))) (junctionCount (now (tree .entry))) (now (words .exit)))
@@ -42,7 +42,7 @@ fn open(
         (r .number) p) ⌝ }
 {
     let h = records::header(tree);
-    let p = picks::choose_mark(tree, places, sheet, h.landmarks as usize, crews, r);
+    let p = picks::choose_mark(tree, places, table, h.landmarks as usize, crews, r);
     let pick_place = parts::pick_at(h, r);
     words[pick_place] = p as u64;
     let at = places[r.number as usize];
@@ -52,7 +52,7 @@ fn open(
         tree,
         place,
         yards,
-        sheet,
+        table,
         drives,
         crews,
         asked.aggregate,
@@ -65,23 +65,23 @@ fn open(
 pub fn landmark(
     tree: &[u8],
     places: &[usize],
-    sheet: &[u32],
+    table: &[u32],
     drives: &[u32],
     crews: &[u16],
     asked: Query,
     words: &mut [u64],
     r: Region,
 ) -> usize
-    requires { ⌜ Readied (now tree) (asked .aggregate) (asked .k) (now crews) (now drives) (now places) (now sheet)
+    requires { ⌜ Readied (now tree) (asked .aggregate) (asked .k) (now crews) (now drives) (now places) (now table)
         × ((road : List ℕ)
-        → Ready road (now tree) (asked .aggregate) (asked .k) (now crews) (now drives) (now places) (now sheet)
+        → Ready road (now tree) (asked .aggregate) (asked .k) (now crews) (now drives) (now places) (now table)
         → Leafed (searchOf road (now tree) (asked .aggregate) (asked .k) (now crews))
         (length (now places)) (junctionCount (now tree)) (now words) (r .number)) ⌝ }
     ensures same { λ _. ⌜ SameQueue (length (now (places .entry))) (junctionCount (now (tree .entry)))
         (now (words .entry)) (now (words .exit)) ⌝ }
     ensures open { λ p. ⌜ ((road : List ℕ)
         → Ready road (now (tree .entry)) (asked .aggregate) (asked .k)
-        (now (crews .entry)) (now (drives .entry)) (now (places .entry)) (now (sheet .entry))
+        (now (crews .entry)) (now (drives .entry)) (now (places .entry)) (now (table .entry))
         → OpenLeaf (searchOf road (now (tree .entry)) (asked .aggregate) (asked .k) (now (crews .entry)))
         (picksIn (length (now (places .entry))) (junctionCount (now (tree .entry))) (now (words .exit)))
         (fsIn (length (now (places .entry))) (junctionCount (now (tree .entry))) (now (words .exit)))
@@ -92,5 +92,5 @@ pub fn landmark(
     if p != search_queue::UNQUEUED {
         return p as usize;
     }
-    open(tree, places, sheet, drives, crews, asked, words, r)
+    open(tree, places, table, drives, crews, asked, words, r)
 }

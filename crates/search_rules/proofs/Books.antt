@@ -14,7 +14,7 @@ use Rattle.tree.specs.Shape.{treeRefusal}
 use Rattle.tree.specs.Yards.{yardsBelow}
 use Rattle.search_rules.specs.Instance.{Instance}
 use Rattle.search_rules.specs.Books.{searchOf, Passed}
-use Rattle.search_rules.specs.Facts.{WellFormed, Metric, Symmetric, Sound}
+use Rattle.search_rules.specs.Facts.{WellFormed, Triangle, Symmetric, SoundInstance}
 use Rattle.search_rules.proofs.Trees.{Accepted, accepted-tree, well-formed, truth-of}
 
 module _ (road tree : List ℕ) (code goal : ℕ) (crews : List ℕ) (p : Passed road tree crews) where
@@ -33,7 +33,7 @@ module _ (road tree : List ℕ) (code goal : ℕ) (crews : List ℕ) (p : Passed
   well-of = well-formed i accepted-of (λ q k. omega (arith, count, p .there q k)) (p .few)
       (λ u v h k. omega (arith, metric road (p .roads) .bounded u v (omega (arith, count)) (omega (arith, count))))
 
-  pub metric-of : Metric i
+  pub metric-of : Triangle i
   unfolding searchOf
   metric-of = record { triangle = λ u v w a b c. metric road (p .roads) .triangle u v w (omega (arith, count)) (omega (arith, count)) (omega (arith, count)) }
 
@@ -48,6 +48,6 @@ module _ (road tree : List ℕ) (code goal : ℕ) (crews : List ℕ) (p : Passed
       → ((r : ℕ) → r < length (decode tree .regions) → (m : Mark) → Mem m (regionAt (decode tree .regions) r .marks) → (y : ℕ)
       → Mem y (yardsBelow (decode tree .regions) r)
       → (m .least ≤ dist road (m .place) y) × (dist road (m .place) y ≤ m .greatest))
-      → Sound i
+      → SoundInstance i
   unfolding searchOf
   sound-of lists encloses = record { well = well-of; metric = metric-of; symmetric = symmetric-of; truth = truth-of i accepted-of lists encloses }

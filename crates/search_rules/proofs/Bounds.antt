@@ -10,9 +10,10 @@ use Rattle.book.specs.Choose.{choose}
 use Rattle.book.proofs.Choosing.{choose-case, choose-yes, choose-no}
 use Rattle.tree_layout.specs.Values.{Element, Mark}
 use Rattle.search_rules.specs.Instance.{Instance, children, marks, leaf}
-use Rattle.search_rules.specs.Bounds.{apart, combine, aggregate, greatestOf, leastFrom, leastOf, crewBound, sheetAt, lower, upper, over, total, markBound}
-use Rattle.search_rules.specs.Bounds.{bound, weight, best, bestOf, chosen, listApart, f, yardBound}
-use Rattle.search_rules.specs.Facts.{Below, inside, under, Shape, Metric, Symmetric, Truth}
+use Rattle.search_rules.specs.Bounds.{absDiff, combine, aggregate, greatestOf, leastFrom, leastOf, crewBound, tableAt, lower, upper, over, total}
+use Rattle.search_rules.specs.Bounds.{markBound}
+use Rattle.search_rules.specs.Bounds.{bound, weight, best, bestOf, chosen, listAbsDiff, f, yardBound}
+use Rattle.search_rules.specs.Facts.{Below, inside, under, Shape, Triangle, Symmetric, Truth}
 use Rattle.search_rules.proofs.Choices.{choose-two}
 
 -- ---- the greatest, the least, the aggregate
@@ -88,7 +89,7 @@ module _ (i : Instance) where
   -- f is at most the yard's bound, whatever the tree says
   pub f-le : (m : Mark) (e : Element) → f i m e ≤ yardBound i m e
   unfolding f yardBound
-  f-le m e = over-mono (listApart i m e) (λ q. max (lower i (e .yard) q) (listApart i m e q)) (λ q k. omega arith)
+  f-le m e = over-mono (listAbsDiff i m e) (λ q. max (lower i (e .yard) q) (listAbsDiff i m e q)) (λ q k. omega arith)
 
   module _ (shape : Shape i) where
     -- a yard is a junction
@@ -96,19 +97,19 @@ module _ (i : Instance) where
     below-range (inside {r = r} m l e k) = rw (← k .names) (shape .yards r m (k .element) l e (k .mem))
     below-range (under c l e b) = below-range b
 
-    module _ (metric : Metric i) (symmetric : Symmetric i) where
+    module _ (metric : Triangle i) (symmetric : Symmetric i) where
       -- two distances from one junction differ by no more than the distance between
-      apart-le : (u v w : ℕ) → u < i .tree .junctions → v < i .tree .junctions → w < i .tree .junctions → apart (i .d u v) (i .d u w) ≤ i .d v w
-      unfolding apart
-      apart-le u v w a b c = omega (arith, metric .triangle u w v a c b, metric .triangle u v w a b c, symmetric .turn v w b c)
+      abs-diff-le : (u v w : ℕ) → u < i .tree .junctions → v < i .tree .junctions → w < i .tree .junctions → absDiff (i .d u v) (i .d u w) ≤ i .d v w
+      unfolding absDiff
+      abs-diff-le u v w a b c = omega (arith, metric .triangle u w v a c b, metric .triangle u v w a b c, symmetric .turn v w b c)
 
       pub lower-le : (l q : ℕ) → l < i .tree .junctions → q < i .tree .junctions → lower i l q ≤ i .d l q
-      unfolding lower sheetAt
-      lower-le l q a b = greatestOf-le (λ r. apart (i .d (r .place) l) (i .d (r .place) q)) (i .d l q) (marks i 0)
-          (λ m e. apart-le (m .place) l q (shape .places 0 m e) a b)
+      unfolding lower tableAt
+      lower-le l q a b = greatestOf-le (λ r. absDiff (i .d (r .place) l) (i .d (r .place) q)) (i .d l q) (marks i 0)
+          (λ m e. abs-diff-le (m .place) l q (shape .places 0 m e) a b)
 
       pub upper-le : (l q : ℕ) → l < i .tree .junctions → q < i .tree .junctions → i .d l q ≤ upper i l q
-      unfolding upper sheetAt
+      unfolding upper tableAt
       upper-le l q a b = leastOf-le (λ r. i .d (r .place) l + i .d (r .place) q) (i .d l q) (marks i 0) (shape .marked 0 (shape .root))
           (λ m e. omega (arith, metric .triangle l (m .place) q a (shape .places 0 m e) b, symmetric .turn l (m .place) a (shape .places 0 m e)))
 
@@ -135,16 +136,16 @@ module _ (i : Instance) where
 
         -- a yard's bound is at most its aggregate
         pub yardBound-le : (r : ℕ) (m : Mark) (e : Element) → T (leaf i r) → Mem m (marks i r) → Mem e (m .list) → yardBound i m e ≤ total i (e .yard)
-        unfolding yardBound total listApart
-        yardBound-le r m e l k j = over-mono (λ q. max (lower i (e .yard) q) (apart (i .d (m .place) q) (e .distance))) (λ q. i .d q (e .yard))
+        unfolding yardBound total listAbsDiff
+        yardBound-le r m e l k j = over-mono (λ q. max (lower i (e .yard) q) (absDiff (i .d (m .place) q) (e .distance))) (λ q. i .d q (e .yard))
             (λ q c. one q (shape .crews q c))
           where
             y : e .yard < i .tree .junctions
             y = shape .yards r m e l k j
 
-            one : (q : ℕ) → q < i .tree .junctions → max (lower i (e .yard) q) (apart (i .d (m .place) q) (e .distance)) ≤ i .d q (e .yard)
+            one : (q : ℕ) → q < i .tree .junctions → max (lower i (e .yard) q) (absDiff (i .d (m .place) q) (e .distance)) ≤ i .d q (e .yard)
             one q c = rw (truth .lists r m e l k j)
-                (omega (arith, lower-le (e .yard) q y c, symmetric .turn q (e .yard) c y, apart-le (m .place) q (e .yard) (shape .places r m k) c y))
+                (omega (arith, lower-le (e .yard) q y c, symmetric .turn q (e .yard) c y, abs-diff-le (m .place) q (e .yard) (shape .places r m k) c y))
 
         pub f-le-total : (r : ℕ) (m : Mark) (e : Element) → T (leaf i r) → Mem m (marks i r) → Mem e (m .list) → f i m e ≤ total i (e .yard)
         f-le-total r m e l k j = omega (arith, f-le m e, yardBound-le r m e l k j)

@@ -18,7 +18,7 @@ use Rattle.tree.proofs.Counts.{numbers-none, numbers-more, numbers-mem, sum-non
 use Rattle.search_rules.specs.Instance.{Instance, size, children, marks, leaf}
 use Rattle.search_rules.specs.Bounds.{chosen, yardBound}
 use Rattle.search_rules.specs.Queue.{unqueued}
-use Rattle.search_rules.specs.Step.{State, left, againKey, nextF, openInner, queueNext, takeYard, step, settled, start}
+use Rattle.search_rules.specs.Step.{SearchState, left, againKey, nextF, openInner, queueNext, takeYard, step, settled, startSearch}
 use Rattle.search_rules.specs.Run.{Outcome, advance, run}
 use Rattle.search_rules.specs.Facts.{Below, inside, WellFormed}
 use Rattle.search_rules.proofs.Queue.{seen, key, has, has-key, Entered, queued-child, kept}
@@ -77,21 +77,21 @@ module _ (i : Instance) where
   inner-count = inner-sum (length (i .tree .regions)) 0 ∙ rw inners-sum refl
 
   -- An inner region that has not been taken.
-  unopened : State → ℕ → Bool
+  unopened : SearchState → ℕ → Bool
   unopened st r = not (leaf i r) && (has (key (st .regionKeys) r) || not (has (key (st .firsts) r)))
 
   -- A yard that has not left its leaf.
-  unleft : State → ℕ → Bool
+  unleft : SearchState → ℕ → Bool
   unleft st y = not (left (st .gone) y)
 
   -- A yard that has not been measured.
-  unmeasured : State → ℕ → Bool
+  unmeasured : SearchState → ℕ → Bool
   unmeasured st y = not (left (st .gone) y) || has (key (st .yardKeys) y)
 
-  work : List ℕ → State → ℕ
+  work : List ℕ → SearchState → ℕ
   work ys st = tally (unopened st) (numbers (size i) 0) + tally (unleft st) ys + tally (unmeasured st) ys
 
-  work-most : (ys : List ℕ) (st : State) → work ys st ≤ innerCount + 2 * length ys
+  work-most : (ys : List ℕ) (st : SearchState) → work ys st ≤ innerCount + 2 * length ys
   unfolding work innerCount unopened
   work-most ys st = omega (arith, inner, tally-length (unleft st) ys, tally-length (unmeasured st) ys)
     where
@@ -103,7 +103,7 @@ module _ (i : Instance) where
       inner = tally-le (λ r. not (leaf i r)) (unopened st) (λ r t. first (not (leaf i r)) (has (key (st .regionKeys) r)
           || not (has (key (st .firsts) r))) t) (numbers (size i) 0)
 
-  module _ (well : WellFormed i) (ys : List ℕ) (all : (y : ℕ) → Below i 0 y → Mem y ys) (st : State) (was : Kept i st) where
+  module _ (well : WellFormed i) (ys : List ℕ) (all : (y : ℕ) → Below i 0 y → Mem y ys) (st : SearchState) (was : Kept i st) where
     -- the tests, of their parts
     not-leaf : (l k f : Bool) → T (not l && (k || not f)) → T (not l)
     not-leaf true k f t = absurd t
@@ -142,7 +142,7 @@ module _ (i : Instance) where
             (queued-open (leaf i r) (has (key (st .regionKeys) r)) (has (key (st .firsts) r)) inner (has-key at)) closed,
       )
         where
-          new : State
+          new : SearchState
           new = openInner i st r a
 
           -- r has a first key, and is no longer queued
@@ -193,7 +193,7 @@ module _ (i : Instance) where
           y : ℕ
           y = e .yard
 
-          new : State
+          new : SearchState
           new = queueNext i st r first m e
 
           gone′ : List Bool
@@ -235,7 +235,7 @@ module _ (i : Instance) where
           (or-right (not (left (st .gone) y)) (has (key (st .yardKeys) y)) (has-key at)) done,
     )
       where
-        new : State
+        new : SearchState
         new = takeYard i st y
 
         yard-key : (P : Option ℕ → Type 0) (v : ℕ) → (v ≡ y → P none) → (v ≢ y → P (key (st .yardKeys) v)) → P (key (set (st .yardKeys) y unqueued) v)
@@ -266,12 +266,12 @@ module _ (i : Instance) where
   module _ (well : WellFormed i) (ys : List ℕ) (all : (y : ℕ) → Below i 0 y → Mem y ys) where
     so-far : (limit : ℕ) → T (settled i (run i limit .state)) ⊎ (work ys (run i limit .state) + limit ≤ innerCount + 2 * length ys)
     unfolding run advance
-    so-far zero = inr (omega (arith, work-most ys (start i)))
+    so-far zero = inr (omega (arith, work-most ys (startSearch i)))
     so-far (suc limit) = choose-case (λ (o : Outcome). T (settled i (o .state)) ⊎ (work ys (o .state) + suc limit ≤ innerCount + 2 * length ys)) (settled i
         (run i limit .state))
         (λ t. inl t) (λ t. on t (so-far limit))
       where
-        st : State
+        st : SearchState
         st = run i limit .state
 
         on : T (not (settled i st)) → T (settled i st) ⊎ (work ys st + limit ≤ innerCount + 2 * length ys)
@@ -283,7 +283,7 @@ module _ (i : Instance) where
     pub enough : (limit : ℕ) → inners (i .tree) + 2 * length ys ≤ limit → T (settled i (run i limit .state))
     enough limit h = go (so-far limit)
       where
-        st : State
+        st : SearchState
         st = run i limit .state
 
         decide : (b : Bool) → (T (not b) → ⊥) → T b

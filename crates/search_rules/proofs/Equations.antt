@@ -13,18 +13,18 @@ use Rattle.tree_layout.specs.Values.{Mark, regionAt}
 use Rattle.tree_layout.specs.Decode.{decode}
 use Rattle.search_rules.specs.Instance.{Instance, marks}
 use Rattle.search_rules.specs.Books.{searchOf}
-use Rattle.search_rules.specs.Bounds.{apart, combine, aggregate, greatestOf, leastOf, crewBound, sheetAt, lower, upper, over, markBound, bound, weight}
+use Rattle.search_rules.specs.Bounds.{absDiff, combine, aggregate, greatestOf, leastOf, crewBound, tableAt, lower, upper, over, markBound, bound, weight}
 use Rattle.search_rules.specs.Bounds.{bestOf, chosen}
 
 -- ---- numbers
 
-pub apart-less : (a b : ℕ) → a < b → b - a ≡ apart a b
-unfolding apart
-apart-less a b h = omega arith
+pub abs-diff-less : (a b : ℕ) → a < b → b - a ≡ absDiff a b
+unfolding absDiff
+abs-diff-less a b h = omega arith
 
-pub apart-more : (a b : ℕ) → b ≤ a → a - b ≡ apart a b
-unfolding apart
-apart-more a b h = omega arith
+pub abs-diff-more : (a b : ℕ) → b ≤ a → a - b ≡ absDiff a b
+unfolding absDiff
+abs-diff-more a b h = omega arith
 
 pub combine-sum : (code a b : ℕ) → code ≡ 0 → a + b ≡ combine code a b
 unfolding combine
@@ -86,15 +86,15 @@ greatest-same g h (m ∷ ms) k = rw (k m (head refl), greatest-same g h ms (λ n
 -- ---- an instance's bounds
 
 module _ (i : Instance) where
-  pub sheet-at : (r : Mark) (v : ℕ) → sheetAt i r v ≡ i .d (r .place) v
-  unfolding sheetAt
-  sheet-at r v = refl
+  pub table-at : (r : Mark) (v : ℕ) → tableAt i r v ≡ i .d (r .place) v
+  unfolding tableAt
+  table-at r v = refl
 
-  pub lower-is : (l q : ℕ) → lower i l q ≡ greatestOf (λ r. apart (sheetAt i r l) (sheetAt i r q)) (marks i 0)
+  pub lower-is : (l q : ℕ) → lower i l q ≡ greatestOf (λ r. absDiff (tableAt i r l) (tableAt i r q)) (marks i 0)
   unfolding lower
   lower-is l q = refl
 
-  pub upper-is : (l q : ℕ) → upper i l q ≡ leastOf (λ r. sheetAt i r l + sheetAt i r q) (marks i 0)
+  pub upper-is : (l q : ℕ) → upper i l q ≡ leastOf (λ r. tableAt i r l + tableAt i r q) (marks i 0)
   unfolding upper
   upper-is l q = refl
 

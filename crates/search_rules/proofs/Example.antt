@@ -11,20 +11,20 @@ use Rattle.book.specs.Bytes.{u8At, u16At, u32At, Bytes}
 use Rattle.book.proofs.Choosing.{and-left, and-right, choose-case}
 use Rattle.tree_layout.specs.Values.{Element, Mark, Region, leafMark, innerMark, firstDistance, lastFrom, noRegion, regionAt}
 use Rattle.tree_layout.specs.Decode.{elementAt, readList, listPart, readLists, readSpans, readMarks, markSize, recordSize, sizeAt, readRegion, readRegions}
-use Rattle.tree_layout.specs.Decode.{junctionCount, regionCount, yardCount, landmarkCount, decode}
+use Rattle.tree_layout.specs.Decode.{junctionCount, regionCount, treeYardCount, landmarkCount, decode}
 use Rattle.tree_layout.specs.Refusal.{all}
 use Rattle.tree_layout.proofs.Tests.{all-mem}
 use Rattle.tree_layout.proofs.Vectors.{fiveRegions}
 use Rattle.tree_leaf.specs.Leaf.{yardsIn, names, once, inRange, namedBy, firstList, agreeing, sameYards, leafOk}
 use Rattle.tree.specs.Shape.{childFits, siblings, subtree, treeRefusal}
-use Rattle.tree.specs.Yards.{endOf, starts, childrenOf, numbers, ownYards, yardsFrom, yardsBelow, treeYards, sumFrom, oneInner, inners}
+use Rattle.tree.specs.Yards.{endOf, starts, childrenOf, numbers, ownYards, leafYardsFrom, yardsBelow, treeYards, sumFrom, oneInner, inners}
 use Rattle.tree.proofs.Counts.{numbers-mem}
 use Rattle.tree.proofs.Vectors.{row0}
 use Rattle.search_rules.specs.Instance.{Instance}
-use Rattle.search_rules.specs.Bounds.{apart}
+use Rattle.search_rules.specs.Bounds.{absDiff}
 use Rattle.search_rules.specs.Held.{ranked}
 use Rattle.search_rules.specs.Run.{answer}
-use Rattle.search_rules.specs.Facts.{Metric, Symmetric, Sound}
+use Rattle.search_rules.specs.Facts.{Triangle, Symmetric, SoundInstance}
 use Rattle.search_rules.proofs.Trees.{Accepted, accepted-tree, well-formed, truth-of}
 use Rattle.search_rules.proofs.Theorems.{accepted-ends, accepted-exact}
 
@@ -80,7 +80,7 @@ unfoldable pub along : List ℕ
 along = 0 ∷ 2 ∷ 5 ∷ 9 ∷ 10 ∷ []
 
 unfoldable pub five : Instance
-five = record { code = 0; k = 2; crews = 0 ∷ 2 ∷ []; tree = decode fiveRegions; d = λ u v. apart (getD along u 0) (getD along v 0) }
+five = record { code = 0; k = 2; crews = 0 ∷ 2 ∷ []; tree = decode fiveRegions; d = λ u v. absDiff (getD along u 0) (getD along v 0) }
 
 bytes : Bytes fiveRegions
 unfolding Bytes fiveRegions all
@@ -93,22 +93,22 @@ tree-accepted : Accepted (five .tree)
 unfolding five
 tree-accepted = accepted-tree fiveRegions bytes accepted
 
-metric : Metric five
-unfolding five apart
+metric : Triangle five
+unfolding five absDiff
 metric = record { triangle = λ u v w a b c. omega arith }
 
 symmetric : Symmetric five
-unfolding five apart
+unfolding five absDiff
 symmetric = record { turn = λ u v a b. omega arith }
 
-near : (u v : ℕ) → apart (getD along u 0) (getD along v 0) ≤ 67042305
-unfolding along apart all
+near : (u v : ℕ) → absDiff (getD along u 0) (getD along v 0) ≤ 67042305
+unfolding along absDiff all
 near u v = omega (arith, below-all 11 along (omega arith) tt u, below-all 11 along (omega arith) tt v)
 
 true-numbers : T (allTrue five)
-unfolding allTrue regionTrue listTrue spanTrue five along apart all numbers yardsBelow yardsFrom ownYards yardsIn endOf subtree siblings childFits leafOk
+unfolding allTrue regionTrue listTrue spanTrue five along absDiff all numbers yardsBelow leafYardsFrom ownYards yardsIn endOf subtree siblings childFits leafOk
     agreeing sameYards namedBy inRange once names firstList fiveRegions choose u8At u16At u32At leafMark innerMark firstDistance lastFrom noRegion regionAt
-    elementAt readList listPart readLists readSpans readMarks markSize recordSize sizeAt readRegion readRegions junctionCount regionCount yardCount
+    elementAt readList listPart readLists readSpans readMarks markSize recordSize sizeAt readRegion readRegions junctionCount regionCount treeYardCount
     landmarkCount decode
 true-numbers = tt
 
@@ -116,7 +116,7 @@ crews-there : (q : ℕ) → Mem q (0 ∷ 2 ∷ []) → q < 5
 crews-there q (head e) = rw e (omega arith)
 crews-there q (tail (head e)) = rw e (omega arith)
 
-pub five-sound : Sound five
+pub five-sound : SoundInstance five
 unfolding five junctionCount decode fiveRegions u16At
 five-sound = record {
   well = well-formed five tree-accepted crews-there (omega arith) (λ u v h k. near u v);
@@ -128,14 +128,14 @@ five-sound = record {
 
 -- two inner regions and twice three yards settle, and the first two of the three yards are listed
 yards-are : treeYards (five .tree) ≡ 1 ∷ 3 ∷ 4 ∷ []
-unfolding five all numbers treeYards yardsFrom ownYards yardsIn firstList fiveRegions choose u8At u16At u32At leafMark innerMark firstDistance lastFrom
+unfolding five all numbers treeYards leafYardsFrom ownYards yardsIn firstList fiveRegions choose u8At u16At u32At leafMark innerMark firstDistance lastFrom
     noRegion regionAt elementAt readList listPart readLists readSpans readMarks markSize recordSize sizeAt readRegion readRegions junctionCount regionCount
-    yardCount landmarkCount decode
+    treeYardCount landmarkCount decode
 yards-are = refl
 
 five-count : inners (five .tree) + 2 * five .tree .yards ≤ 8
 unfolding inners sumFrom oneInner five fiveRegions choose u8At u16At u32At leafMark innerMark firstDistance lastFrom noRegion regionAt elementAt readList
-    listPart readLists readSpans readMarks markSize recordSize sizeAt readRegion readRegions junctionCount regionCount yardCount landmarkCount decode
+    listPart readLists readSpans readMarks markSize recordSize sizeAt readRegion readRegions junctionCount regionCount treeYardCount landmarkCount decode
 five-count = omega arith
 
 pub five-settles : T (answer five 8 .settled)

@@ -10,24 +10,25 @@ use Rattle.search_rules.specs.Instance.{Instance, leaf}
 use Rattle.search_rules.specs.Bounds.{chosen}
 use Rattle.search_rules.specs.Queue.{queued, wordAt}
 use Rattle.search_rules.specs.Held.{insert, hold, entry}
-use Rattle.search_rules.specs.Step.{State, nextF, openInner, queueNext, closeLeaf, openLeaf, takeRegion, takeYard, nextRegion, nextYard, step, settled}
-use Rattle.search_rules.specs.Step.{start}
+use Rattle.search_rules.specs.Step.{SearchState, nextF, openInner, queueNext, closeLeaf, openLeaf, takeRegion, takeYard, nextRegion, nextYard, step}
+use Rattle.search_rules.specs.Step.{settled}
+use Rattle.search_rules.specs.Step.{startSearch}
 use Rattle.search_rules.specs.Run.{Outcome, advance, run, report, answer}
 
 module _ (i : Instance) where
-  Few : State → Type 0
+  Few : SearchState → Type 0
   Few st = length (st .held) ≤ i .k
 
   -- a region that is taken leaves the held yards
-  region-few : (st : State) (r a : ℕ) → Few st → Few (takeRegion i st r a)
+  region-few : (st : SearchState) (r a : ℕ) → Few st → Few (takeRegion i st r a)
   unfolding Few takeRegion openLeaf openInner queueNext closeLeaf
   region-few st r a h = choose-case Few (leaf i r) (λ l. choose-case Few (queued (nextF i (st .gone) (chosen i r))) (λ t. h) (λ t. h)) (λ l. h)
 
-  yard-few : (st : State) (y : ℕ) → Few (takeYard i st y)
+  yard-few : (st : SearchState) (y : ℕ) → Few (takeYard i st y)
   unfolding Few takeYard hold
   yard-few st y = omega (arith, length-take (i .k) (insert (entry i y) (st .held)))
 
-  step-few : (st : State) → Few st → Few (step i st)
+  step-few : (st : SearchState) → Few st → Few (step i st)
   unfolding step
   step-few st h =
       let a = wordAt (st .regionKeys) (nextRegion i st) in
@@ -35,7 +36,7 @@ module _ (i : Instance) where
       choose-case Few (queued (min a b)) (λ q. choose-case Few (ltb b a) (λ t. yard-few st (nextYard i st)) (λ t. region-few st (nextRegion i st) a h)) (λ q. h)
 
   run-few : (limit : ℕ) → Few (run i limit .state)
-  unfolding Few run start advance
+  unfolding Few run startSearch advance
   run-few zero = omega arith
   run-few (suc limit) =
       choose-case (λ (o : Outcome). Few (o .state)) (settled i (run i limit .state)) (λ t. run-few limit) (λ t. step-few (run i limit .state) (run-few limit))

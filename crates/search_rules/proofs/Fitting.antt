@@ -12,10 +12,10 @@ use Rattle.tree_layout.specs.Values.{Element, Mark}
 use Rattle.search_rules.specs.Instance.{Instance, children, marks, leaf}
 use Rattle.search_rules.specs.Bounds.{bound, chosen, f, yardBound}
 use Rattle.search_rules.specs.Queue.{unqueued, wordAt}
-use Rattle.search_rules.specs.Step.{State, left, againKey, nextF, openInner, queueNext, takeYard, step, settled, start}
+use Rattle.search_rules.specs.Step.{SearchState, left, againKey, nextF, openInner, queueNext, takeYard, step, settled, startSearch}
 use Rattle.search_rules.specs.Run.{Outcome, advance, run}
 use Rattle.search_rules.specs.Facts.{WellFormed}
-use Rattle.search_rules.specs.Theorems.{Fits}
+use Rattle.search_rules.specs.Theorems.{KeysFit}
 use Rattle.search_rules.proofs.Limits.{bound-most, f-most, yardBound-most}
 use Rattle.search_rules.proofs.Queue.{seen, key, word-key, key-eq, no-key, Entered, queued-child, kept, Again, empty, more}
 use Rattle.search_rules.proofs.Stepping.{step-case}
@@ -26,13 +26,13 @@ abbrev most : ℕ
 most = 68719476720
 
 -- no key is above that number
-record Low (st : State) : Type 0 where
+record Low (st : SearchState) : Type 0 where
   regions : (v a : ℕ) → key (st .regionKeys) v ≡ some a → a ≤ most
   yards : (v a : ℕ) → key (st .yardKeys) v ≡ some a → a ≤ most
   firsts : (v a : ℕ) → key (st .firsts) v ≡ some a → a ≤ most
 
 module _ (i : Instance) (well : WellFormed i) where
-  module _ (st : State) (was : Kept i st) (low : Low st) where
+  module _ (st : SearchState) (was : Kept i st) (low : Low st) where
     module _ (r a : ℕ) (at : key (st .regionKeys) r ≡ some a) where
       inner-fits : Low (openInner i st r a)
       unfolding openInner
@@ -83,8 +83,8 @@ module _ (i : Instance) (well : WellFormed i) where
         (λ r a at due. region-case i well st was Low r a at (λ l. inner-fits r a at) (λ l first q e k n h. leaf-fits r a at l first q e k n))
         (λ y b at due. yard-low y b at)
 
-  start-fits : Low (start i)
-  unfolding start
+  start-fits : Low (startSearch i)
+  unfolding startSearch
   start-fits = record {
     regions = λ v b. start-key i well (λ o. o ≡ some b → b ≤ most) v (λ p q. omega (arith, key-eq q, bound-most i well 0)) (λ p q. absurd (no-key q));
     yards = λ v b e. absurd (start-yard i well v e);
@@ -98,7 +98,7 @@ module _ (i : Instance) (well : WellFormed i) where
       (λ t. step-fits (run i limit .state) (run-kept i well limit) (run-low limit) t)
 
   -- every key of every state is at most that number
-  pub run-fits : (limit : ℕ) → Fits 68719476720 (run i limit .state)
+  pub run-fits : (limit : ℕ) → KeysFit 68719476720 (run i limit .state)
   run-fits limit = let h = run-low limit in record {
     regions = λ v s. h .regions v _ (word-key (run i limit .state .regionKeys) v (wordAt (run i limit .state .regionKeys) v) refl s);
     yards = λ v s. h .yards v _ (word-key (run i limit .state .yardKeys) v (wordAt (run i limit .state .yardKeys) v) refl s);

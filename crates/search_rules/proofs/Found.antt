@@ -16,9 +16,9 @@ use Rattle.tree_layout.specs.Facts.{Before}
 use Rattle.search_rules.specs.Instance.{Instance}
 use Rattle.search_rules.specs.Bounds.{total}
 use Rattle.search_rules.specs.Held.{greatestHeld, entry, ranked}
-use Rattle.search_rules.specs.Step.{State, settled}
+use Rattle.search_rules.specs.Step.{SearchState, settled}
 use Rattle.search_rules.specs.Run.{run}
-use Rattle.search_rules.specs.Facts.{Below, WellFormed, Sound}
+use Rattle.search_rules.specs.Facts.{Below, WellFormed, SoundInstance}
 use Rattle.search_rules.specs.Theorems.{Sorted, Out, TreeYards, Listing, Complete}
 use Rattle.search_rules.proofs.Held.{before-not, ranked-mem, ranked-in, ranked-sorted, ranked-length, take-mem, take-sorted, take-rest, greatestHeld-le}
 use Rattle.search_rules.proofs.Stepping.{Past, settled-regions, settled-yards}
@@ -126,7 +126,7 @@ module _ (i : Instance) where
   unfolding entry
   entry-total h e = ap (λ (x : Element). x .distance) e
 
-  pub kept-listing : (st : State) → Kept i st → Listing i (st .held)
+  pub kept-listing : (st : SearchState) → Kept i st → Listing i (st .held)
   kept-listing st was = rw (was .first-ranked) (record {
     sorted = sort;
     distances = λ h k. entry-total h (is h k);
@@ -146,7 +146,7 @@ module _ (i : Instance) where
       sort = take-sorted (i .k) all (ranked-sorted i (st .measured) (was .once))
 
   -- A yard that is measured, or lies past the held ones.
-  settled-cover : (st : State) → Kept i st → Low i st → T (settled i st) → (y : ℕ) → Below i 0 y → Mem y (st .measured) ⊎ Past i st (total i y)
+  settled-cover : (st : SearchState) → Kept i st → Low i st → T (settled i st) → (y : ℕ) → Below i 0 y → Mem y (st .measured) ⊎ Past i st (total i y)
   settled-cover st was low t y below = go (low .cover y below)
     where
       past : (a : ℕ) → a ≤ total i y → Past i st a → Past i st (total i y)
@@ -158,7 +158,7 @@ module _ (i : Instance) where
       go (below-queued r a e b n) = inr (past a (low .region-low r a y e b n) (settled-regions i st (was .sizes) t r a e))
 
   -- a yard of the tree is held, or k are held and it comes after every one of them
-  module _ (st : State) (was : Kept i st) (low : Low i st) (t : T (settled i st)) where
+  module _ (st : SearchState) (was : Kept i st) (low : Low i st) (t : T (settled i st)) where
     settled-rest : (y : ℕ) → Below i 0 y → Mem (entry i y) (st .held) ⊎ Out (i .k) (st .held) (entry i y)
     unfolding entry
     settled-rest y below = place (settled-cover st was low t y below)
@@ -219,7 +219,7 @@ module _ (i : Instance) where
       sort : Sorted all
       sort = ranked-sorted i ys (tree .distinct)
 
-  settled-complete : (st : State) → Kept i st → Low i st → T (settled i st) → Complete i (st .held)
+  settled-complete : (st : SearchState) → Kept i st → Low i st → T (settled i st) → Complete i (st .held)
   settled-complete st was low t = record {
     rest = settled-rest st was low t;
     number = settled-number st was low t;
@@ -232,5 +232,5 @@ pub run-listing : (i : Instance) → WellFormed i → (limit : ℕ) → Listing 
 run-listing i well limit = kept-listing i (run i limit .state) (run-kept i well limit)
 
 -- a settled search on a true tree
-pub run-complete : (i : Instance) → Sound i → (limit : ℕ) → T (settled i (run i limit .state)) → Complete i (run i limit .state .held)
+pub run-complete : (i : Instance) → SoundInstance i → (limit : ℕ) → T (settled i (run i limit .state)) → Complete i (run i limit .state .held)
 run-complete i sound limit t = settled-complete i (run i limit .state) (run-kept i (sound .well) limit) (run-low i sound limit) t

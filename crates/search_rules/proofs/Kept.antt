@@ -17,8 +17,8 @@ use Rattle.search_rules.specs.Instance.{Instance, size, children, marks,
 use Rattle.search_rules.specs.Bounds.{bound, chosen, f, yardBound}
 use Rattle.search_rules.specs.Queue.{unqueued, queued, wordAt}
 use Rattle.search_rules.specs.Held.{insert, hold, entry, ranked}
-use Rattle.search_rules.specs.Step.{State, left, noElement, againKey, nextPlace, nextF, queueChildren, openInner, queueNext, closeLeaf, openLeaf}
-use Rattle.search_rules.specs.Step.{takeRegion, takeYard, step, settled, start}
+use Rattle.search_rules.specs.Step.{SearchState, left, noElement, againKey, nextPlace, nextF, queueChildren, openInner, queueNext, closeLeaf, openLeaf}
+use Rattle.search_rules.specs.Step.{takeRegion, takeYard, step, settled, startSearch}
 use Rattle.search_rules.specs.Run.{Outcome, advance, run}
 use Rattle.search_rules.specs.Facts.{Below, inside, under, Shape, WellFormed}
 use Rattle.search_rules.proofs.Bounds.{chosen-mem}
@@ -35,7 +35,7 @@ pub record OneLeft (gone : List Bool) (m : Mark) : Type 0 where
   pub mem : Mem element (m .list)
   pub stays : T (not (left gone (element .yard)))
 
-pub record Kept (i : Instance) (st : State) : Type 0 where
+pub record Kept (i : Instance) (st : SearchState) : Type 0 where
   pub sizes : Sizes i st
   -- a queued yard has left its leaf and isn't measured, a measured one has left its leaf, and none is measured twice
   pub queued-left : (y a : ℕ) → key (st .yardKeys) y ≡ some a → T (left (st .gone) y)
@@ -85,7 +85,7 @@ first-of : (o : Option ℕ) → T (has o) → (a : ℕ) × (o ≡ some a)
 first-of none t = absurd t
 first-of (some a) t = (a, refl)
 
-module _ (i : Instance) (well : WellFormed i) (st : State) (was : Kept i st) where
+module _ (i : Instance) (well : WellFormed i) (st : SearchState) (was : Kept i st) where
   pub region-range : (r : ℕ) {a : ℕ} → key (st .regionKeys) r ≡ some a → r < size i
   region-range r e = rw (← was .sizes .regions) (key-range (st .regionKeys) r e)
 
@@ -361,7 +361,7 @@ module _ (i : Instance) (well : WellFormed i) (st : State) (was : Kept i st) whe
         ranked-more = rw (was .first-ranked, take-insert) refl
 
   -- Taking a region, by cases.
-  pub region-case : (P : State → Type 0) (r a : ℕ) → key (st .regionKeys) r ≡ some a
+  pub region-case : (P : SearchState → Type 0) (r a : ℕ) → key (st .regionKeys) r ≡ some a
       → (T (not (leaf i r)) → P (openInner i st r a))
       → (T (leaf i r) → (first : ℕ) → key (st .firsts) r ≡ some first → (e : Element) → Mem e (chosen i r .list) → T (not (left (st .gone) (e .yard)))
       → ((g : Element) → Mem g (chosen i r .list) → T (not (left (st .gone) (g .yard))) → f i (chosen i r) e ≤ f i (chosen i r) g)
@@ -421,16 +421,16 @@ module _ (i : Instance) (well : WellFormed i) where
   start-key P v root rest = key-put P (replicate (size i) unqueued) 0 (bound i 0) (omega (arith, bound-most i well 0)) (rw length-replicate (well .shape
       .root)) v root (λ n. rw key-nothing (rest n))
 
-  pub start-yard : (v : ℕ) {a : ℕ} → key (start i .yardKeys) v ≡ some a → ⊥
-  unfolding start
+  pub start-yard : (v : ℕ) {a : ℕ} → key (startSearch i .yardKeys) v ≡ some a → ⊥
+  unfolding startSearch
   start-yard v e = no-key (sym (key-nothing (i .tree .junctions) v) ∙ e)
 
-  pub start-left : (v : ℕ) → T (not (left (start i .gone) v))
-  unfolding start
+  pub start-left : (v : ℕ) → T (not (left (startSearch i .gone) v))
+  unfolding startSearch
   start-left v = rw left-nothing tt
 
-  start-kept : Kept i (start i)
-  unfolding start ranked
+  start-kept : Kept i (startSearch i)
+  unfolding startSearch ranked
   start-kept = record {
     sizes = record {
       regions = length-set (replicate (size i) unqueued) 0 (bound i 0) ∙ length-replicate (size i) unqueued;
@@ -447,12 +447,13 @@ module _ (i : Instance) (well : WellFormed i) where
     yards-in = λ v b e. absurd (start-yard v e);
     measured-in = λ v k. absurd (not-nil k);
     has-first = λ v b. start-key (λ o. o ≡ some b
-        → T (has (key (start i .firsts) v))) v (λ p e. start-key (λ o. T (has o)) v (λ q. tt) (λ q. absurd (q p))) (λ p e. absurd (no-key e));
+        → T (has (key (startSearch i .firsts) v))) v (λ p e. start-key (λ o. T (has o)) v (λ q. tt) (λ q. absurd (q p))) (λ p e. absurd (no-key e));
     parent-first = λ r c k. start-key (λ o. T (has o)
-        → T (has (key (start i .firsts) r))) c (λ p. absurd (omega (arith, well .shape .rise r c k))) (λ p t. absurd t);
+        → T (has (key (startSearch i .firsts) r))) c (λ p. absurd (omega (arith, well .shape .rise r c k))) (λ p t. absurd t);
     parent-taken = λ r c k. start-key (λ o. T (has o)
-        → key (start i .regionKeys) r ≡ none) c (λ p. absurd (omega (arith, well .shape .rise r c k))) (λ p t. absurd t);
-    leaf-open = λ v b. λ l. start-key (λ o. o ≡ some b → OneLeft (start i .gone) (chosen i v)) v (λ p e. rw p (opens (rw p at l))) (λ p e. absurd (no-key e));
+        → key (startSearch i .regionKeys) r ≡ none) c (λ p. absurd (omega (arith, well .shape .rise r c k))) (λ p t. absurd t);
+    leaf-open = λ v b. λ l. start-key (λ o. o ≡ some b
+        → OneLeft (startSearch i .gone) (chosen i v)) v (λ p e. rw p (opens (rw p at l))) (λ p e. absurd (no-key e));
     leaf-fresh = λ v e l h k t. start-left (e .yard);
   }
     where
@@ -460,7 +461,7 @@ module _ (i : Instance) (well : WellFormed i) where
       take-none zero = refl
       take-none (suc n) = refl
 
-      opens : T (leaf i 0) → OneLeft (start i .gone) (chosen i 0)
+      opens : T (leaf i 0) → OneLeft (startSearch i .gone) (chosen i 0)
       opens l =
           let mark = chosen-mem i 0 (well .shape .marked 0 (well .shape .root)) in
           let x = some-element (chosen i 0 .list) (well .shape .some-yard 0 (chosen i 0) l mark) in

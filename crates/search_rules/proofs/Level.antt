@@ -17,9 +17,9 @@ use Rattle.search_rules.specs.Instance.{Instance, size, children, marks,
 use Rattle.search_rules.specs.Bounds.{bound, chosen, f, yardBound}
 use Rattle.search_rules.specs.Queue.{unqueued, wordAt}
 use Rattle.search_rules.specs.Held.{insert, hold, greatestHeld, entry, ranked}
-use Rattle.search_rules.specs.Step.{State, left, againKey, nextF, openInner, queueNext, takeYard, step, settled, start}
+use Rattle.search_rules.specs.Step.{SearchState, left, againKey, nextF, openInner, queueNext, takeYard, step, settled, startSearch}
 use Rattle.search_rules.specs.Run.{Outcome, advance, run}
-use Rattle.search_rules.specs.Facts.{Shape, WellFormed, Sound}
+use Rattle.search_rules.specs.Facts.{Shape, WellFormed, SoundInstance}
 use Rattle.search_rules.specs.Theorems.{KeyOf}
 use Rattle.search_rules.proofs.Bounds.{f-le, chosen-mem}
 use Rattle.search_rules.proofs.Queue.{seen, key, key-word, key-small, word-key, key-range, key-eq, no-key, has-key, Entered, queued-child, kept, Again}
@@ -31,14 +31,14 @@ use Rattle.search_rules.proofs.Low.{Low, run-low}
 use Rattle.search_rules.proofs.Found.{kept-listing}
 
 -- What is known of a measured yard: its key, which no queued key is below, and which is not above the greatest held distance if k are held.
-pub record MeasuredKey (i : Instance) (st : State) (y : ℕ) : Type 0 where
+pub record MeasuredKey (i : Instance) (st : SearchState) (y : ℕ) : Type 0 where
   pub queue-key : ℕ
   pub is : KeyOf i (st .firsts) y queue-key
   pub regions : (v b : ℕ) → key (st .regionKeys) v ≡ some b → queue-key ≤ b
   pub yards : (v b : ℕ) → key (st .yardKeys) v ≡ some b → queue-key ≤ b
   pub held : length (st .held) ≡ i .k → queue-key ≤ greatestHeld (st .held)
 
-pub record Level (i : Instance) (st : State) : Type 0 where
+pub record Level (i : Instance) (st : SearchState) : Type 0 where
   pub queued-key : (y a : ℕ) → key (st .yardKeys) y ≡ some a → KeyOf i (st .firsts) y a
   pub leaf-level : (r a c : ℕ) (g : Element) → T (leaf i r) → key (st .regionKeys) r ≡ some a → key (st .firsts) r ≡ some c → Mem g (chosen i r .list)
       → T (not (left (st .gone) (g .yard))) → a ≤ max c (f i (chosen i r) g)
@@ -75,7 +75,7 @@ insert-front (suc j) e (g ∷ l) = choose-case (λ s. Mem e (take (suc j) s) ⊎
     go (inr p) = inr (ap (λ s. g ∷ s) p)
 
 module _ (i : Instance) (well : WellFormed i) where
-  module _ (st : State) (was : Kept i st) (level : Level i st) where
+  module _ (st : SearchState) (was : Kept i st) (level : Level i st) where
     module _ (r a : ℕ) (at : key (st .regionKeys) r ≡ some a) where
       -- ---- an inner region
 
@@ -87,7 +87,7 @@ module _ (i : Instance) (well : WellFormed i) where
         measured-key = λ y k. measured y (level .measured-key y k);
       }
         where
-          new : State
+          new : SearchState
           new = openInner i st r a
 
           stable : (v c : ℕ) → key (st .firsts) v ≡ some c → key (new .firsts) v ≡ some c
@@ -150,7 +150,7 @@ module _ (i : Instance) (well : WellFormed i) where
           y : ℕ
           y = e .yard
 
-          new : State
+          new : SearchState
           new = queueNext i st r first m e
 
           below-n : y < i .tree .junctions
@@ -212,7 +212,7 @@ module _ (i : Instance) (well : WellFormed i) where
         held′ : List Element
         held′ = take (i .k) (insert (entry i y) (st .held))
 
-        new : State
+        new : SearchState
         new = takeYard i st y
 
         yard-key : (P : Option ℕ → Type 0) (v : ℕ) → (v ≡ y → P none) → (v ≢ y → P (key (st .yardKeys) v)) → P (key (set (st .yardKeys) y unqueued) v)
@@ -249,17 +249,17 @@ module _ (i : Instance) (well : WellFormed i) where
         (λ r a at due. region-case i well st was (Level i) r a at (λ l. inner-level r a at) (λ l first q e k n h. leaf-level′ r a at l first q e k n))
         (λ y b at due. yard-level low y b at due)
 
-  start-level : Level i (start i)
-  unfolding start
+  start-level : Level i (startSearch i)
+  unfolding startSearch
   start-level = record {
     queued-key = λ y a e. absurd (start-yard i well y e);
-    leaf-level = λ r a c g l. start-key i well (λ o. o ≡ some a → key (start i .firsts) r ≡ some c → Mem g (chosen i r .list)
-        → T (not (left (start i .gone) (g .yard))) → a ≤ max c (f i (chosen i r) g)) r
+    leaf-level = λ r a c g l. start-key i well (λ o. o ≡ some a → key (startSearch i .firsts) r ≡ some c → Mem g (chosen i r .list)
+        → T (not (left (startSearch i .gone) (g .yard))) → a ≤ max c (f i (chosen i r) g)) r
         (λ p q s k n. root r a c (f i (chosen i r) g) p q s) (λ p q. absurd (no-key q));
     measured-key = λ y k. absurd (not-nil k);
   }
     where
-      root : (r a c x : ℕ) → r ≡ 0 → _≡_ {A = Option ℕ} (some (bound i 0)) (some a) → key (start i .firsts) r ≡ some c → a ≤ max c x
+      root : (r a c x : ℕ) → r ≡ 0 → _≡_ {A = Option ℕ} (some (bound i 0)) (some a) → key (startSearch i .firsts) r ≡ some c → a ≤ max c x
       root r a c x p q = start-key i well (λ o. o ≡ some c → a ≤ max c x) r (λ t s. omega (arith, key-eq q, key-eq s)) (λ t s. absurd (t p))
 
 -- A yard has one key.
@@ -282,7 +282,7 @@ key-of-one i well firsts sized {y} {a} {b} k j = k .value ∙ middle ∙ sym (j 
         ≡ max (yardBound i (chosen i (j .home)) (j .element)) (wordAt firsts (j .home))
     middle = cc (homes, elements)
 
-module _ (i : Instance) (sound : Sound i) where
+module _ (i : Instance) (sound : SoundInstance i) where
   run-level : (limit : ℕ) → Level i (run i limit .state)
   unfolding run advance
   run-level zero = start-level i (sound .well)

@@ -10,8 +10,9 @@ use Rattle.book.specs.Choose.{choose}
 use Rattle.book.proofs.Choosing.{choose-case}
 use Rattle.tree_layout.specs.Values.{Element, Mark}
 use Rattle.search_rules.specs.Instance.{Instance, children, marks, leaf}
-use Rattle.search_rules.specs.Bounds.{apart, combine, aggregate, greatestOf, leastFrom, leastOf, crewBound, sheetAt, lower, upper, over, total, markBound}
-use Rattle.search_rules.specs.Bounds.{bound, weight, chosen, listApart, f, yardBound}
+use Rattle.search_rules.specs.Bounds.{absDiff, combine, aggregate, greatestOf, leastFrom, leastOf, crewBound, tableAt, lower, upper, over, total}
+use Rattle.search_rules.specs.Bounds.{markBound}
+use Rattle.search_rules.specs.Bounds.{bound, weight, chosen, listAbsDiff, f, yardBound}
 use Rattle.search_rules.specs.Facts.{Shape, Small, WellFormed}
 use Rattle.search_rules.proofs.Bounds.{greatestOf-le, aggregate-mono, over-mono}
 
@@ -20,9 +21,9 @@ unfolding crewBound
 crewBound-most lb ub a b most h k = choose-case (λ z. z ≤ most) (leb b lb) (λ t. omega arith) (λ t. choose-case (λ z. z ≤ most) (leb ub a) (λ s. omega arith)
     (λ s. omega arith))
 
-apart-most : (a b most : ℕ) → a ≤ most → b ≤ most → apart a b ≤ most
-unfolding apart
-apart-most a b most h k = omega arith
+abs-diff-most : (a b most : ℕ) → a ≤ most → b ≤ most → absDiff a b ≤ most
+unfolding absDiff
+abs-diff-most a b most h k = omega arith
 
 -- the aggregate of one number for each crew is at most that number for each crew
 aggregate-each : (code most : ℕ) (qs : List ℕ) → aggregate code (λ q. most) qs ≤ length qs * most
@@ -51,13 +52,13 @@ module _ (i : Instance) (well : WellFormed i) where
   over-most g most h = aggregate-most (i .code) most (i .crews) g (well .small .few-crews) h
 
   pub lower-most : (l q : ℕ) → l < i .tree .junctions → q < i .tree .junctions → lower i l q ≤ 67042305
-  unfolding lower sheetAt
-  lower-most l q a b = greatestOf-le (λ r. apart (i .d (r .place) l) (i .d (r .place) q)) 67042305 (marks i 0)
-      (λ m k. apart-most (i .d (m .place) l) (i .d (m .place) q) 67042305 (well .small .distances (m .place) l (well .shape .places 0 m k) a) (well .small
+  unfolding lower tableAt
+  lower-most l q a b = greatestOf-le (λ r. absDiff (i .d (r .place) l) (i .d (r .place) q)) 67042305 (marks i 0)
+      (λ m k. abs-diff-most (i .d (m .place) l) (i .d (m .place) q) 67042305 (well .small .distances (m .place) l (well .shape .places 0 m k) a) (well .small
       .distances (m .place) q (well .shape .places 0 m k) b))
 
   pub upper-most : (l q : ℕ) → l < i .tree .junctions → q < i .tree .junctions → upper i l q ≤ 134084610
-  unfolding upper sheetAt
+  unfolding upper tableAt
   upper-most l q a b = leastOf-most (λ r. i .d (r .place) l + i .d (r .place) q) 134084610 (marks i 0)
       (λ m k. omega (
         arith,
@@ -75,19 +76,20 @@ module _ (i : Instance) (well : WellFormed i) where
       (omega (arith, lower-most (m .place) q (well .shape .places r m k) (well .shape .crews q c))) (well .small .least r m k)))
 
   module _ (r : ℕ) (m : Mark) (e : Element) (l : T (leaf i r)) (k : Mem m (marks i r)) (j : Mem e (m .list)) where
-    listApart-most : (q : ℕ) → q < i .tree .junctions → listApart i m e q ≤ 67042305
-    unfolding listApart
-    listApart-most q c = apart-most (i .d (m .place) q) (e .distance) 67042305 (well .small .distances (m .place) q (well .shape .places r m k) c) (well .small
+    listAbsDiff-most : (q : ℕ) → q < i .tree .junctions → listAbsDiff i m e q ≤ 67042305
+    unfolding listAbsDiff
+    listAbsDiff-most q c = abs-diff-most (i .d (m .place) q) (e .distance) 67042305 (well .small .distances (m .place) q (well .shape .places r m k) c) (well
+        .small
         .lists r m e l k j)
 
     pub f-most : f i m e ≤ 1072676880
     unfolding f
-    f-most = over-most (listApart i m e) 67042305 (λ q c. listApart-most q (well .shape .crews q c))
+    f-most = over-most (listAbsDiff i m e) 67042305 (λ q c. listAbsDiff-most q (well .shape .crews q c))
 
     pub yardBound-most : yardBound i m e ≤ 1072676880
     unfolding yardBound
-    yardBound-most = over-most (λ q. max (lower i (e .yard) q) (listApart i m e q)) 67042305
-        (λ q c. omega (arith, listApart-most q (well .shape .crews q c), lower-most (e .yard) q (well .shape .yards r m e l k j) (well .shape .crews q c)))
+    yardBound-most = over-most (λ q. max (lower i (e .yard) q) (listAbsDiff i m e q)) 67042305
+        (λ q c. omega (arith, listAbsDiff-most q (well .shape .crews q c), lower-most (e .yard) q (well .shape .yards r m e l k j) (well .shape .crews q c)))
 
   -- a yard's aggregate, which is written in a word of 32 bits, and the sum by which a leaf picks its landmark
   pub total-most : (y : ℕ) → y < i .tree .junctions → total i y ≤ 1072676880

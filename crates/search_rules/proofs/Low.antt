@@ -15,9 +15,9 @@ use Rattle.tree_layout.specs.Values.{Element, Mark}
 use Rattle.search_rules.specs.Instance.{Instance, children, marks, leaf}
 use Rattle.search_rules.specs.Bounds.{bound, total, chosen, f, yardBound}
 use Rattle.search_rules.specs.Queue.{unqueued}
-use Rattle.search_rules.specs.Step.{State, left, againKey, nextF, openInner, queueNext, takeYard, step, settled, start}
+use Rattle.search_rules.specs.Step.{SearchState, left, againKey, nextF, openInner, queueNext, takeYard, step, settled, startSearch}
 use Rattle.search_rules.specs.Run.{Outcome, advance, run}
-use Rattle.search_rules.specs.Facts.{Listed, Below, inside, under, Sound}
+use Rattle.search_rules.specs.Facts.{Listed, Below, inside, under, SoundInstance}
 use Rattle.search_rules.proofs.Bounds.{bound-le, yardBound-le, f-le-total}
 use Rattle.search_rules.proofs.Queue.{seen, key, key-eq, no-key, Entered, queued-child, kept, Again, empty, more}
 use Rattle.search_rules.proofs.Stepping.{step-case}
@@ -26,12 +26,12 @@ use Rattle.search_rules.proofs.Kept.{leaf-yard-key, leaf-region-key, le
 use Rattle.search_rules.proofs.Kept.{run-kept}
 
 -- Where a yard of the tree stands.
-pub data Cover (i : Instance) (st : State) (y : ℕ) : Type 0 where
+pub data Cover (i : Instance) (st : SearchState) (y : ℕ) : Type 0 where
   is-measured : Mem y (st .measured) → Cover i st y
   in-queue : (a : ℕ) → key (st .yardKeys) y ≡ some a → Cover i st y
   below-queued : (r a : ℕ) → key (st .regionKeys) r ≡ some a → Below i r y → T (not (left (st .gone) y)) → Cover i st y
 
-pub record Low (i : Instance) (st : State) : Type 0 where
+pub record Low (i : Instance) (st : SearchState) : Type 0 where
   pub inner-low : (r a y : ℕ) → T (not (leaf i r)) → key (st .regionKeys) r ≡ some a → Below i r y → a ≤ total i y
   pub region-low : (r a y : ℕ) → key (st .regionKeys) r ≡ some a → Below i r y → T (not (left (st .gone) y)) → a ≤ total i y
   pub first-low : (r a y : ℕ) → key (st .firsts) r ≡ some a → Below i r y → a ≤ total i y
@@ -46,11 +46,11 @@ leaf-below : {i : Instance} {r y : ℕ} → T (leaf i r) → Below i r y → (m 
 leaf-below {i} {r} {y} l (inside m t k x) = (m, k, x)
 leaf-below {i} {r} {y} l (under c n k b) = absurd (T-not (leaf i r) n l)
 
-module _ (i : Instance) (sound : Sound i) where
+module _ (i : Instance) (sound : SoundInstance i) where
   bounded : {r y : ℕ} → Below i r y → bound i r ≤ total i y
   bounded below = bound-le i (sound .well .shape) (sound .metric) (sound .symmetric) (sound .truth) below
 
-  module _ (st : State) (was : Kept i st) (low : Low i st) where
+  module _ (st : SearchState) (was : Kept i st) (low : Low i st) where
     module _ (r a : ℕ) (at : key (st .regionKeys) r ≡ some a) where
       -- ---- an inner region
 
@@ -144,7 +144,7 @@ module _ (i : Instance) (sound : Sound i) where
           own : Below i r y
           own = inside m is-leaf mark (record { element = e; mem = mem; names = refl })
 
-          new : State
+          new : SearchState
           new = queueNext i st r first m e
 
           yard-key : (P : Option ℕ → Type 0) (v : ℕ) → (v ≡ y → P (some (max (yardBound i m e) first))) → (v ≢ y → P (key (st .yardKeys) v))
@@ -222,12 +222,12 @@ module _ (i : Instance) (sound : Sound i) where
         (λ r a at due. region-case i (sound .well) st was (Low i) r a at (λ l. inner-lowers r a at l) (λ l first q e k n h. leaf-lowers r a at l first q e k n))
         (λ y b at due. yard-lowers y b at)
 
-  start-low : Low i (start i)
-  unfolding start
+  start-low : Low i (startSearch i)
+  unfolding startSearch
   start-low = record {
     inner-low = λ v b y n. start-key i (sound .well) (λ o. o ≡ some b → Below i v y
         → b ≤ total i y) v (λ p q below. root v b y p q below) (λ p q. absurd (no-key q));
-    region-low = λ v b y. start-key i (sound .well) (λ o. o ≡ some b → Below i v y → T (not (left (start i .gone) y))
+    region-low = λ v b y. start-key i (sound .well) (λ o. o ≡ some b → Below i v y → T (not (left (startSearch i .gone) y))
         → b ≤ total i y) v (λ p q below n. root v b y p q below) (λ p q. absurd (no-key q));
     first-low = λ v b y. start-key i (sound .well) (λ o. o ≡ some b → Below i v y
         → b ≤ total i y) v (λ p q below. root v b y p q below) (λ p q. absurd (no-key q));

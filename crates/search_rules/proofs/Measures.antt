@@ -10,7 +10,7 @@ use Rattle.book.specs.Choose.{choose}
 use Rattle.book.proofs.Choosing.{choose-case}
 use Rattle.tree_layout.specs.Values.{Element, Mark}
 use Rattle.search_rules.specs.Instance.{Instance}
-use Rattle.search_rules.specs.Bounds.{apart, combine, aggregate, lower, over, total, listApart, f, yardBound}
+use Rattle.search_rules.specs.Bounds.{absDiff, combine, aggregate, lower, over, total, listAbsDiff, f, yardBound}
 use Rattle.search_rules.specs.Queue.{unqueued, wordAt, pick}
 use Rattle.search_rules.specs.Step.{left, waiting, nextPlace, nextF}
 
@@ -31,13 +31,13 @@ module _ (i : Instance) where
   unfolding total over
   total-is y = refl
 
-  pub f-is : (m : Mark) (e : Element) → f i m e ≡ aggregate (i .code) (λ q. apart (i .d (m .place) q) (e .distance)) (i .crews)
-  unfolding f over listApart
+  pub f-is : (m : Mark) (e : Element) → f i m e ≡ aggregate (i .code) (λ q. absDiff (i .d (m .place) q) (e .distance)) (i .crews)
+  unfolding f over listAbsDiff
   f-is m e = refl
 
   pub yard-bound-is : (m : Mark) (e : Element)
-      → yardBound i m e ≡ aggregate (i .code) (λ q. max (lower i (e .yard) q) (apart (i .d (m .place) q) (e .distance))) (i .crews)
-  unfolding yardBound over listApart
+      → yardBound i m e ≡ aggregate (i .code) (λ q. max (lower i (e .yard) q) (absDiff (i .d (m .place) q) (e .distance))) (i .crews)
+  unfolding yardBound over listAbsDiff
   yard-bound-is m e = refl
 
 -- ---- of a leaf's list

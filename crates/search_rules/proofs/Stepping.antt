@@ -14,28 +14,28 @@ use Rattle.book.proofs.Lists.{or-left, or-right, or-cases, eq→eqb}
 use Rattle.search_rules.specs.Instance.{Instance, size}
 use Rattle.search_rules.specs.Queue.{unqueued, queued, wordAt, pick}
 use Rattle.search_rules.specs.Held.{greatestHeld}
-use Rattle.search_rules.specs.Step.{State, takeRegion, takeYard, nextRegion, nextYard, leastKey, step, settled}
+use Rattle.search_rules.specs.Step.{SearchState, takeRegion, takeYard, nextRegion, nextYard, leastKey, step, settled}
 use Rattle.search_rules.proofs.Queue.{key, key-word, key-small, word-key, key-range, queued-small, not-queued, pick-least}
 
 -- the state has an entry for each region and for each junction
-pub record Sizes (i : Instance) (st : State) : Type 0 where
+pub record Sizes (i : Instance) (st : SearchState) : Type 0 where
   pub regions : length (st .regionKeys) ≡ size i
   pub yards : length (st .yardKeys) ≡ i .tree .junctions
   pub firsts : length (st .firsts) ≡ size i
   pub gone : length (st .gone) ≡ i .tree .junctions
 
 -- the key a may be taken: none queued is below it, and if k are held it is not above the greatest held distance
-pub record Due (i : Instance) (st : State) (a : ℕ) : Type 0 where
+pub record Due (i : Instance) (st : SearchState) (a : ℕ) : Type 0 where
   pub regions : (v b : ℕ) → key (st .regionKeys) v ≡ some b → a ≤ b
   pub yards : (v b : ℕ) → key (st .yardKeys) v ≡ some b → a ≤ b
   pub held : length (st .held) ≡ i .k → a ≤ greatestHeld (st .held)
 
 -- k are held, and all of them at distances below b
-pub record Past (i : Instance) (st : State) (b : ℕ) : Type 0 where
+pub record Past (i : Instance) (st : SearchState) (b : ℕ) : Type 0 where
   pub full : length (st .held) ≡ i .k
   pub far : greatestHeld (st .held) < b
 
-module _ (i : Instance) (st : State) (sizes : Sizes i st) where
+module _ (i : Instance) (st : SearchState) (sizes : Sizes i st) where
   least-region : (v b : ℕ) → key (st .regionKeys) v ≡ some b → wordAt (st .regionKeys) (nextRegion i st) ≤ b
   unfolding nextRegion
   least-region v b e =
@@ -84,7 +84,7 @@ module _ (i : Instance) (st : State) (sizes : Sizes i st) where
       e) s))))
 
   -- A step of a search that isn't settled takes a region or a yard that is due.
-  pub step-case : (P : State → Type 0) → T (not (settled i st))
+  pub step-case : (P : SearchState → Type 0) → T (not (settled i st))
       → ((r a : ℕ) → key (st .regionKeys) r ≡ some a → Due i st a → P (takeRegion i st r a))
       → ((y b : ℕ) → key (st .yardKeys) y ≡ some b → Due i st b → P (takeYard i st y))
       → P (step i st)

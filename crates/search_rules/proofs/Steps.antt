@@ -14,8 +14,9 @@ use Rattle.search_rules.specs.Instance.{Instance, size, children, leaf}
 use Rattle.search_rules.specs.Bounds.{bound, chosen, total, yardBound, f}
 use Rattle.search_rules.specs.Queue.{unqueued, queued, wordAt, pick}
 use Rattle.search_rules.specs.Held.{hold, greatestHeld, entry}
-use Rattle.search_rules.specs.Step.{State, left, noElement, againKey, waiting, nextPlace, nextF, queueChildren, openInner, queueNext, closeLeaf, openLeaf}
-use Rattle.search_rules.specs.Step.{takeRegion, takeYard, nextRegion, nextYard, leastKey, step, settled, start}
+use Rattle.search_rules.specs.Step.{SearchState, left, noElement, againKey, waiting, nextPlace, nextF, queueChildren, openInner, queueNext, closeLeaf}
+use Rattle.search_rules.specs.Step.{openLeaf}
+use Rattle.search_rules.specs.Step.{takeRegion, takeYard, nextRegion, nextYard, leastKey, step, settled, startSearch}
 use Rattle.search_rules.proofs.Queue.{small-queued, not-queued}
 use Rattle.search_rules.proofs.Stepping.{Sizes}
 
@@ -51,28 +52,28 @@ module _ (i : Instance) where
   unfolding leaf
   leaf-is r = refl
 
-  pub next-region-is : (st : State) → nextRegion i st ≡ pick (st .regionKeys) (size i)
+  pub next-region-is : (st : SearchState) → nextRegion i st ≡ pick (st .regionKeys) (size i)
   unfolding nextRegion
   next-region-is st = refl
 
-  pub next-yard-is : (st : State) → nextYard i st ≡ pick (st .yardKeys) (i .tree .junctions)
+  pub next-yard-is : (st : SearchState) → nextYard i st ≡ pick (st .yardKeys) (i .tree .junctions)
   unfolding nextYard
   next-yard-is st = refl
 
-  pub least-key-is : (st : State) → leastKey i st ≡ min (wordAt (st .regionKeys) (nextRegion i st)) (wordAt (st .yardKeys) (nextYard i st))
+  pub least-key-is : (st : SearchState) → leastKey i st ≡ min (wordAt (st .regionKeys) (nextRegion i st)) (wordAt (st .yardKeys) (nextYard i st))
   unfolding leastKey
   least-key-is st = refl
 
-  pub settled-is : (st : State) → settled i st
+  pub settled-is : (st : SearchState) → settled i st
       ≡ (not (queued (leastKey i st)) || (eqb (length (st .held)) (i .k) && ltb (greatestHeld (st .held)) (leastKey i st)))
   unfolding settled
   settled-is st = refl
 
   -- ---- a step that takes a yard, or a region
 
-  module _ (st : State) (r y a b : ℕ) (er : r ≡ nextRegion i st) (ey : y ≡ nextYard i st) (ea : a ≡ wordAt (st .regionKeys) r) (eb : b
+  module _ (st : SearchState) (r y a b : ℕ) (er : r ≡ nextRegion i st) (ey : y ≡ nextYard i st) (ea : a ≡ wordAt (st .regionKeys) r) (eb : b
       ≡ wordAt (st .yardKeys) y) where
-    abbrev Taken : State
+    abbrev Taken : SearchState
     Taken = choose (ltb b a) (takeYard i st y) (takeRegion i st r a)
 
     step-is : step i st ≡ choose (queued (min a b)) Taken st
@@ -87,11 +88,11 @@ module _ (i : Instance) where
     step-region h k = step-is ∙ (choose-yes (queued (min a b)) Taken st (small-queued (min a b) (omega arith))
         ∙ choose-no (ltb b a) (takeYard i st y) (takeRegion i st r a) (not-T (ltb b a) (λ t. omega (arith, ltb→lt b a t))))
 
-  pub take-leaf : (st : State) (r a : ℕ) → T (leaf i r) → takeRegion i st r a ≡ openLeaf i st r
+  pub take-leaf : (st : SearchState) (r a : ℕ) → T (leaf i r) → takeRegion i st r a ≡ openLeaf i st r
   unfolding takeRegion
   take-leaf st r a t = choose-yes (leaf i r) (openLeaf i st r) (openInner i st r a) t
 
-  pub take-inner : (st : State) (r a : ℕ) → T (not (leaf i r)) → takeRegion i st r a ≡ openInner i st r a
+  pub take-inner : (st : SearchState) (r a : ℕ) → T (not (leaf i r)) → takeRegion i st r a ≡ openInner i st r a
   unfolding takeRegion
   take-inner st r a t = choose-no (leaf i r) (openLeaf i st r) (openInner i st r a) t
 
@@ -101,7 +102,7 @@ module _ (i : Instance) where
   unfolding entry
   entry-is y = refl
 
-  pub take-yard-is : (st : State) (y : ℕ) → takeYard i st y ≡ record {
+  pub take-yard-is : (st : SearchState) (y : ℕ) → takeYard i st y ≡ record {
     regionKeys = st .regionKeys;
     yardKeys = set (st .yardKeys) y unqueued;
     firsts = st .firsts;
@@ -120,7 +121,7 @@ module _ (i : Instance) where
   unfolding queueChildren
   queue-more parent c cs ws = refl
 
-  pub open-inner-is : (st : State) (r a : ℕ) → openInner i st r a ≡ record {
+  pub open-inner-is : (st : SearchState) (r a : ℕ) → openInner i st r a ≡ record {
     regionKeys = queueChildren i a (children i r) (set (st .regionKeys) r unqueued);
     yardKeys = st .yardKeys;
     firsts = queueChildren i a (children i r) (st .firsts);
@@ -140,7 +141,7 @@ module _ (i : Instance) where
   unfolding nextF
   next-f-is gone m = refl
 
-  module _ (st : State) (r : ℕ) (m : Mark) (e : Element) (em : m ≡ chosen i r) (ee : e ≡ getD (m .list) (nextPlace i (st .gone) m) noElement) where
+  module _ (st : SearchState) (r : ℕ) (m : Mark) (e : Element) (em : m ≡ chosen i r) (ee : e ≡ getD (m .list) (nextPlace i (st .gone) m) noElement) where
     pub open-leaf-on : nextF i (st .gone) m < unqueued → openLeaf i st r ≡ record {
       regionKeys = set (st .regionKeys) r (againKey (wordAt (st .firsts) r) (nextF i (set (st .gone) (e .yard) true) m));
       yardKeys = set (st .yardKeys) (e .yard) (max (yardBound i m e) (wordAt (st .firsts) r));
@@ -152,7 +153,7 @@ module _ (i : Instance) where
     unfolding openLeaf queueNext
     open-leaf-on h = rw (ee, em) (choose-yes (queued (nextF i (st .gone) (chosen i r))) _ _ (small-queued (nextF i (st .gone) (chosen i r)) (rw (← em) h)))
 
-  pub start-is : start i ≡ record {
+  pub start-is : startSearch i ≡ record {
     regionKeys = set (replicate (size i) unqueued) 0 (bound i 0);
     yardKeys = replicate (i .tree .junctions) unqueued;
     firsts = set (replicate (size i) unqueued) 0 (bound i 0);
@@ -160,5 +161,5 @@ module _ (i : Instance) where
     held = [];
     measured = [];
   }
-  unfolding start
+  unfolding startSearch
   start-is = refl

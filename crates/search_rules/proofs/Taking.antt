@@ -11,7 +11,7 @@ use Rattle.tree_layout.specs.Values.{Element, Mark}
 use Rattle.search_rules.specs.Instance.{Instance, size, marks, leaf}
 use Rattle.search_rules.specs.Bounds.{chosen, f}
 use Rattle.search_rules.specs.Queue.{unqueued, queued, wordAt}
-use Rattle.search_rules.specs.Step.{State, left, nextF, takeYard, leastKey, step, settled}
+use Rattle.search_rules.specs.Step.{SearchState, left, nextF, takeYard, leastKey, step, settled}
 use Rattle.search_rules.specs.Run.{run}
 use Rattle.search_rules.specs.Facts.{WellFormed}
 use Rattle.search_rules.specs.Theorems.{TreeYards}
@@ -25,7 +25,7 @@ use Rattle.search_rules.proofs.Turns.{run-on}
 use Rattle.search_rules.proofs.Steps.{settled-is, take-yard-is}
 
 -- a search that isn't settled has a queued key
-pub unsettled-key : (i : Instance) (st : State) → T (not (settled i st)) → leastKey i st < unqueued
+pub unsettled-key : (i : Instance) (st : SearchState) → T (not (settled i st)) → leastKey i st < unqueued
 unsettled-key i st t = go (queued (leastKey i st)) _ (queued-small (leastKey i st)) (rw (settled-is i st) at t)
   where
     go : (a b : Bool) → (T a → leastKey i st < unqueued) → T (not (not a || b)) → leastKey i st < unqueued
@@ -36,7 +36,7 @@ unsettled-key i st t = go (queued (leastKey i st)) _ (queued-small (leastKey i s
 pub chosen-in : (i : Instance) → WellFormed i → (r : ℕ) → r < size i → Mem (chosen i r) (marks i r)
 chosen-in i well r h = chosen-mem i r (well .shape .marked r h)
 
-module _ (i : Instance) (well : WellFormed i) (st : State) (steps : ℕ) (is : st ≡ run i steps .state) where
+module _ (i : Instance) (well : WellFormed i) (st : SearchState) (steps : ℕ) (is : st ≡ run i steps .state) where
   was : Kept i st
   was = rw is (run-kept i well steps)
 
@@ -59,5 +59,6 @@ module _ (i : Instance) (well : WellFormed i) (st : State) (steps : ℕ) (is : s
   pub measured-room : T (not (settled i st)) → (y : ℕ) → step i st ≡ takeYard i st y → (ys : List ℕ) → TreeYards i ys → length (st .measured) < length ys
   measured-room t y e ys all =
       let q : run i (suc steps) .state ≡ takeYard i st y = ap (λ o. o .state) (run-on i steps (rw is at t)) ∙ (ap (step i) (sym is) ∙ e) in
-      let m : length (run i (suc steps) .state .measured) ≡ suc (length (st .measured)) = ap (λ (s : State). length (s .measured)) (q ∙ take-yard-is i st y) in
+      let m : length (run i (suc steps) .state .measured) ≡ suc (length (st .measured)) = ap (λ (s : SearchState). length (s .measured)) (q
+      ∙ take-yard-is i st y) in
       omega (arith, decided i well (suc steps) .measured-few ys all)

@@ -15,7 +15,7 @@ use Rattle.search_rules.specs.Held.{greatestHeld, ranked}
 use Rattle.search_rules.specs.Bounds.{chosen, yardBound}
 use Rattle.search_rules.specs.Step.{settled}
 use Rattle.search_rules.specs.Run.{Outcome, Answer, words, run, report, answer}
-use Rattle.search_rules.specs.Facts.{Below, WellFormed, Sound}
+use Rattle.search_rules.specs.Facts.{Below, WellFormed, SoundInstance}
 use Rattle.search_rules.specs.Theorems.{TreeYards, Listing, Complete, Limited, Bounded, Decided, Right}
 use Rattle.search_rules.proofs.Bounds.{bound-le, f-le, yardBound-le}
 use Rattle.search_rules.proofs.Kept.{Kept, run-kept}
@@ -28,7 +28,7 @@ use Rattle.search_rules.proofs.Bounds.{below-range}
 use Rattle.search_rules.proofs.Trees.{Accepted, tree-yards}
 
 -- the bounds of a true tree
-pub bounded : (i : Instance) → Sound i → Bounded i
+pub bounded : (i : Instance) → SoundInstance i → Bounded i
 bounded i sound = record {
   of-region = λ r y b. bound-le i (sound .well .shape) (sound .metric) (sound .symmetric) (sound .truth) b;
   of-element = f-le i;
@@ -63,7 +63,7 @@ decided i well limit = let was = run-kept i well limit in record {
 }
 
 -- a settled search on a true tree
-pub right : (i : Instance) → Sound i → (limit : ℕ) → T (settled i (run i limit .state)) → Right i limit
+pub right : (i : Instance) → SoundInstance i → (limit : ℕ) → T (settled i (run i limit .state)) → Right i limit
 right i sound limit t = record {
   complete = run-complete i sound limit t;
   keyed = λ y k. (run-measured i sound limit y k .queue-key, run-measured i sound limit y k .is);
@@ -103,7 +103,7 @@ words-length [] = refl
 words-length (e ∷ es) = omega (arith, words-length es)
 
 -- a settled search on a true tree lists the first k of the tree's yards, or all if fewer
-pub answer-exact : (i : Instance) → Sound i → (limit : ℕ) → T (answer i limit .settled) → (ys : List ℕ) → TreeYards i ys
+pub answer-exact : (i : Instance) → SoundInstance i → (limit : ℕ) → T (answer i limit .settled) → (ys : List ℕ) → TreeYards i ys
     → answer i limit .listed ≡ take (i .k) (ranked i ys)
 unfolding answer report
 answer-exact i sound limit t ys tree = answer-listed i limit t ∙ run-complete i sound limit t .exact ys tree
@@ -113,7 +113,7 @@ pub answer-listing : (i : Instance) → WellFormed i → (limit : ℕ) → T (an
 answer-listing i well limit t = rw (answer-listed i limit t) (run-listing i well limit)
 
 -- and if that is k yards, none was measured whose bound is above the last listed distance
-pub answer-within : (i : Instance) → Sound i → (limit : ℕ) → T (answer i limit .settled) → length (answer i limit .listed) ≡ i .k
+pub answer-within : (i : Instance) → SoundInstance i → (limit : ℕ) → T (answer i limit .settled) → length (answer i limit .listed) ≡ i .k
     → (r : ℕ) (e : Element) → T (leaf i r) → r < size i → Mem e (chosen i r .list) → Mem (e .yard) (run i limit .state .measured)
     → yardBound i (chosen i r) e ≤ greatestHeld (answer i limit .listed)
 answer-within i sound limit t full r e l h k j =
@@ -138,7 +138,7 @@ module _ (i : Instance) (a : Accepted (i .tree)) (limit : ℕ) where
   pub accepted-ends : WellFormed i → inners (i .tree) + 2 * i .tree .yards ≤ limit → T (answer i limit .settled)
   accepted-ends well h = answer-ends i well limit (treeYards (i .tree)) (tree-yards i a) (rw (a .whole .yard-count) h)
 
-  pub accepted-exact : Sound i → T (answer i limit .settled) → answer i limit .listed ≡ take (i .k) (ranked i (treeYards (i .tree)))
+  pub accepted-exact : SoundInstance i → T (answer i limit .settled) → answer i limit .listed ≡ take (i .k) (ranked i (treeYards (i .tree)))
   accepted-exact sound t = answer-exact i sound limit t (treeYards (i .tree)) (tree-yards i a)
 
   pub accepted-measured : WellFormed i → answer i limit .measured ≤ i .tree .yards

@@ -16,7 +16,7 @@ use Rattle.search_rules.specs.Bounds.{combine, aggregate, greatestOf, le
 use Rattle.tree_layout.specs.Values.{noMark}
 use Rattle.search_rules.specs.Queue.{unqueued, wordAt, pick}
 use Rattle.search_rules.specs.Held.{insert, hold, greatestHeld}
-use Rattle.search_rules.specs.Step.{left, noElement, step, settled, start}
+use Rattle.search_rules.specs.Step.{left, noElement, step, settled, startSearch}
 use Rattle.search_rules.specs.Run.{words, advance, run}
 use Rattle.search_rules.proofs.Choices.{choose-two}
 use Rattle.search_rules.proofs.Bounds.{combine-zero, combine-assoc}
@@ -165,7 +165,7 @@ module _ (i : Instance) (gone : List Bool) (m : Mark) (es : List Element) (p : �
 -- ---- a search's turn
 
 module _ (i : Instance) where
-  pub run-start : run i 0 ≡ record { state = start i; taken = 0 }
+  pub run-start : run i 0 ≡ record { state = startSearch i; taken = 0 }
   unfolding run
   run-start = refl
 

@@ -11,13 +11,15 @@ use Rattle.tree_leaf.specs.Leaf.{names, once, inRange, namedBy, firstList, agre
 use Rattle.tree.specs.Shape.{childFits, siblings, subtree}
 use Rattle.tree.specs.Yards.{endOf, starts, childrenOf}
 use Rattle.search_rules.specs.Instance.{Instance, size, children, marks, leaf}
-use Rattle.search_rules.specs.Bounds.{apart, combine, aggregate, greatestOf, leastFrom, leastOf, crewBound, sheetAt, lower, upper, over, total, markBound}
-use Rattle.search_rules.specs.Bounds.{bound, weight, best, bestOf, chosen, listApart, f, yardBound}
+use Rattle.search_rules.specs.Bounds.{absDiff, combine, aggregate, greatestOf, leastFrom, leastOf, crewBound, tableAt, lower, upper, over, total}
+use Rattle.search_rules.specs.Bounds.{markBound}
+use Rattle.search_rules.specs.Bounds.{bound, weight, best, bestOf, chosen, listAbsDiff, f, yardBound}
 use Rattle.tree_layout.specs.Values.{noMark}
 use Rattle.search_rules.specs.Queue.{unqueued, queued, wordAt, pick}
 use Rattle.search_rules.specs.Held.{insert, hold, greatestHeld, entry, ranked}
-use Rattle.search_rules.specs.Step.{State, left, noElement, againKey, waiting, nextPlace, nextF, queueChildren, openInner, queueNext, closeLeaf, openLeaf}
-use Rattle.search_rules.specs.Step.{takeRegion, takeYard, nextRegion, nextYard, leastKey, step, settled, start}
+use Rattle.search_rules.specs.Step.{SearchState, left, noElement, againKey, waiting, nextPlace, nextF, queueChildren, openInner, queueNext, closeLeaf}
+use Rattle.search_rules.specs.Step.{openLeaf}
+use Rattle.search_rules.specs.Step.{takeRegion, takeYard, nextRegion, nextYard, leastKey, step, settled, startSearch}
 use Rattle.search_rules.specs.Run.{Outcome, Answer, words, advance, run, report, answer}
 
 -- ---- nets that are chains
@@ -29,7 +31,7 @@ onChain along code goal crews yards regions = record {
   k = goal;
   crews = crews;
   tree = record { junctions = length along; yards = yards; landmarks = 1; regions = regions };
-  d = λ u v. apart (getD along u 0) (getD along v 0);
+  d = λ u v. absDiff (getD along u 0) (getD along v 0);
 }
 
 unfoldable pub at : ℕ → ℕ → Element
@@ -83,20 +85,20 @@ pub starred : row (netN 0 2 (0 ∷ 2 ∷ [])) 4 ∷ row (netN 0 2 (0 ∷ 2 ∷ [
     ∷ (1 ∷ 2 ∷ 1 ∷ 1 ∷ 3 ∷ []) ∷ (1 ∷ 2 ∷ 1 ∷ 1 ∷ 4 ∷ []) ∷ (1 ∷ 6 ∷ 3 ∷ 1 ∷ 5 ∷ 3 ∷ 13 ∷ 4 ∷ 15 ∷ [])
     ∷ (1 ∷ 2 ∷ 1 ∷ 0 ∷ 0 ∷ []) ∷ (1 ∷ 4 ∷ 2 ∷ 0 ∷ 1 ∷ []) ∷ []
 unfolding row onChain at leafOf netN oneJunction three from0 from2 twoLeaves eight choose leafMark innerMark firstDistance lastFrom noRegion regionAt all comes
-    names once inRange namedBy firstList agreeing sameYards leafOk siblings subtree endOf starts childrenOf size children marks leaf apart combine aggregate
-    greatestOf leastFrom leastOf crewBound noMark sheetAt lower upper over total markBound bound weight best bestOf chosen listApart f yardBound queued wordAt
+    names once inRange namedBy firstList agreeing sameYards leafOk siblings subtree endOf starts childrenOf size children marks leaf absDiff combine aggregate
+    greatestOf leastFrom leastOf crewBound noMark tableAt lower upper over total markBound bound weight best bestOf chosen listAbsDiff f yardBound queued wordAt
     pick insert hold greatestHeld entry left noElement againKey waiting nextPlace nextF queueChildren openInner queueNext closeLeaf openLeaf takeRegion
-    takeYard nextRegion nextYard leastKey step settled start words advance run report answer
+    takeYard nextRegion nextYard leastKey step settled startSearch words advance run report answer
 starred = refl
 
 -- limit 0 is spent with no step taken; a tree of two leaves, where three yards tie at 12 and the lower numbers are held
 pub limits : row (netN 0 2 (0 ∷ 2 ∷ [])) 0 ∷ row twoLeaves 9 ∷ row twoLeaves 7 ∷ []
     ≡ (0 ∷ 0 ∷ 0 ∷ []) ∷ (1 ∷ 8 ∷ 3 ∷ 1 ∷ 12 ∷ 2 ∷ 12 ∷ []) ∷ (0 ∷ 7 ∷ 2 ∷ []) ∷ []
 unfolding row onChain at leafOf netN oneJunction three from0 from2 twoLeaves eight choose leafMark innerMark firstDistance lastFrom noRegion regionAt all comes
-    names once inRange namedBy firstList agreeing sameYards leafOk siblings subtree endOf starts childrenOf size children marks leaf apart combine aggregate
-    greatestOf leastFrom leastOf crewBound noMark sheetAt lower upper over total markBound bound weight best bestOf chosen listApart f yardBound queued wordAt
+    names once inRange namedBy firstList agreeing sameYards leafOk siblings subtree endOf starts childrenOf size children marks leaf absDiff combine aggregate
+    greatestOf leastFrom leastOf crewBound noMark tableAt lower upper over total markBound bound weight best bestOf chosen listAbsDiff f yardBound queued wordAt
     pick insert hold greatestHeld entry left noElement againKey waiting nextPlace nextF queueChildren openInner queueNext closeLeaf openLeaf takeRegion
-    takeYard nextRegion nextYard leastKey step settled start words advance run report answer
+    takeYard nextRegion nextYard leastKey step settled startSearch words advance run report answer
 limits = refl
 
 -- ---- bounds
@@ -109,8 +111,8 @@ bounds = refl
 -- Region bounds on the chain of eight: of crews 0 and 6 for the root and the two leaves; of crew 4, which is at the second leaf's landmark (LB 0, UB 14, A 2, B
 -- 6)
 pub regions : bound twoLeaves 0 ∷ bound twoLeaves 1 ∷ bound twoLeaves 2 ∷ bound (eight (4 ∷ [])) 2 ∷ [] ≡ 1 ∷ 2 ∷ 1 ∷ 0 ∷ []
-unfolding onChain at leafOf twoLeaves eight choose leafMark innerMark firstDistance lastFrom noRegion regionAt marks apart combine aggregate greatestOf
-    leastFrom leastOf crewBound sheetAt lower upper over markBound bound
+unfolding onChain at leafOf twoLeaves eight choose leafMark innerMark firstDistance lastFrom noRegion regionAt marks absDiff combine aggregate greatestOf
+    leastFrom leastOf crewBound tableAt lower upper over markBound bound
 regions = refl
 
 -- crews whose distances from every landmark are 5, 5 and 10
@@ -125,7 +127,7 @@ crewsAt = record {
 
 -- "Crew values 5, 5, 10 and list 4, 7: f is 8 and 7."
 pub both-sides : f crewsAt noMark (at 4 0) ∷ f crewsAt noMark (at 7 0) ∷ [] ≡ 8 ∷ 7 ∷ []
-unfolding crewsAt at noMark f over aggregate combine listApart apart choose
+unfolding crewsAt at noMark f over aggregate combine listAbsDiff absDiff choose
 both-sides = refl
 
 -- ---- ties
@@ -136,16 +138,16 @@ both-sides = refl
 pub ties : run (three (from0 ∷ [])) 1 .state .gone ∷ run (three (from2 ∷ from0 ∷ [])) 1 .state .gone ∷ []
     ≡ (true ∷ false ∷ false ∷ []) ∷ (false ∷ false ∷ true ∷ []) ∷ []
 unfolding onChain at leafOf three from0 from2 choose leafMark innerMark firstDistance lastFrom noRegion regionAt all comes names once inRange namedBy firstList
-    agreeing sameYards leafOk siblings subtree endOf starts childrenOf size children marks leaf apart combine aggregate greatestOf leastFrom leastOf crewBound
-    noMark sheetAt lower upper over total markBound bound weight best bestOf chosen listApart f yardBound queued wordAt pick insert hold greatestHeld entry
+    agreeing sameYards leafOk siblings subtree endOf starts childrenOf size children marks leaf absDiff combine aggregate greatestOf leastFrom leastOf crewBound
+    noMark tableAt lower upper over total markBound bound weight best bestOf chosen listAbsDiff f yardBound queued wordAt pick insert hold greatestHeld entry
     left noElement againKey waiting nextPlace nextF queueChildren openInner queueNext closeLeaf openLeaf takeRegion takeYard nextRegion nextYard leastKey step
-    settled start advance run
+    settled startSearch advance run
 ties = refl
 
 pub orders : run (three (from0 ∷ [])) 2 .state .measured ∷ run twoLeaves 6 .state .measured ∷ [] ≡ [] ∷ (1 ∷ []) ∷ []
 unfolding onChain at leafOf three from0 from2 twoLeaves eight choose leafMark innerMark firstDistance lastFrom noRegion regionAt all comes names once inRange
-    namedBy firstList agreeing sameYards leafOk siblings subtree endOf starts childrenOf size children marks leaf apart combine aggregate greatestOf leastFrom
-    leastOf crewBound noMark sheetAt lower upper over total markBound bound weight best bestOf chosen listApart f yardBound queued wordAt pick insert hold
+    namedBy firstList agreeing sameYards leafOk siblings subtree endOf starts childrenOf size children marks leaf absDiff combine aggregate greatestOf leastFrom
+    leastOf crewBound noMark tableAt lower upper over total markBound bound weight best bestOf chosen listAbsDiff f yardBound queued wordAt pick insert hold
     greatestHeld entry left noElement againKey waiting nextPlace nextF queueChildren openInner queueNext closeLeaf openLeaf takeRegion takeYard nextRegion
-    nextYard leastKey step settled start advance run
+    nextYard leastKey step settled startSearch advance run
 orders = refl

@@ -16,7 +16,7 @@ use Rattle.search_rules.specs.Books.{searchOf, Passed}
 use Rattle.search_rules.specs.Bounds.{aggregate, over, total}
 use Rattle.search_rules.specs.Held.{entry}
 use Rattle.search_rules.specs.Run.{run, answer}
-use Rattle.search_rules.specs.Facts.{Below, Sound}
+use Rattle.search_rules.specs.Facts.{Below, SoundInstance}
 use Rattle.search_rules.specs.Theorems.{TreeYards, Listing, Complete}
 use Rattle.search_rules.specs.Walks.{AggregateLeast, none, more, FirstYards}
 use Rattle.search_rules.proofs.Bounds.{below-range}
@@ -58,7 +58,7 @@ module _ (road tree : List ℕ) (code goal : ℕ) (crews : List ℕ) (p : Passed
 
   -- ---- a settled search of true books
 
-  module _ (sound : Sound i) (limit : ℕ) (t : T (answer i limit .settled)) where
+  module _ (sound : SoundInstance i) (limit : ℕ) (t : T (answer i limit .settled)) where
     yard-there : (y : ℕ) → Below i 0 y → y < junctions road
     unfolding searchOf
     yard-there y b = omega (arith, below-range i (sound .well .shape) b, count road tree code goal crews p)

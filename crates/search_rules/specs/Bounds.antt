@@ -7,8 +7,8 @@ use Rattle.tree_layout.specs.Values.{Element, Mark, noMark}
 use Rattle.search_rules.specs.Instance.{Instance, marks}
 
 -- the difference of two numbers
-unfoldable pub apart : ℕ → ℕ → ℕ
-apart a b = (a - b) + (b - a)
+unfoldable pub absDiff : ℕ → ℕ → ℕ
+absDiff a b = (a - b) + (b - a)
 
 -- "The aggregate is the sum (code 0) or the maximum (code 1)": of two numbers
 unfoldable pub combine : ℕ → ℕ → ℕ → ℕ
@@ -40,16 +40,16 @@ crewBound lb ub a b = choose (leb b lb) (lb - b) (choose (leb ub a) (a - ub) 0)
 module _ (i : Instance) where
   -- "The sheet holds d from the root's landmarks r to every junction." Its rows are the root's landmarks; this is row r
   -- at junction v.
-  unfoldable pub sheetAt : Mark → ℕ → ℕ
-  sheetAt r v = i .d (r .place) v
+  unfoldable pub tableAt : Mark → ℕ → ℕ
+  tableAt r v = i .d (r .place) v
 
   -- "LB(l, q) is the greatest difference .. of sheet values at l and q."
   unfoldable pub lower : ℕ → ℕ → ℕ
-  lower l q = greatestOf (λ r. apart (sheetAt r l) (sheetAt r q)) (marks i 0)
+  lower l q = greatestOf (λ r. absDiff (tableAt r l) (tableAt r q)) (marks i 0)
 
   -- "UB(l, q) the least sum, of sheet values at l and q"
   unfoldable pub upper : ℕ → ℕ → ℕ
-  upper l q = leastOf (λ r. sheetAt r l + sheetAt r q) (marks i 0)
+  upper l q = leastOf (λ r. tableAt r l + tableAt r q) (marks i 0)
 
   -- the aggregate over the crews of a number for each
   unfoldable pub over : (ℕ → ℕ) → ℕ
@@ -85,14 +85,15 @@ module _ (i : Instance) where
   chosen r = bestOf (marks i r)
 
   -- "|d(l, q) − d(l, p)| with the list's d(l, p)", of landmark m and element e
-  unfoldable pub listApart : Mark → Element → ℕ → ℕ
-  listApart m e q = apart (i .d (m .place) q) (e .distance)
+  unfoldable pub listAbsDiff : Mark → Element → ℕ → ℕ
+  listAbsDiff m e q = absDiff (i .d (m .place) q) (e .distance)
 
   -- "f, the aggregate of |d(l, q) − d(l, p)| with the list's d(l, p)"
   unfoldable pub f : Mark → Element → ℕ
-  f m e = over (listApart m e)
+  f m e = over (listAbsDiff m e)
 
-  -- "A yard's bound takes per crew the greatest of these differences over the sheet's landmarks and l (for l with the
+  -- "A yard's bound takes per crew the greatest of these differences over the landmark table's landmarks and l (for l
+  -- with the
   -- list's distance), then aggregates."
   unfoldable pub yardBound : Mark → Element → ℕ
-  yardBound m e = over (λ q. max (lower (e .yard) q) (listApart m e q))
+  yardBound m e = over (λ q. max (lower (e .yard) q) (listAbsDiff m e q))

@@ -61,7 +61,7 @@ pub record WellFormed (i : Instance) : Type 0 where
   pub small : Small i
 
 -- the law of the distance between junctions that one-way roads keep
-pub record Metric (i : Instance) : Type 0 where
+pub record Triangle (i : Instance) : Type 0 where
   pub triangle : (u v w : ℕ) → u < i .tree .junctions → v < i .tree .junctions → w < i .tree .junctions
       → i .d u w ≤ i .d u v + i .d v w
 
@@ -78,8 +78,8 @@ pub record Truth (i : Instance) : Type 0 where
   pub greatest : (r : ℕ) (m : Mark) (y : ℕ) → Mem m (marks i r) → Below i r y → i .d (m .place) y ≤ m .greatest
 
 -- all of it: what holds of a tree that check accepts
-pub record Sound (i : Instance) : Type 0 where
+pub record SoundInstance (i : Instance) : Type 0 where
   pub well : WellFormed i
-  pub metric : Metric i
+  pub metric : Triangle i
   pub symmetric : Symmetric i
   pub truth : Truth i

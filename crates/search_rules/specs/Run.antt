@@ -6,11 +6,11 @@ use lib.ListN.{length}
 use Rattle.book.specs.Choose.{choose}
 use Rattle.tree_layout.specs.Values.{Element}
 use Rattle.search_rules.specs.Instance.{Instance}
-use Rattle.search_rules.specs.Step.{State, step, settled, start}
+use Rattle.search_rules.specs.Step.{SearchState, step, settled, startSearch}
 
 -- a search's state and the number of steps taken
 pub record Outcome : Type 0 where
-  pub state : State
+  pub state : SearchState
   pub taken : ℕ
 
 -- What a search answers: whether it is settled (else it is spent), the yards listed with their aggregates, the steps
@@ -36,7 +36,7 @@ module _ (i : Instance) where
 
   -- a search under a step limit
   unfoldable pub run : ℕ → Outcome
-  run zero = record { state = start i; taken = 0 }
+  run zero = record { state = startSearch i; taken = 0 }
   run (suc limit) = let o = run limit in advance o
 
   -- "Settled writes (yard, distance) words ..; spent writes nothing there. Both return taken and measured, and settled

@@ -15,7 +15,7 @@ use Rattle.search_rules.specs.Held.{hold, greatestHeld, entry}
 -- For each region and for each junction its word in the queue; for each region its first key (or `unqueued` before it
 -- has one); for each junction whether
 -- its yard has left its leaf; the held yards; the measured yards, the last one first.
-pub record State : Type 0 where
+pub record SearchState : Type 0 where
   pub regionKeys : List ℕ
   pub yardKeys : List ℕ
   pub firsts : List ℕ
@@ -59,7 +59,7 @@ module _ (i : Instance) where
   queueChildren parent (c ∷ cs) ws = queueChildren parent cs (set ws c (max (bound i c) parent))
 
   -- "An inner region queues its children.": region r, whose key is a
-  unfoldable pub openInner : State → ℕ → ℕ → State
+  unfoldable pub openInner : SearchState → ℕ → ℕ → SearchState
   openInner st r a = record {
     regionKeys = queueChildren a (children i r) (set (st .regionKeys) r unqueued);
     yardKeys = st .yardKeys;
@@ -72,7 +72,7 @@ module _ (i : Instance) where
   -- "A leaf queues its next yard and, if any remain, itself": leaf r, its first key, its landmark and its next element.
   -- "Its key is the greater of
   -- its bound and the leaf's first key."
-  unfoldable pub queueNext : State → ℕ → ℕ → Mark → Element → State
+  unfoldable pub queueNext : SearchState → ℕ → ℕ → Mark → Element → SearchState
   queueNext st r first m e =
       let gone′ = set (st .gone) (e .yard) true in
       record {
@@ -85,7 +85,7 @@ module _ (i : Instance) where
       }
 
   -- a leaf of which none remains leaves the queue
-  unfoldable pub closeLeaf : State → ℕ → State
+  unfoldable pub closeLeaf : SearchState → ℕ → SearchState
   closeLeaf st r = record {
     regionKeys = set (st .regionKeys) r unqueued;
     yardKeys = st .yardKeys;
@@ -95,7 +95,7 @@ module _ (i : Instance) where
     measured = st .measured;
   }
 
-  unfoldable pub openLeaf : State → ℕ → State
+  unfoldable pub openLeaf : SearchState → ℕ → SearchState
   openLeaf st r =
       let m = chosen i r in
       let e = getD (m .list) (nextPlace (st .gone) m) noElement in
@@ -103,14 +103,14 @@ module _ (i : Instance) where
       let off = closeLeaf st r in
       choose (queued (nextF (st .gone) m)) on off
 
-  unfoldable pub takeRegion : State → ℕ → ℕ → State
+  unfoldable pub takeRegion : SearchState → ℕ → ℕ → SearchState
   takeRegion st r a =
       let leafed = openLeaf st r in
       let opened = openInner st r a in
       choose (leaf i r) leafed opened
 
   -- "A yard is measured by true distances; the k least so far in yard order are held."
-  unfoldable pub takeYard : State → ℕ → State
+  unfoldable pub takeYard : SearchState → ℕ → SearchState
   takeYard st y = record {
     regionKeys = st .regionKeys;
     yardKeys = set (st .yardKeys) y unqueued;
@@ -123,18 +123,18 @@ module _ (i : Instance) where
   -- ---- a step
 
   -- the region of least key, and the yard
-  unfoldable pub nextRegion : State → ℕ
+  unfoldable pub nextRegion : SearchState → ℕ
   nextRegion st = pick (st .regionKeys) (size i)
 
-  unfoldable pub nextYard : State → ℕ
+  unfoldable pub nextYard : SearchState → ℕ
   nextYard st = pick (st .yardKeys) (i .tree .junctions)
 
   -- "the least key", or `unqueued` if the queue is empty
-  unfoldable pub leastKey : State → ℕ
+  unfoldable pub leastKey : SearchState → ℕ
   leastKey st = min (wordAt (st .regionKeys) (nextRegion st)) (wordAt (st .yardKeys) (nextYard st))
 
   -- "One step takes the least key; at equal keys a region precedes a yard, then lower number first."
-  unfoldable pub step : State → State
+  unfoldable pub step : SearchState → SearchState
   step st =
       let r = nextRegion st in
       let y = nextYard st in
@@ -147,13 +147,13 @@ module _ (i : Instance) where
 
   -- "The search is settled when the queue is empty, or k are held and every queued key is above the greatest held
   -- distance."
-  unfoldable pub settled : State → Bool
+  unfoldable pub settled : SearchState → Bool
   settled st = not (queued (leastKey st)) || (eqb (length (st .held)) (i .k)
       && ltb (greatestHeld (st .held)) (leastKey st))
 
   -- "The queue starts with the root."
-  unfoldable pub start : State
-  start = record {
+  unfoldable pub startSearch : SearchState
+  startSearch = record {
     regionKeys = set (replicate (size i) unqueued) 0 (bound i 0);
     yardKeys = replicate (i .tree .junctions) unqueued;
     firsts = set (replicate (size i) unqueued) 0 (bound i 0);

@@ -14,7 +14,7 @@ use Rattle.search_rules.specs.Instance.{Instance, size, marks, leaf}
 use Rattle.search_rules.specs.Bounds.{lower, upper, bound, total, weight, chosen, f, yardBound}
 use Rattle.search_rules.specs.Queue.{unqueued, wordAt}
 use Rattle.search_rules.specs.Held.{greatestHeld, entry, ranked}
-use Rattle.search_rules.specs.Step.{State, settled}
+use Rattle.search_rules.specs.Step.{SearchState, settled}
 use Rattle.search_rules.specs.Run.{run, answer}
 use Rattle.search_rules.specs.Facts.{Below}
 
@@ -69,7 +69,7 @@ pub record KeyOf (i : Instance) (firsts : List ℕ) (y a : ℕ) : Type 0 where
   pub value : a ≡ max (yardBound i (chosen i home) element) (wordAt firsts home)
 
 -- what is queued has a key of at most a number
-pub record Fits (most : ℕ) (st : State) : Type 0 where
+pub record KeysFit (most : ℕ) (st : SearchState) : Type 0 where
   pub regions : (v : ℕ) → wordAt (st .regionKeys) v < unqueued → wordAt (st .regionKeys) v ≤ most
   pub yards : (v : ℕ) → wordAt (st .yardKeys) v < unqueued → wordAt (st .yardKeys) v ≤ most
   pub firsts : (v : ℕ) → wordAt (st .firsts) v < unqueued → wordAt (st .firsts) v ≤ most
@@ -112,7 +112,7 @@ pub record Decided (i : Instance) (limit : ℕ) : Type 0 where
   pub ends : (ys : List ℕ) → TreeYards i ys → inners (i .tree) + 2 * length ys ≤ limit
       → T (settled i (run i limit .state))
   -- no key is above sixteen times a u32
-  pub fits : Fits 68719476720 (run i limit .state)
+  pub fits : KeysFit 68719476720 (run i limit .state)
 
 -- of a settled search on a true tree
 pub record Right (i : Instance) (limit : ℕ) : Type 0 where

@@ -8,7 +8,7 @@ use Rattle.book.specs.Choose.{choose}
 use Rattle.book.proofs.Choosing.{choose-case}
 use Rattle.tree_layout.specs.Values.{Element}
 use Rattle.search_rules.specs.Instance.{Instance}
-use Rattle.search_rules.specs.Step.{State, settled}
+use Rattle.search_rules.specs.Step.{SearchState, settled}
 use Rattle.search_rules.specs.Run.{Answer, run, answer}
 use Rattle.search_rules.proofs.Theorems.{answer-settled, answer-taken, answer-measured, answer-listed, answer-spent}
 use Rattle.search_held.specs.Pairs.{heldOf}
@@ -26,7 +26,7 @@ module _ (i : Instance) (limit r n : ℕ) (words measured : List ℕ) (o : Outco
     (stood : stateOf r n words (o .held) measured (o .measured) ≡ run i limit .state)
     (taken : o .taken ≡ run i limit .taken) (ended : o .settled ≡ settled i (run i limit .state)) where
   held-is : heldOf (o .held) ≡ run i limit .state .held
-  held-is = ap (λ (s : State). s .held) (sym (state-by (parts-of r n words) (o .held) measured (o .measured)) ∙ stood)
+  held-is = ap (λ (s : SearchState). s .held) (sym (state-by (parts-of r n words) (o .held) measured (o .measured)) ∙ stood)
 
   settled-is : o .settled ≡ answer i limit .settled
   settled-is = ended ∙ sym (answer-settled i limit)
@@ -39,7 +39,7 @@ module _ (i : Instance) (limit r n : ℕ) (words measured : List ℕ) (o : Outco
   measured-is : o .measured ≡ answer i limit .measured
   measured-is =
       sym (newest-length measured (o .measured))
-      ∙ ap (λ (s : State). length (s .measured)) (sym (state-by (parts-of r n words) (o .held) measured (o .measured)) ∙ stood)
+      ∙ ap (λ (s : SearchState). length (s .measured)) (sym (state-by (parts-of r n words) (o .held) measured (o .measured)) ∙ stood)
       ∙ sym (answer-measured i limit)
 
   pub answer-is : answerOf o ≡ answer i limit

@@ -13,7 +13,7 @@ use Rattle.tree_layout.specs.Decode.{junctionCount}
 use Rattle.search_rules.specs.Instance.{Instance}
 use Rattle.search_rules.specs.Books.{searchOf}
 use Rattle.search_rules.specs.Queue.{pick}
-use Rattle.search_rules.specs.Step.{State, leastKey, step, settled}
+use Rattle.search_rules.specs.Step.{SearchState, leastKey, step, settled}
 use Rattle.search_rules.specs.Run.{Outcome as Ended, run, answer}
 use Rattle.search_rules.proofs.Equations.{search-of}
 use Rattle.search_rules.proofs.Theorems.{decided}
@@ -25,24 +25,24 @@ use Rattle.search_state.proofs.Settling.{settled-of}
 use Rattle.search_leaf.specs.Ready.{Ready, Cached}
 use Rattle.search_leaf.proofs.Landmarks.{well}
 use Rattle.search_step.specs.declared.Progress.{Progress}
-use Rattle.search_step.specs.Regions.{Going, Least}
+use Rattle.search_step.specs.Regions.{Going, FirstLeast}
 use Rattle.search_step.proofs.Opening.{regions-of, junctions-are}
 use Rattle.search_step.proofs.Taking.{some-region, some-junction}
 use Rattle.search_run.specs.Answers.{answerOf}
 use Rattle.search_run.proofs.Answering.{answer-is}
 
 -- the state of a search after so many steps, none of which was taken when it was settled, with what is kept of the leaves
-pub record Runs (i : Instance) (r n : ℕ) (words : List ℕ) (st : State) (taken : ℕ) : Type 0 where
+pub record Runs (i : Instance) (r n : ℕ) (words : List ℕ) (st : SearchState) (taken : ℕ) : Type 0 where
   pub cached : Cached i (picksIn r n words) (fsIn r n words) (boundsIn r n words)
   pub is : st ≡ run i taken .state
   pub counts : taken ≡ run i taken .taken
 
 -- what the steps change: of the search by every road book beside which it is ready, and within the limit and the room
-pub record Steps (tree : List ℕ) (code goal : ℕ) (crews drives places sheet : List ℕ) (limit room : ℕ) (words measured : List ℕ)
+pub record Steps (tree : List ℕ) (code goal : ℕ) (crews drives places table : List ℕ) (limit room : ℕ) (words measured : List ℕ)
     (progress : Progress) (taken : ℕ) : Type 0 where
   pub size : length words ≡ wordCount (length places) (junctionCount tree)
   pub same : length measured ≡ room
-  pub runs : (road : List ℕ) → Ready road tree code goal crews drives places sheet
+  pub runs : (road : List ℕ) → Ready road tree code goal crews drives places table
       → Runs (searchOf road tree code goal crews) (length places) (junctionCount tree) words
       (stateOf (length places) (junctionCount tree) words (progress .held) measured (progress .measured)) taken
   pub few : progress .held .count ≤ goal
@@ -54,22 +54,22 @@ pub queue-part : (r n queue : ℕ) (ws : List ℕ) → queue ≡ r + n → lengt
 queue-part r n queue ws e s = sym (length-take-le queue ws (omega arith))
 
 pub least-of : (r n : ℕ) (ws : List ℕ) (queue p : ℕ) → queue ≡ r + n → length ws ≡ wordCount r n
-    → p ≡ pick (take queue ws) (length (take queue ws)) → Least r n ws p
+    → p ≡ pick (take queue ws) (length (take queue ws)) → FirstLeast r n ws p
 least-of r n ws queue p e s h = h ∙ (ap (pick (take queue ws)) (length-take-le queue ws (omega arith) ∙ e) ∙ rw (e, part-all ws (r + n)) refl)
 
-module _ {tree : List ℕ} {code goal : ℕ} {crews drives places sheet : List ℕ} {limit room : ℕ} {words measured : List ℕ} {progress : Progress} {taken : ℕ}
-    (steps : Steps tree code goal crews drives places sheet limit room words measured progress taken)
-    (p : ℕ) (e : Least (length places) (junctionCount tree) words p) (b : Bool) (q : b ≡ settledBy goal (getD words p 0) (progress .held)) where
+module _ {tree : List ℕ} {code goal : ℕ} {crews drives places table : List ℕ} {limit room : ℕ} {words measured : List ℕ} {progress : Progress} {taken : ℕ}
+    (steps : Steps tree code goal crews drives places table limit room words measured progress taken)
+    (p : ℕ) (e : FirstLeast (length places) (junctionCount tree) words p) (b : Bool) (q : b ≡ settledBy goal (getD words p 0) (progress .held)) where
   abbrev r : ℕ
   r = length places
 
   abbrev n : ℕ
   n = junctionCount tree
 
-  abbrev st : State
+  abbrev st : SearchState
   st = stateOf r n words (progress .held) measured (progress .measured)
 
-  module _ (road : List ℕ) (ready : Ready road tree code goal crews drives places sheet) where
+  module _ (road : List ℕ) (ready : Ready road tree code goal crews drives places table) where
     abbrev i : Instance
     i = searchOf road tree code goal crews
 
@@ -106,7 +106,7 @@ module _ {tree : List ℕ} {code goal : ℕ} {crews drives places sheet : List �
     ends-settled z =
         let t : T (settled i (run i taken .state)) = rw (s .is) at (true-T (sym settled-is ∙ z)) in
         let l : taken + (limit - taken) ≡ limit = omega (arith, steps .within) in
-        let o : run i limit ≡ run i taken = rw l at (decided i (well road tree code goal crews drives places sheet ready) taken .stays t (limit - taken)) in
+        let o : run i limit ≡ run i taken = rw l at (decided i (well road tree code goal crews drives places table ready) taken .stays t (limit - taken)) in
         answer-is i limit r n words measured (record { held = progress .held; measured = progress .measured; taken = taken; settled = true })
         (s .is ∙ sym (ap (λ (x : Ended). x .state) o))
         (s .counts ∙ sym (ap (λ (x : Ended). x .taken) o))
@@ -121,12 +121,12 @@ module _ {tree : List ℕ} {code goal : ℕ} {crews drives places sheet : List �
 
   pub steps-on : b ≡ false → taken < limit → (words′ measured′ : List ℕ) (progress′ : Progress) → length words′ ≡ length words
       → length measured′ ≡ length measured
-      → ((road : List ℕ) → Ready road tree code goal crews drives places sheet
+      → ((road : List ℕ) → Ready road tree code goal crews drives places table
       → Cached (searchOf road tree code goal crews) (picksIn r n words′) (fsIn r n words′) (boundsIn r n words′))
-      → ((road : List ℕ) → Ready road tree code goal crews drives places sheet
+      → ((road : List ℕ) → Ready road tree code goal crews drives places table
       → stateOf r n words′ (progress′ .held) measured′ (progress′ .measured) ≡ step (searchOf road tree code goal crews) st)
       → (progress′ .held .count ≤ goal) × (progress′ .measured ≤ 256)
-      → Steps tree code goal crews drives places sheet limit room words′ measured′ progress′ (taken + 1)
+      → Steps tree code goal crews drives places table limit room words′ measured′ progress′ (taken + 1)
   steps-on z l words′ measured′ progress′ sw sm c t f = record {
     size = sw ∙ steps .size;
     same = sm ∙ steps .same;

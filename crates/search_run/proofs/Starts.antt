@@ -45,7 +45,7 @@ cached-none i r n er en = record {
     marked : (v : ℕ) → v < size i → getD (replicate r unqueued) v 0 ≡ unopened
     marked v k = getD-replicate r v unqueued 0 (omega arith)
 
-module _ {road tree : List ℕ} {code goal : ℕ} {crews drives places sheet : List ℕ} (ready : Ready road tree code goal crews drives places sheet)
+module _ {road tree : List ℕ} {code goal : ℕ} {crews drives places table : List ℕ} (ready : Ready road tree code goal crews drives places table)
     (words : List ℕ) (held : Held) (measured : List ℕ) where
   abbrev i : Instance
   i = searchOf road tree code goal crews
@@ -57,7 +57,7 @@ module _ {road tree : List ℕ} {code goal : ℕ} {crews drives places sheet : L
   n = junctionCount tree
 
   abbrev key : ℕ
-  key = rowsBound sheet (landmarkCount tree) code crews (regionAt (decode tree .regions) 0 .marks)
+  key = rowsBound table (landmarkCount tree) code crews (regionAt (decode tree .regions) 0 .marks)
 
   module _ (e : words ≡ putRoot r n key (replicate (wordCount r n) unqueued)) (none : heldOf held ≡ []) where
     start-parts : Parts r n words (set (replicate r unqueued) 0 key) (replicate n unqueued) (set (replicate r unqueued) 0 key)
@@ -72,7 +72,7 @@ module _ {road tree : List ℕ} {code goal : ℕ} {crews drives places sheet : L
         ∙ (rw (
           none,
           newest-none measured,
-          bound-of road tree code goal crews (ready .passed) (landmarkCount tree) sheet (ready .sheeted) 0 key refl,
+          bound-of road tree code goal crews (ready .passed) (landmarkCount tree) table (ready .tableed) 0 key refl,
           ← regions-of ready,
           ← junctions-are ready,
         ) refl
@@ -85,14 +85,14 @@ module _ {road tree : List ℕ} {code goal : ℕ} {crews drives places sheet : L
       counts = sym (ap (λ (o : Ended). o .taken) (run-start i));
     }
 
-pub steps-start : (tree : List ℕ) (code goal : ℕ) (crews drives places sheet : List ℕ) (limit : ℕ) (words₀ words : List ℕ) (held : Held) (measured : List ℕ)
+pub steps-start : (tree : List ℕ) (code goal : ℕ) (crews drives places table : List ℕ) (limit : ℕ) (words₀ words : List ℕ) (held : Held) (measured : List ℕ)
     → words₀ ≡ replicate (wordCount (length places) (junctionCount tree)) unqueued
     → words ≡ putRoot (length places) (junctionCount tree)
-    (rowsBound sheet (landmarkCount tree) code crews (regionAt (decode tree .regions) 0 .marks)) words₀
+    (rowsBound table (landmarkCount tree) code crews (regionAt (decode tree .regions) 0 .marks)) words₀
     → (heldOf held ≡ []) × (held .count ≡ 0)
-    → Steps tree code goal crews drives places sheet limit (length measured) words measured (record { held = held; measured = 0 }) 0
+    → Steps tree code goal crews drives places table limit (length measured) words measured (record { held = held; measured = 0 }) 0
 unfolding putRoot
-steps-start tree code goal crews drives places sheet limit words₀ words held measured z e h = record {
+steps-start tree code goal crews drives places table limit words₀ words held measured z e h = record {
   size = long;
   same = refl;
   runs = λ road ready. starts ready words held measured (rw z at e) (h .0);
@@ -104,12 +104,12 @@ steps-start tree code goal crews drives places sheet limit words₀ words held m
     long : length words ≡ wordCount (length places) (junctionCount tree)
     long = rw (e, z) (simp (length-set, length-set, length-replicate))
 
--- the root's key, by the sheet's rows
-pub root-put : (tree sheet : List ℕ) (code : ℕ) (crews : List ℕ) (rows r n first w : ℕ) (ws : List ℕ) → rows ≡ landmarkCount tree → first ≡ firstsAt r n
-    → w ≡ rowsBound sheet rows code crews (regionAt (decode tree .regions) 0 .marks)
-    → set (set ws 0 w) first w ≡ putRoot r n (rowsBound sheet (landmarkCount tree) code crews (regionAt (decode tree .regions) 0 .marks)) ws
+-- the root's key, by the landmark table's rows
+pub root-put : (tree table : List ℕ) (code : ℕ) (crews : List ℕ) (rows r n first w : ℕ) (ws : List ℕ) → rows ≡ landmarkCount tree → first ≡ firstsAt r n
+    → w ≡ rowsBound table rows code crews (regionAt (decode tree .regions) 0 .marks)
+    → set (set ws 0 w) first w ≡ putRoot r n (rowsBound table (landmarkCount tree) code crews (regionAt (decode tree .regions) 0 .marks)) ws
 unfolding putRoot
-root-put tree sheet code crews rows r n first w ws e f g = rw (f, g, e) refl
+root-put tree table code crews rows r n first w ws e f g = rw (f, g, e) refl
 
 -- ---- the counts
 

@@ -40,21 +40,21 @@ pub struct Outcome {
 fn queue_root(
     tree: &[u8],
     places: &[usize],
-    sheet: &[u32],
+    table: &[u32],
     crews: &[u16],
     code: u8,
     words: &mut [u64],
 )
-    requires { ⌜ Laid (now tree) (now places) × Rows (now sheet) (landmarkCount (now tree)) × Crews (now crews)
+    requires { ⌜ Laid (now tree) (now places) × Rows (now table) (landmarkCount (now tree)) × Crews (now crews)
         × (length (now words) ≡ wordCount (length (now places)) (junctionCount (now tree))) ⌝ }
     ensures { λ _. ⌜ now (words .exit) ≡ putRoot (length (now (places .entry))) (junctionCount (now (tree .entry)))
-        (rowsBound (now (sheet .entry)) (landmarkCount (now (tree .entry))) code (now (crews .entry))
+        (rowsBound (now (table .entry)) (landmarkCount (now (tree .entry))) code (now (crews .entry))
         (regionAt (decode (now (tree .entry)) .regions) 0 .marks)) (now (words .entry)) ⌝ }
 {
     let h = records::header(tree);
     let rows = h.landmarks as usize;
     let root = Region { number: 0 };
-    let w = regions::region_bound(tree, places, sheet, rows, code, crews, root);
+    let w = regions::region_bound(tree, places, table, rows, code, crews, root);
     words[0] = w;
     let first = places.len() + h.junctions as usize;
     words[first] = w;
@@ -65,25 +65,25 @@ fn steps(
     tree: &[u8],
     places: &[usize],
     ends: &[usize],
-    sheet: &[u32],
+    table: &[u32],
     drives: &[u32],
     crews: &[u16],
     asked: Query,
     words: &mut [u64],
     measured: &mut [u16],
 ) -> Outcome
-    requires { ⌜ Readied (now tree) (asked .aggregate) (asked .k) (now crews) (now drives) (now places) (now sheet)
+    requires { ⌜ Readied (now tree) (asked .aggregate) (asked .k) (now crews) (now drives) (now places) (now table)
         × Ended (now tree) (now ends) × (asked .k ≤ 64) × (256 ≤ length (now measured))
         × (now words ≡ replicate (wordCount (length (now places)) (junctionCount (now tree))) unqueued) ⌝ }
     ensures answer { λ o. ⌜ ((road : List ℕ)
         → Ready road (now (tree .entry)) (asked .aggregate) (asked .k)
-        (now (crews .entry)) (now (drives .entry)) (now (places .entry)) (now (sheet .entry))
+        (now (crews .entry)) (now (drives .entry)) (now (places .entry)) (now (table .entry))
         → answerOf o
         ≡ answer (searchOf road (now (tree .entry)) (asked .aggregate) (asked .k) (now (crews .entry)))
         (asked .limit)) ⌝ }
     ensures room { λ o. ⌜ (o .held .count ≤ asked .k) × (o .measured ≤ 256) ⌝ }
 {
-    queue_root(tree, places, sheet, crews, asked.aggregate, words);
+    queue_root(tree, places, table, crews, asked.aggregate, words);
     let h = records::header(tree);
     let queue = places.len() + h.junctions as usize;
     let mut progress = Progress {
@@ -114,7 +114,7 @@ fn steps(
             tree,
             places,
             ends,
-            sheet,
+            table,
             drives,
             crews,
             asked,
@@ -132,16 +132,16 @@ pub fn run(
     tree: &[u8],
     places: &[usize],
     ends: &[usize],
-    sheet: &[u32],
+    table: &[u32],
     drives: &[u32],
     crews: &[u16],
     asked: Query,
 ) -> Outcome
-    requires { ⌜ Readied (now tree) (asked .aggregate) (asked .k) (now crews) (now drives) (now places) (now sheet)
+    requires { ⌜ Readied (now tree) (asked .aggregate) (asked .k) (now crews) (now drives) (now places) (now table)
         × Ended (now tree) (now ends) × (asked .k ≤ 64) ⌝ }
     ensures answer { λ o. ⌜ ((road : List ℕ)
         → Ready road (now (tree .entry)) (asked .aggregate) (asked .k)
-        (now (crews .entry)) (now (drives .entry)) (now (places .entry)) (now (sheet .entry))
+        (now (crews .entry)) (now (drives .entry)) (now (places .entry)) (now (table .entry))
         → answerOf o
         ≡ answer (searchOf road (now (tree .entry)) (asked .aggregate) (asked .k) (now (crews .entry)))
         (asked .limit)) ⌝ }
@@ -155,7 +155,7 @@ pub fn run(
         tree,
         places,
         ends,
-        sheet,
+        table,
         drives,
         crews,
         asked,

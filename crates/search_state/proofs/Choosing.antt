@@ -7,7 +7,7 @@ use native.Mathlib.Omega.{arith}
 use lib.ListN.{length, getD}
 use Rattle.search_rules.specs.Instance.{Instance, size}
 use Rattle.search_rules.specs.Queue.{unqueued, wordAt, pick}
-use Rattle.search_rules.specs.Step.{State, nextRegion, nextYard, leastKey}
+use Rattle.search_rules.specs.Step.{SearchState, nextRegion, nextYard, leastKey}
 use Rattle.search_rules.proofs.Queue.{pick-least, pick-range}
 use Rattle.search_rules.proofs.Turns.{word-at, pick-first}
 use Rattle.search_rules.proofs.Steps.{next-region-is, next-yard-is, least-key-is}
@@ -117,14 +117,14 @@ module _ (r n : ℕ) (ws : List ℕ) (size-is : length ws ≡ wordCount r n) (so
   -- ---- by the definition
 
   module _ (i : Instance) (er : size i ≡ r) (en : i .tree .junctions ≡ n) (held : Held) (measured : List ℕ) (count : ℕ) where
-    abbrev st : State
+    abbrev st : SearchState
     st = stateOf r n ws held measured count
 
     keys-of : st .regionKeys ≡ keys
-    keys-of = ap (λ (s : State). s .regionKeys) (state-by (parts-of r n ws) held measured count)
+    keys-of = ap (λ (s : SearchState). s .regionKeys) (state-by (parts-of r n ws) held measured count)
 
     yards-of : st .yardKeys ≡ yards
-    yards-of = ap (λ (s : State). s .yardKeys) (state-by (parts-of r n ws) held measured count)
+    yards-of = ap (λ (s : SearchState). s .yardKeys) (state-by (parts-of r n ws) held measured count)
 
     region-is : nextRegion i st ≡ pick keys r
     region-is = next-region-is i st ∙ rw (keys-of, er) refl

@@ -8,7 +8,7 @@ use lib.Dec.{T, ltb, eqb}
 use Rattle.search_rules.specs.Instance.{Instance}
 use Rattle.search_rules.specs.Queue.{queued}
 use Rattle.search_rules.specs.Held.{greatestHeld}
-use Rattle.search_rules.specs.Step.{State, settled}
+use Rattle.search_rules.specs.Step.{SearchState, settled}
 use Rattle.search_rules.specs.Run.{run}
 use Rattle.search_held.specs.declared.Held.{Held}
 use Rattle.search_held.specs.Pairs.{heldOf}
@@ -76,7 +76,7 @@ newest l (suc n) = getD l n 0 ∷ newest l n
 
 -- the state of a search of r regions and n junctions: its words, the held yards, and the measured yards with their
 -- number
-unfoldable pub stateOf : (r n : ℕ) → (ws : List ℕ) → Held → (measured : List ℕ) → ℕ → State
+unfoldable pub stateOf : (r n : ℕ) → (ws : List ℕ) → Held → (measured : List ℕ) → ℕ → SearchState
 stateOf r n ws held measured count = record {
   regionKeys = regionKeysIn r n ws;
   yardKeys = yardKeysIn r n ws;
@@ -92,7 +92,7 @@ unfoldable pub settledBy : (k least : ℕ) → Held → Bool
 settledBy k least held = not (queued least) || (eqb (held .count) k && ltb (greatestHeld (heldOf held)) least)
 
 -- a search has come to a state by a number of steps, and isn't settled
-pub record Unsettled (i : Instance) (st : State) : Type 0 where
+pub record Unsettled (i : Instance) (st : SearchState) : Type 0 where
   pub steps : ℕ
   pub is : st ≡ run i steps .state
   pub unsettled : T (not (settled i st))

@@ -17,7 +17,7 @@ use Rattle.search_rules.specs.Instance.{Instance, size, children, leaf}
 use Rattle.search_rules.specs.Books.{searchOf}
 use Rattle.search_rules.specs.Bounds.{bound}
 use Rattle.search_rules.specs.Queue.{unqueued}
-use Rattle.search_rules.specs.Step.{State, queueChildren, openInner, openLeaf, takeRegion}
+use Rattle.search_rules.specs.Step.{SearchState, queueChildren, openInner, openLeaf, takeRegion}
 use Rattle.search_rules.proofs.Equations.{search-of}
 use Rattle.search_rules.proofs.Steps.{leaf-is, take-leaf, take-inner, open-inner-is}
 use Rattle.search_rules.proofs.Steps.{children-is as children-of}
@@ -30,7 +30,7 @@ use Rattle.search_step.specs.Children.{keyOf, putKeys, Slots}
 use Rattle.search_step.proofs.Queueing.{key-of, put-parts}
 use Rattle.search_leaf.specs.Ready.{Ready, Cached, Leafed}
 use Rattle.search_leaf.proofs.Landmarks.{well, size-of, tree-junctions}
-use Rattle.search_step.specs.Regions.{Queued}
+use Rattle.search_step.specs.Regions.{RegionQueued}
 
 -- what is kept of the leaves, where no part that keeps it has changed
 pub cached-by : {i : Instance} {r n : ℕ} {words keys yards firsts picks fs bounds : List ℕ} {gone : List Bool}
@@ -38,16 +38,16 @@ pub cached-by : {i : Instance} {r n : ℕ} {words keys yards firsts picks fs bou
     → Cached i picks fs bounds → Cached i (picksIn r n words) (fsIn r n words) (boundsIn r n words)
 cached-by p c = rw (p .picks-are, p .fs-are, p .bounds-are) c
 
-module _ {road tree : List ℕ} {code goal : ℕ} {crews drives places sheet : List ℕ} (ready : Ready road tree code goal crews drives places sheet) where
+module _ {road tree : List ℕ} {code goal : ℕ} {crews drives places table : List ℕ} (ready : Ready road tree code goal crews drives places table) where
   abbrev i : Instance
   i = searchOf road tree code goal crews
 
   -- how many regions and junctions there are
   pub regions-of : size i ≡ length places
-  regions-of = size-of road tree code goal crews drives places sheet ready ∙ sym (ready .laid .count)
+  regions-of = size-of road tree code goal crews drives places table ready ∙ sym (ready .laid .count)
 
   pub junctions-are : i .tree .junctions ≡ junctionCount tree
-  junctions-are = tree-junctions road tree code goal crews drives places sheet ready
+  junctions-are = tree-junctions road tree code goal crews drives places table ready
 
   module _ (v : ℕ) where
     children-at : children i v ≡ childrenOf (decode tree .regions) v
@@ -63,7 +63,7 @@ module _ {road tree : List ℕ} {code goal : ℕ} {crews drives places sheet : L
       pub leaf-no : (f .children ≡ 0 → ⊥) → T (not (leaf i v))
       leaf-no z = rw leaf-test (ne→neqb (regionAt (decode tree .regions) v .children) 0 (λ q. z (sym (children-is tree v f e) ∙ q)))
 
-    module _ (words : List ℕ) (q : Queued i (length places) (junctionCount tree) words v) where
+    module _ (words : List ℕ) (q : RegionQueued i (length places) (junctionCount tree) words v) where
       abbrev r : ℕ
       r = length places
 
@@ -88,7 +88,7 @@ module _ {road tree : List ℕ} {code goal : ℕ} {crews drives places sheet : L
         };
       }
 
-      pub leaf-is-taken : T (leaf i v) → (a : ℕ) (st out : State) → out ≡ openLeaf i st v → out ≡ takeRegion i st v a
+      pub leaf-is-taken : T (leaf i v) → (a : ℕ) (st out : SearchState) → out ≡ openLeaf i st v → out ≡ takeRegion i st v a
       leaf-is-taken t a st out p = p ∙ sym (take-leaf i st v a t)
 
       -- an inner region
@@ -98,22 +98,22 @@ module _ {road tree : List ℕ} {code goal : ℕ} {crews drives places sheet : L
         self = region-slot;
         children = λ c k. omega (
           arith,
-          well road tree code goal crews drives places sheet ready .shape .range v c (rw children-at k),
+          well road tree code goal crews drives places table ready .shape .range v c (rw children-at k),
           regions-of,
         );
       }
 
       module _ (a : ℕ) (words′ : List ℕ)
-          (e : words′ ≡ putKeys (keyOf tree sheet (landmarkCount tree) code crews a) r n (childrenOf (decode tree .regions) v) (set words v unqueued)) where
-        child-key : (c : ℕ) → keyOf tree sheet (landmarkCount tree) code crews a c ≡ max (bound i c) a
+          (e : words′ ≡ putKeys (keyOf tree table (landmarkCount tree) code crews a) r n (childrenOf (decode tree .regions) v) (set words v unqueued)) where
+        child-key : (c : ℕ) → keyOf tree table (landmarkCount tree) code crews a c ≡ max (bound i c) a
         child-key c =
-            let x : ℕ = rowsBound sheet (landmarkCount tree) code crews (regionAt (decode tree .regions) c .marks) in
-            sym (key-of tree sheet (landmarkCount tree) code crews a c x (max x a) refl refl) ∙ ap (λ (w : ℕ). max w a) (bound-of road tree code goal crews
-            (ready .passed) (landmarkCount tree) sheet (ready .sheeted) c x refl)
+            let x : ℕ = rowsBound table (landmarkCount tree) code crews (regionAt (decode tree .regions) c .marks) in
+            sym (key-of tree table (landmarkCount tree) code crews a c x (max x a) refl refl) ∙ ap (λ (w : ℕ). max w a) (bound-of road tree code goal crews
+            (ready .passed) (landmarkCount tree) table (ready .tableed) c x refl)
 
         inner-parts : Parts r n words′ (queueChildren i a (children i v) (set (regionKeysIn r n words) v unqueued)) (yardKeysIn r n words)
             (queueChildren i a (children i v) (firstsIn r n words)) (picksIn r n words) (fsIn r n words) (boundsIn r n words) (goneIn r n words)
-        inner-parts = rw (e, children-at) (put-parts i a (keyOf tree sheet (landmarkCount tree) code crews a) r n
+        inner-parts = rw (e, children-at) (put-parts i a (keyOf tree table (landmarkCount tree) code crews a) r n
             (childrenOf (decode tree .regions) v) child-key (inner-slots .children) (store-key (parts-of r n words) v unqueued v refl region-slot))
 
         pub inner-cached : Cached i (picksIn r n words′) (fsIn r n words′) (boundsIn r n words′)
@@ -124,4 +124,4 @@ module _ {road tree : List ℕ} {code goal : ℕ} {crews drives places sheet : L
         inner-is-taken t held measured count =
             state-by inner-parts held measured count
             ∙ sym (take-inner i (stateOf r n words held measured count) v a t
-            ∙ (ap (λ (s : State). openInner i s v a) (state-by (parts-of r n words) held measured count) ∙ open-inner-is i _ v a))
+            ∙ (ap (λ (s : SearchState). openInner i s v a) (state-by (parts-of r n words) held measured count) ∙ open-inner-is i _ v a))

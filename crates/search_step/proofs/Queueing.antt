@@ -24,15 +24,15 @@ use Rattle.search_state.specs.State.{wordCount, firstsAt}
 use Rattle.search_state.proofs.Cells.{Parts, store-key, store-first}
 use Rattle.search_step.specs.Children.{keyOf, putKeys, Ended, Slots}
 
-pub key-of : (tree sheet : List ℕ) (rows code : ℕ) (crews : List ℕ) (parent c x w : ℕ)
-    → x ≡ rowsBound sheet rows code crews (regionAt (decode tree .regions) c .marks)
-    → w ≡ max x parent → w ≡ keyOf tree sheet rows code crews parent c
+pub key-of : (tree table : List ℕ) (rows code : ℕ) (crews : List ℕ) (parent c x w : ℕ)
+    → x ≡ rowsBound table rows code crews (regionAt (decode tree .regions) c .marks)
+    → w ≡ max x parent → w ≡ keyOf tree table rows code crews parent c
 unfolding keyOf
-key-of tree sheet rows code crews parent c x w p q = rw (← p) q
+key-of tree table rows code crews parent c x w p q = rw (← p) q
 
-pub key-rows : (tree sheet : List ℕ) (rows m code : ℕ) (crews : List ℕ) (parent c w : ℕ) → w ≡ keyOf tree sheet rows code crews parent c → rows ≡ m
-    → w ≡ keyOf tree sheet m code crews parent c
-key-rows tree sheet rows m code crews parent c w p e = rw (← e) p
+pub key-rows : (tree table : List ℕ) (rows m code : ℕ) (crews : List ℕ) (parent c w : ℕ) → w ≡ keyOf tree table rows code crews parent c → rows ≡ m
+    → w ≡ keyOf tree table m code crews parent c
+key-rows tree table rows m code crews parent c w p e = rw (← e) p
 
 -- ---- the words that are set
 
@@ -56,7 +56,7 @@ put-parts i a g r n (c ∷ cs) e h {ws = ws} {keys = keys} {firsts = firsts} p =
 
 -- ---- the header's counts
 
--- the sheet's rows, and where the first keys begin
+-- the landmark table's rows, and where the first keys begin
 pub record Counted (tree places : List ℕ) (rows firsts : ℕ) : Type 0 where
   pub rows-are : rows ≡ landmarkCount tree
   pub firsts-are : firsts ≡ firstsAt (length places) (junctionCount tree)

@@ -14,7 +14,7 @@ use Rattle.search_rules.specs.Instance.{Instance}
 use Rattle.search_rules.specs.Books.{searchOf}
 use Rattle.search_rules.specs.Queue.{unqueued, wordAt}
 use Rattle.search_rules.specs.Held.{hold, entry}
-use Rattle.search_rules.specs.Step.{State, nextRegion, nextYard, leastKey, takeRegion, takeYard, step}
+use Rattle.search_rules.specs.Step.{SearchState, nextRegion, nextYard, leastKey, takeRegion, takeYard, step}
 use Rattle.search_rules.specs.Facts.{WellFormed}
 use Rattle.search_rules.proofs.Books.{accepted-of}
 use Rattle.search_rules.proofs.Equations.{search-of}
@@ -31,7 +31,7 @@ use Rattle.search_bounds.specs.Measures.{IsDriven, totalOf}
 use Rattle.search_bounds.proofs.YardsSearching.{total-of}
 use Rattle.search_leaf.specs.Ready.{Ready, Readied, Cached}
 use Rattle.search_leaf.proofs.Landmarks.{well, driven-of}
-use Rattle.search_step.specs.Regions.{Queued, Going, Least}
+use Rattle.search_step.specs.Regions.{RegionQueued, Going, FirstLeast}
 use Rattle.search_step.proofs.Opening.{cached-by, regions-of, junctions-are}
 
 -- what is held after one more yard, by its distance
@@ -40,7 +40,7 @@ held-by k d t y l r e h = rw (← e) h
 
 -- ---- the numbers
 
-module _ {road tree : List ℕ} {code goal : ℕ} {crews drives places sheet : List ℕ} (ready : Ready road tree code goal crews drives places sheet) where
+module _ {road tree : List ℕ} {code goal : ℕ} {crews drives places table : List ℕ} (ready : Ready road tree code goal crews drives places table) where
   pub some-region : 0 < length places
   some-region = omega (arith, ready .laid .layout .regions .0, ready .laid .count)
 
@@ -60,11 +60,12 @@ pub record Picked (tree places words : List ℕ) (p : ℕ) : Type 0 where
   pub below : p < length places + junctionCount tree
   pub small : p < 1535
 
-module _ {tree : List ℕ} {code goal : ℕ} {crews drives places sheet : List ℕ} (readied : Readied tree code goal crews drives places sheet) where
-  abbrev rd : Ready (readied .road) tree code goal crews drives places sheet
+module _ {tree : List ℕ} {code goal : ℕ} {crews drives places table : List ℕ} (readied : Readied tree code goal crews drives places table) where
+  abbrev rd : Ready (readied .road) tree code goal crews drives places table
   rd = readied .ready
 
-  pub picked : {words : List ℕ} {p : ℕ} → length words ≡ wordCount (length places) (junctionCount tree) → Least (length places) (junctionCount tree) words p
+  pub picked : {words : List ℕ} {p : ℕ} → length words ≡ wordCount (length places) (junctionCount tree)
+      → FirstLeast (length places) (junctionCount tree) words p
       → Picked tree places words p
   picked {words} {p} s e = record {
     inside = omega (arith, below);
@@ -79,13 +80,13 @@ module _ {tree : List ℕ} {code goal : ℕ} {crews drives places sheet : List �
   pub yard-driven : (y : ℕ) → y < junctionCount tree → IsDriven crews drives y
   yard-driven y h = record {
     road = readied .road;
-    driven = driven-of (readied .road) tree code goal crews drives places sheet rd;
+    driven = driven-of (readied .road) tree code goal crews drives places table rd;
     junction = omega (arith, same-junctions rd);
   }
 
 -- ---- what the step does
 
-module _ {road tree : List ℕ} {code goal : ℕ} {crews drives places sheet : List ℕ} (ready : Ready road tree code goal crews drives places sheet)
+module _ {road tree : List ℕ} {code goal : ℕ} {crews drives places table : List ℕ} (ready : Ready road tree code goal crews drives places table)
     (words : List ℕ) (held : Held) (measured : List ℕ) (count : ℕ) where
   abbrev i : Instance
   i = searchOf road tree code goal crews
@@ -96,15 +97,15 @@ module _ {road tree : List ℕ} {code goal : ℕ} {crews drives places sheet : L
   abbrev n : ℕ
   n = junctionCount tree
 
-  abbrev st : State
+  abbrev st : SearchState
   st = stateOf r n words held measured count
 
-  module _ (s : length words ≡ wordCount r n) (g : Going i r n words st) (p : ℕ) (e : Least r n words p) where
+  module _ (s : length words ≡ wordCount r n) (g : Going i r n words st) (p : ℕ) (e : FirstLeast r n words p) where
     abbrev u : Unsettled i st
     u = g .unsettled
 
     formed : WellFormed i
-    formed = well road tree code goal crews drives places sheet ready
+    formed = well road tree code goal crews drives places table ready
 
     word : getD words p 0 ≡ leastKey i st
     word = picked-word r n words s (some-region ready) (some-junction ready) i (regions-of ready) (junctions-are ready) held measured count p e
@@ -124,12 +125,12 @@ module _ {road tree : List ℕ} {code goal : ℕ} {crews drives places sheet : L
       low : getD words p 0 < unqueued
       low = omega (arith, unsettled-key i st (u .unsettled), word)
 
-      pub region-queued : Queued i r n words p
+      pub region-queued : RegionQueued i r n words p
       region-queued = record {
         count = s;
         cached = g .cached;
         inside = omega (arith, regions-of ready);
-        waits = λ t. rw (ap (λ (x : State). x .gone) (state-by (parts-of r n words) held measured count)) at (leaf-waits i formed st
+        waits = λ t. rw (ap (λ (x : SearchState). x .gone) (state-by (parts-of r n words) held measured count)) at (leaf-waits i formed st
             (u .steps) (u .is) p t (omega (arith, regions-of ready)) (omega (arith, key, low)));
       }
 
@@ -160,7 +161,7 @@ module _ {road tree : List ℕ} {code goal : ℕ} {crews drives places sheet : L
       -- there is room for one more measured yard
       pub yard-room : count < 256
       yard-room =
-          let m : length (st .measured) ≡ count = ap (λ (x : State). length (x .measured))
+          let m : length (st .measured) ≡ count = ap (λ (x : SearchState). length (x .measured))
           (state-by (parts-of r n words) held measured count) ∙ newest-length measured count in
           omega (
             arith,
@@ -190,7 +191,7 @@ module _ {road tree : List ℕ} {code goal : ℕ} {crews drives places sheet : L
       yard-is-taken measured′ held′ count′ c q t =
           state-by yard-parts held′ measured′ count′
           ∙ (rw (c, q, holds) refl
-          ∙ sym (yard-step ∙ (ap (λ (x : State). takeYard i x y) (state-by (parts-of r n words) held measured count) ∙ take-yard-is i _ y)))
+          ∙ sym (yard-step ∙ (ap (λ (x : SearchState). takeYard i x y) (state-by (parts-of r n words) held measured count) ∙ take-yard-is i _ y)))
         where
           holds : heldOf held′ ≡ hold (i .k) (entry i y) (heldOf held)
           holds =

@@ -9,10 +9,10 @@ use Rattle.tree.specs.Yards.{endOf, childrenOf}
 use Rattle.search_bounds.specs.Bounds.{rowsBound}
 use Rattle.search_state.specs.State.{wordCount, firstsAt}
 
--- "A region's key is the greater of this and its parent's key.": region c's, by the sheet's rows
-unfoldable pub keyOf : (tree sheet : List ℕ) → (rows code : ℕ) → (crews : List ℕ) → (parent c : ℕ) → ℕ
-keyOf tree sheet rows code crews parent c =
-    max (rowsBound sheet rows code crews (regionAt (decode tree .regions) c .marks)) parent
+-- "A region's key is the greater of this and its parent's key.": region c's, by the landmark table's rows
+unfoldable pub keyOf : (tree table : List ℕ) → (rows code : ℕ) → (crews : List ℕ) → (parent c : ℕ) → ℕ
+keyOf tree table rows code crews parent c =
+    max (rowsBound table rows code crews (regionAt (decode tree .regions) c .marks)) parent
 
 -- the words of a search of r regions and n junctions with the keys and the first keys of some regions set
 unfoldable pub putKeys : (ℕ → ℕ) → (r n : ℕ) → List ℕ → List ℕ → List ℕ

@@ -18,7 +18,7 @@ ghost use Rattle.search_step.specs.Children.{keyOf, putKeys, Ended, Slot
 fn key(
     tree: &[u8],
     places: &[usize],
-    sheet: &[u32],
+    table: &[u32],
     rows: usize,
     code: u8,
     crews: &[u16],
@@ -26,11 +26,11 @@ fn key(
     parent: u64,
 ) -> u64
     requires { ⌜ Laid (now tree) (now places) × (c .number < length (now places))
-        × Rows (now sheet) rows × Crews (now crews) ⌝ }
+        × Rows (now table) rows × Crews (now crews) ⌝ }
     ensures { λ w. ⌜ w
-        ≡ keyOf (now (tree .entry)) (now (sheet .entry)) rows code (now (crews .entry)) parent (c .number) ⌝ }
+        ≡ keyOf (now (tree .entry)) (now (table .entry)) rows code (now (crews .entry)) parent (c .number) ⌝ }
 {
-    let x = regions::region_bound(tree, places, sheet, rows, code, crews, c);
+    let x = regions::region_bound(tree, places, table, rows, code, crews, c);
     numbers::greater64(x, parent)
 }
 
@@ -39,7 +39,7 @@ pub fn open_inner(
     tree: &[u8],
     places: &[usize],
     ends: &[usize],
-    sheet: &[u32],
+    table: &[u32],
     crews: &[u16],
     code: u8,
     words: &mut [u64],
@@ -47,11 +47,11 @@ pub fn open_inner(
     a: u64,
 )
     requires { ⌜ Laid (now tree) (now places) × Ended (now tree) (now ends)
-        × Rows (now sheet) (landmarkCount (now tree)) × Crews (now crews)
+        × Rows (now table) (landmarkCount (now tree)) × Crews (now crews)
         × Slots (now tree) (length (now places)) (junctionCount (now tree)) (now words) (r .number) ⌝ }
     ensures { λ _. ⌜ now (words .exit)
         ≡ putKeys
-        (keyOf (now (tree .entry)) (now (sheet .entry)) (landmarkCount (now (tree .entry))) code (now (crews .entry)) a)
+        (keyOf (now (tree .entry)) (now (table .entry)) (landmarkCount (now (tree .entry))) code (now (crews .entry)) a)
         (length (now (places .entry))) (junctionCount (now (tree .entry)))
         (childrenOf (decode (now (tree .entry)) .regions) (r .number))
         (set (now (words .entry)) (r .number) unqueued) ⌝ }
@@ -67,7 +67,7 @@ pub fn open_inner(
     let mut k: u8 = 0;
     while k < n {
         let child = Region { number: c as u16 };
-        let w = key(tree, places, sheet, rows, code, crews, child, a);
+        let w = key(tree, places, table, rows, code, crews, child, a);
         words[c] = w;
         words[firsts + c] = w;
         c = ends[c];

@@ -17,7 +17,7 @@ ghost use Rattle.search_rules.specs.Step.{step};
 ghost use Rattle.search_state.specs.State.{wordCount, picksIn, fsIn, boundsIn, stateOf};
 ghost use Rattle.search_step.specs.Children.{Ended};
 ghost use Rattle.search_leaf.specs.Ready.{Ready, Readied, Cached};
-ghost use Rattle.search_step.specs.Regions.{Going, Least};
+ghost use Rattle.search_step.specs.Regions.{Going, FirstLeast};
 
 // What a search has come to beside its words: the held yards, and the number of the measured ones.
 pub struct Progress {
@@ -30,7 +30,7 @@ pub fn step(
     tree: &[u8],
     places: &[usize],
     ends: &[usize],
-    sheet: &[u32],
+    table: &[u32],
     drives: &[u32],
     crews: &[u16],
     asked: Query,
@@ -39,28 +39,28 @@ pub fn step(
     progress: Progress,
     p: usize,
 ) -> Progress
-    requires { ⌜ Readied (now tree) (asked .aggregate) (asked .k) (now crews) (now drives) (now places) (now sheet)
+    requires { ⌜ Readied (now tree) (asked .aggregate) (asked .k) (now crews) (now drives) (now places) (now table)
         × Ended (now tree) (now ends)
         × ((road : List ℕ)
-        → Ready road (now tree) (asked .aggregate) (asked .k) (now crews) (now drives) (now places) (now sheet)
+        → Ready road (now tree) (asked .aggregate) (asked .k) (now crews) (now drives) (now places) (now table)
         → Going (searchOf road (now tree) (asked .aggregate) (asked .k) (now crews))
         (length (now places)) (junctionCount (now tree)) (now words)
         (stateOf (length (now places)) (junctionCount (now tree)) (now words)
         (progress .held) (now measured) (progress .measured)))
         × (length (now words) ≡ wordCount (length (now places)) (junctionCount (now tree)))
-        × Least (length (now places)) (junctionCount (now tree)) (now words) p
+        × FirstLeast (length (now places)) (junctionCount (now tree)) (now words) p
         × (256 ≤ length (now measured)) × (progress .measured ≤ 256)
         × (progress .held .count ≤ asked .k) × (asked .k ≤ 64) ⌝ }
     ensures cached { λ _. ⌜ ((road : List ℕ)
         → Ready road (now (tree .entry)) (asked .aggregate) (asked .k)
-        (now (crews .entry)) (now (drives .entry)) (now (places .entry)) (now (sheet .entry))
+        (now (crews .entry)) (now (drives .entry)) (now (places .entry)) (now (table .entry))
         → Cached (searchOf road (now (tree .entry)) (asked .aggregate) (asked .k) (now (crews .entry)))
         (picksIn (length (now (places .entry))) (junctionCount (now (tree .entry))) (now (words .exit)))
         (fsIn (length (now (places .entry))) (junctionCount (now (tree .entry))) (now (words .exit)))
         (boundsIn (length (now (places .entry))) (junctionCount (now (tree .entry))) (now (words .exit)))) ⌝ }
     ensures state { λ o. ⌜ ((road : List ℕ)
         → Ready road (now (tree .entry)) (asked .aggregate) (asked .k)
-        (now (crews .entry)) (now (drives .entry)) (now (places .entry)) (now (sheet .entry))
+        (now (crews .entry)) (now (drives .entry)) (now (places .entry)) (now (table .entry))
         → stateOf (length (now (places .entry))) (junctionCount (now (tree .entry))) (now (words .exit))
         (o .held) (now (measured .exit)) (o .measured)
         ≡ step (searchOf road (now (tree .entry)) (asked .aggregate) (asked .k) (now (crews .entry)))
@@ -76,7 +76,7 @@ pub fn step(
             tree,
             places,
             ends,
-            sheet,
+            table,
             drives,
             crews,
             asked,

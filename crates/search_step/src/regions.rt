@@ -13,14 +13,14 @@ ghost use Rattle.search_held.specs.declared.Held.{Held};
 ghost use Rattle.search_state.specs.State.{picksIn, fsIn, boundsIn, stateOf};
 ghost use Rattle.search_step.specs.Children.{Ended};
 ghost use Rattle.search_leaf.specs.Ready.{Ready, Readied, Cached};
-ghost use Rattle.search_step.specs.Regions.{Queued};
+ghost use Rattle.search_step.specs.Regions.{RegionQueued};
 
 // Takes region r, whose key is a.
 pub fn take(
     tree: &[u8],
     places: &[usize],
     ends: &[usize],
-    sheet: &[u32],
+    table: &[u32],
     drives: &[u32],
     crews: &[u16],
     asked: Query,
@@ -28,22 +28,22 @@ pub fn take(
     r: Region,
     a: u64,
 )
-    requires { ⌜ Readied (now tree) (asked .aggregate) (asked .k) (now crews) (now drives) (now places) (now sheet)
+    requires { ⌜ Readied (now tree) (asked .aggregate) (asked .k) (now crews) (now drives) (now places) (now table)
         × Ended (now tree) (now ends)
         × ((road : List ℕ)
-        → Ready road (now tree) (asked .aggregate) (asked .k) (now crews) (now drives) (now places) (now sheet)
-        → Queued (searchOf road (now tree) (asked .aggregate) (asked .k) (now crews))
+        → Ready road (now tree) (asked .aggregate) (asked .k) (now crews) (now drives) (now places) (now table)
+        → RegionQueued (searchOf road (now tree) (asked .aggregate) (asked .k) (now crews))
         (length (now places)) (junctionCount (now tree)) (now words) (r .number)) ⌝ }
     ensures cached { λ _. ⌜ ((road : List ℕ)
         → Ready road (now (tree .entry)) (asked .aggregate) (asked .k)
-        (now (crews .entry)) (now (drives .entry)) (now (places .entry)) (now (sheet .entry))
+        (now (crews .entry)) (now (drives .entry)) (now (places .entry)) (now (table .entry))
         → Cached (searchOf road (now (tree .entry)) (asked .aggregate) (asked .k) (now (crews .entry)))
         (picksIn (length (now (places .entry))) (junctionCount (now (tree .entry))) (now (words .exit)))
         (fsIn (length (now (places .entry))) (junctionCount (now (tree .entry))) (now (words .exit)))
         (boundsIn (length (now (places .entry))) (junctionCount (now (tree .entry))) (now (words .exit)))) ⌝ }
     ensures state { λ _. ⌜ ((road : List ℕ)
         → Ready road (now (tree .entry)) (asked .aggregate) (asked .k)
-        (now (crews .entry)) (now (drives .entry)) (now (places .entry)) (now (sheet .entry))
+        (now (crews .entry)) (now (drives .entry)) (now (places .entry)) (now (table .entry))
         → (held : Held) (measured : List ℕ) (count : ℕ)
         → stateOf (length (now (places .entry))) (junctionCount (now (tree .entry))) (now (words .exit))
         held measured count
@@ -53,14 +53,14 @@ pub fn take(
 {
     let f = tree::regions::fields(tree, places, r);
     if f.children == 0 {
-        search_leaf::take(tree, places, sheet, drives, crews, asked, words, r);
+        search_leaf::take(tree, places, table, drives, crews, asked, words, r);
         return;
     }
     inner::open_inner(
         tree,
         places,
         ends,
-        sheet,
+        table,
         crews,
         asked.aggregate,
         words,

@@ -12,13 +12,13 @@ use Rattle.work_area.specs.Work.{workWords, zeroed, workAfter}
 use Rattle.work_area.proofs.Zeroing.{accepted-zeroed, refused-kept}
 use Rattle.adjacency.specs.Adjacency.{countIn}
 use Rattle.road_layout.specs.Road.{junctions}
-use Rattle.query.specs.Query.{queryRefusal, queryOf, queryBook, numberOf}
+use Rattle.query.specs.Query.{queryRefusal, queryOf, queryBook, queryNumber}
 use Rattle.query.specs.declared.Query.{Query}
 use Rattle.query.specs.declared.QueryBook.{QueryBook}
 use Rattle.query.specs.declared.QueryBook.the-variants.{Asked, Refused}
 use Rattle.query.proofs.Reading.{read-asked, read-refused, number-is, its-k}
 use Rattle.search_call.specs.Call.{Found, refused, accepted, treeRefusalIn, areasRefusal, searchRefusal, searchAnswer, searchFound, resultsAfter}
-use Rattle.search_call.specs.Accepted.{Accepted}
+use Rattle.search_call.specs.Accepted.{AcceptedSearch}
 use Rattle.search_call.proofs.Refusing.{counts-agree, by-query, by-areas}
 use Rattle.search_call.proofs.Calls.{tests, found-accepted, found-refused, settled-writes, spent-keeps, refused-keeps}
 use Rattle.search_tree.specs.District.{District}
@@ -38,11 +38,11 @@ module _ {road tree adj places ends : List ℕ} (d : District road tree adj plac
   on-query = e ∙ ap (λ (x : ℕ). queryBook (queryRefusal query x) (queryOf query)) n-is
 
   -- its own turn it back
-  pub query-back : (why s : ℕ) → b ≡ Refused why → s ≡ numberOf b → (s ≡ searchRefusal road tree query work results) × (s ≡ 0 → ⊥)
+  pub query-back : (why s : ℕ) → b ≡ Refused why → s ≡ queryNumber b → (s ≡ searchRefusal road tree query work results) × (s ≡ 0 → ⊥)
   query-back why s p h =
       let x = read-refused (queryRefusal query (junctions road)) (queryOf query) why (sym on-query ∙ p) in
       let q : s ≡ queryRefusal query (junctions road) =
-      h ∙ ap numberOf on-query ∙ number-is (queryRefusal query (junctions road)) (queryOf query) in
+      h ∙ ap queryNumber on-query ∙ number-is (queryRefusal query (junctions road)) (queryOf query) in
       (q ∙ sym (by-query road tree query work results (d .roads) tree-none (omega (arith, x .0, x .1))), λ z. omega (arith, q, x .0, x .1))
 
   module _ (asked : Query) (p : b ≡ Asked asked) where
@@ -80,7 +80,7 @@ module _ (road tree query : List ℕ) (work results : List ℕ) (why : ℕ) wher
     none : searchRefusal road tree query (length work) (length results) ≡ 0
     none = sym e ∙ z
 
-    pub taken-facts : Accepted road tree query (length work) (length results)
+    pub taken-facts : AcceptedSearch road tree query (length work) (length results)
     taken-facts = tests road tree query (length work) (length results) none
 
     pub taken-found : (f : Found) → f ≡ accepted (searchAnswer road tree query) → f ≡ searchFound road tree query (length work) (length results)

@@ -18,12 +18,12 @@ use Rattle.query.specs.declared.Query.{Query}
 use Rattle.query.proofs.Reading.{its-aggregate, its-k, its-limit, its-crews}
 use Rattle.search_rules.specs.Books.{searchOf, Passed}
 use Rattle.search_rules.specs.Run.{Answer, answer}
-use Rattle.search_bounds.specs.Rows.{sheetWords}
-use Rattle.search_bounds.specs.Sheet.{rootPlaces}
-use Rattle.search_bounds.proofs.Filled.{sheet-filled}
+use Rattle.search_bounds.specs.Rows.{tableWords}
+use Rattle.search_bounds.specs.Tables.{rootPlaces}
+use Rattle.search_bounds.proofs.Filled.{table-filled}
 use Rattle.search_leaf.specs.Ready.{Ready}
 use Rattle.search_call.specs.Call.{searchAnswer}
-use Rattle.search_call.specs.Accepted.{Accepted}
+use Rattle.search_call.specs.Accepted.{AcceptedSearch}
 use Rattle.search_tree.specs.District.{District}
 
 -- what every element says of a book
@@ -59,7 +59,7 @@ module _ (work part : List ℕ) (size : length part ≡ workWords) where
 -- ---- the call
 
 module _ {road tree adj places ends query : List ℕ} {work results : ℕ} (d : District road tree adj places ends)
-    (a : Accepted road tree query work results) where
+    (a : AcceptedSearch road tree query work results) where
   tree-laid : TreeLayout tree
   tree-laid = d .laid .layout
 
@@ -96,10 +96,10 @@ module _ {road tree adj places ends query : List ℕ} {work results : ℕ} (d : 
         passed = rw crews-are (a .books bytes)
 
         -- a row of distances for each of the root's landmarks, and for each crew
-        pub rows-need : (sheet drives : ℕ) → sheet ≡ sheetWords → drives ≡ workWords
+        pub rows-need : (table drives : ℕ) → table ≡ tableWords → drives ≡ workWords
             → IsAdjacency adj × TreeLayout tree × (junctionCount tree ≡ countIn adj) × Within (countIn adj) (take q copied)
-            × (sheet ≡ sheetWords) × (1024 * length (take q copied) ≤ drives)
-        rows-need sheet drives e f = (
+            × (table ≡ tableWords) × (1024 * length (take q copied) ≤ drives)
+        rows-need table drives e f = (
           record { book = road; adjacent = d .adjacent },
           tree-laid,
           d .counts ∙ sym (d .adjacent .count),
@@ -108,18 +108,18 @@ module _ {road tree adj places ends query : List ℕ} {work results : ℕ} (d : 
           omega (arith, passed .few),
         )
 
-        pub ready : (drives part sheet : List ℕ) → drives ≡ part → Rowed road (take q copied) part → length sheet ≡ sheetWords
-            → Rowed road (rootPlaces tree) sheet → Ready road tree (asked .aggregate) (asked .k) (take q copied) drives places sheet
-        ready drives part sheet e driven four rowed = record {
+        pub ready : (drives part table : List ℕ) → drives ≡ part → Rowed road (take q copied) part → length table ≡ tableWords
+            → Rowed road (rootPlaces tree) table → Ready road tree (asked .aggregate) (asked .k) (take q copied) drives places table
+        ready drives part table e driven four rowed = record {
           passed = passed;
           driven = rw e driven;
           laid = d .laid;
-          sheeted = sheet-filled road tree tree-laid (asked .aggregate) (asked .k) (take q copied) sheet four rowed;
+          tableed = table-filled road tree tree-laid (asked .aggregate) (asked .k) (take q copied) table four rowed;
         }
 
         -- and what the steps come to is the call's answer
-        pub answered : (drives part sheet : List ℕ) → drives ≡ part → Rowed road (take q copied) part → length sheet ≡ sheetWords
-            → Rowed road (rootPlaces tree) sheet → (o : Answer)
-            → (Ready road tree (asked .aggregate) (asked .k) (take q copied) drives places sheet
+        pub answered : (drives part table : List ℕ) → drives ≡ part → Rowed road (take q copied) part → length table ≡ tableWords
+            → Rowed road (rootPlaces tree) table → (o : Answer)
+            → (Ready road tree (asked .aggregate) (asked .k) (take q copied) drives places table
             → o ≡ answer (searchOf road tree (asked .aggregate) (asked .k) (take q copied)) (asked .limit)) → o ≡ searchAnswer road tree query
-        answered drives part sheet e driven four rowed o f = f (ready drives part sheet e driven four rowed) ∙ same-search
+        answered drives part table e driven four rowed o f = f (ready drives part table e driven four rowed) ∙ same-search

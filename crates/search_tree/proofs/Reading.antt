@@ -7,7 +7,7 @@ use lib.ListN.{length, take}
 use lib.Seq.{length-take-le}
 use Rattle.book.proofs.Choosing.{first-earlier, first-later}
 use Rattle.road_layout.specs.Road.{junctions, roadCount}
-use Rattle.road_layout.specs.Layout.{told, numberOf}
+use Rattle.road_layout.specs.Layout.{told, roadNumber}
 use Rattle.road_layout.specs.declared.RoadBook.{RoadBook}
 use Rattle.road_layout.specs.declared.RoadBook.the-variants.{Sound, Refused}
 use Rattle.road_layout.proofs.Reading.{number-told}
@@ -20,7 +20,7 @@ use Rattle.tree_layout.specs.Reading.{headerOf}
 use Rattle.tree_layout.specs.declared.Header.{Header}
 use Rattle.tree_layout.proofs.Reading.{header-junctions, header-regions}
 use Rattle.tree.specs.Shape.{treeRefusal}
-use Rattle.tree.specs.Answer.{treeOf, numberOf as tree-number, placesAfter, endsAfter}
+use Rattle.tree.specs.Answer.{treeOf, treeNumber as tree-number, placesAfter, endsAfter}
 use Rattle.tree.specs.declared.Tree.{Tree}
 use Rattle.tree.specs.declared.Tree.the-variants.{Shaped, Refused as tree-refused}
 use Rattle.tree.proofs.Answering.{shaped-answer, shaped-found, number-is, accepted-laid, accepted-room, accepted-ends}
@@ -56,11 +56,11 @@ module _ (tree : List ℕ) (n : ℕ) (o : Tree) (e : o ≡ treeOf tree) where
 
 module _ (road tree : List ℕ) (o : RoadBook) (e : o ≡ told (roadRefusal road) (junctions road) (roadCount road)) where
   -- the road book's turn it back
-  pub road-back : (why s : ℕ) → o ≡ Refused why → s ≡ numberOf o → (s ≡ districtRefusal road tree) × (s ≡ 0 → ⊥)
+  pub road-back : (why s : ℕ) → o ≡ Refused why → s ≡ roadNumber o → (s ≡ districtRefusal road tree) × (s ≡ 0 → ⊥)
   unfolding districtRefusal
   road-back why s f g =
       let q = read-refused road o why e f in
-      let n : s ≡ roadRefusal road = g ∙ ap numberOf e ∙ number-told (roadRefusal road) (junctions road) (roadCount road) in
+      let n : s ≡ roadRefusal road = g ∙ ap roadNumber e ∙ number-told (roadRefusal road) (junctions road) (roadCount road) in
       (n ∙ sym (first-earlier (roadRefusal road) _ (omega (arith, q .0, q .1))), λ z. omega (arith, n, q .0, q .1))
 
   -- the tree book's tests are left

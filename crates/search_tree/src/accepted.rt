@@ -1,7 +1,7 @@
 // A call that no test turns back: its rows, its steps, and what it reports.
 use crate::Found;
 use query::Query;
-use search_bounds::sheet;
+use search_bounds::table;
 use search_run::Outcome;
 ghost use mathlib.Core.Path.{_≡_};
 ghost use mathlib.Core.List.{List};
@@ -11,7 +11,7 @@ ghost use Rattle.work_area.specs.Work.{workWords, zeroed};
 ghost use Rattle.query.specs.Query.{queryOf};
 ghost use Rattle.search_run.specs.Answers.{answerOf};
 ghost use Rattle.search_call.specs.Call.{accepted, searchAnswer};
-ghost use Rattle.search_call.specs.Accepted.{Accepted};
+ghost use Rattle.search_call.specs.Accepted.{AcceptedSearch};
 ghost use Rattle.search_tree.specs.District.{District, IsDistrict};
 ghost use Rattle.search_tree.specs.Found.{foundOf, writtenBy};
 
@@ -59,7 +59,7 @@ pub fn search(
 ) -> Found
     requires { ⌜ IsDistrict (now tree) (now adj) (now places) (now ends) × (asked ≡ queryOf (now query))
         × ((road : List ℕ) → District road (now tree) (now adj) (now places) (now ends)
-        → Accepted road (now tree) (now query) (length (now work)) (length (now results))) ⌝ }
+        → AcceptedSearch road (now tree) (now query) (length (now work)) (length (now results))) ⌝ }
     ensures found { λ r. ⌜ ((road : List ℕ)
         → District road (now (tree .entry)) (now (adj .entry)) (now (places .entry)) (now (ends .entry))
         → foundOf r ≡ accepted (searchAnswer road (now (tree .entry)) (now (query .entry)))) ⌝ }
@@ -72,19 +72,19 @@ pub fn search(
     let mut crews = [0u16; CREWS];
     query::crews(query, &mut crews);
     let q = asked.crews as usize;
-    let mut sheet = [0u32; sheet::WORDS];
-    sheet::prepare(
+    let mut table = [0u32; table::WORDS];
+    table::prepare(
         adj,
         tree,
         &crews[..q],
-        &mut sheet,
+        &mut table,
         &mut work[..work_area::WORDS],
     );
     let o = search_run::run(
         tree,
         places,
         ends,
-        &sheet,
+        &table,
         &work[..work_area::WORDS],
         &crews[..q],
         asked,

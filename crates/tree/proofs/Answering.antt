@@ -10,26 +10,26 @@ use lib.Dec.{eqb}
 use Rattle.book.proofs.Choosing.{choose-yes, choose-no, passes, fails, true-T, false-T, first-later, first-earlier, first-none}
 use Rattle.book.proofs.Lists.{eq→eqb, ne→neqb}
 use Rattle.tree_layout.specs.Decode.{regionCount, placeOf, decode}
-use Rattle.tree_layout.specs.Refusal.{layoutRefusal}
+use Rattle.tree_layout.specs.Refusal.{treeLayoutRefusal}
 use Rattle.tree_layout.specs.Facts.{TreeLayout}
 use Rattle.tree_layout.proofs.Accepting.{layout-facts}
 use Rattle.tree_layout.proofs.Reading.{refused-answer as layout-answer}
 use Rattle.tree.specs.Shape.{shaped, treeRefusal}
 use Rattle.tree.specs.Yards.{endOf}
 use Rattle.tree.specs.Arrays.{overwrite, Laid}
-use Rattle.tree_layout.specs.Reading.{headerOf, treeBook, numberOf as layout-number}
+use Rattle.tree_layout.specs.Reading.{headerOf, treeBook, layoutNumber as layout-number}
 use Rattle.tree_layout.specs.declared.Header.{Header}
 use Rattle.tree_layout.specs.declared.TreeBook.{TreeBook}
 use Rattle.tree_layout.specs.declared.TreeBook.the-variants.{Refused as layout-refused}
 use Rattle.tree_layout.proofs.Refusing.{refused-number}
 use Rattle.tree.specs.declared.Tree.{Tree}
 use Rattle.tree.specs.declared.Tree.the-variants.{Shaped, Refused}
-use Rattle.tree.specs.Answer.{answer, numberOf, treeOf, placesAfter, endsAfter}
+use Rattle.tree.specs.Answer.{treeAnswer, treeNumber, treeOf, placesAfter, endsAfter}
 use Rattle.tree.proofs.Filling.{overwrite-length, overwrite-new}
 
 -- ---- a book that the layout's tests accept
 
-module _ (b : List ℕ) (ok : layoutRefusal b ≡ 0) where
+module _ (b : List ℕ) (ok : treeLayoutRefusal b ≡ 0) where
   layout : TreeLayout b
   layout = layout-facts b ok
 
@@ -38,11 +38,11 @@ module _ (b : List ℕ) (ok : layoutRefusal b ≡ 0) where
 
   unshaped-is : shaped (decode b) ≡ false → treeRefusal b ≡ 7
   unfolding treeRefusal
-  unshaped-is t = first-later (layoutRefusal b) _ ok ∙ fails (shaped (decode b)) 7 0 (false-T t)
+  unshaped-is t = first-later (treeLayoutRefusal b) _ ok ∙ fails (shaped (decode b)) 7 0 (false-T t)
 
   pub shaped-is : shaped (decode b) ≡ true → treeRefusal b ≡ 0
   unfolding treeRefusal
-  shaped-is t = first-later (layoutRefusal b) _ ok ∙ passes (shaped (decode b)) 7 0 (true-T t)
+  shaped-is t = first-later (treeLayoutRefusal b) _ ok ∙ passes (shaped (decode b)) 7 0 (true-T t)
 
   module _ (ps : List ℕ) (wide : 511 ≤ length ps) where
     pub places-need : TreeLayout b × (regionCount b ≤ length ps)
@@ -66,7 +66,7 @@ module _ (b : List ℕ) (ok : layoutRefusal b ≡ 0) where
 
       places-are : qs ≡ placesAfter b ps
       unfolding placesAfter
-      places-are = filled ∙ sym (choose-yes (eqb (layoutRefusal b) 0) (overwrite (placeOf b) (regionCount b) ps) ps (eq→eqb (layoutRefusal b) 0 ok))
+      places-are = filled ∙ sym (choose-yes (eqb (treeLayoutRefusal b) 0) (overwrite (placeOf b) (regionCount b) ps) ps (eq→eqb (treeLayoutRefusal b) 0 ok))
 
       module _ (es : List ℕ) (wider : 511 ≤ length es) where
         -- a tree without the shape
@@ -101,14 +101,15 @@ module _ (b : List ℕ) (ok : layoutRefusal b ≡ 0) where
 
 -- ---- one that they refuse
 
-module _ (b : List ℕ) (why : ℕ) (e : layoutRefusal b ≡ why) (some : 1 ≤ why) where
+module _ (b : List ℕ) (why : ℕ) (e : treeLayoutRefusal b ≡ why) (some : 1 ≤ why) where
   pub refused-is : treeRefusal b ≡ why
   unfolding treeRefusal
-  refused-is = first-earlier (layoutRefusal b) _ (omega arith) ∙ e
+  refused-is = first-earlier (treeLayoutRefusal b) _ (omega arith) ∙ e
 
   pub refused-places : (ps : List ℕ) → ps ≡ placesAfter b ps
   unfolding placesAfter
-  refused-places ps = sym (choose-no (eqb (layoutRefusal b) 0) (overwrite (placeOf b) (regionCount b) ps) ps (ne→neqb (layoutRefusal b) 0 (λ z. omega arith)))
+  refused-places ps = sym (choose-no (eqb (treeLayoutRefusal b) 0) (overwrite (placeOf b) (regionCount b) ps) ps (ne→neqb (treeLayoutRefusal b) 0 (λ z. omega
+      arith)))
 
   pub refused-ends : (es : List ℕ) → es ≡ endsAfter b es
   unfolding endsAfter
@@ -118,22 +119,23 @@ module _ (b : List ℕ) (why : ℕ) (e : layoutRefusal b ≡ why) (some : 1 ≤ 
 -- ---- the answer
 
 pub unshaped-answer : (b : List ℕ) (why : ℕ) → why ≡ treeRefusal b → (why ≡ 0 → ⊥) → Refused why ≡ treeOf b
-unfolding treeOf answer
-unshaped-answer b why e h = go why h ∙ ap (λ (n : ℕ). answer n (headerOf b)) e
+unfolding treeOf treeAnswer
+unshaped-answer b why e h = go why h ∙ ap (λ (n : ℕ). treeAnswer n (headerOf b)) e
   where
-    go : (n : ℕ) → (n ≡ 0 → ⊥) → Refused n ≡ answer n (headerOf b)
+    go : (n : ℕ) → (n ≡ 0 → ⊥) → Refused n ≡ treeAnswer n (headerOf b)
     go zero h = absurd (h refl)
     go (suc n) h = refl
 
 pub shaped-answer : (b : List ℕ) (why : ℕ) (h : Header) → why ≡ treeRefusal b → why ≡ 0 → headerOf b ≡ h → Shaped h ≡ treeOf b
-unfolding treeOf answer
+unfolding treeOf treeAnswer
 shaped-answer b why h e z w = rw (← e, z, w) refl
 
 -- a book that the layout's reader refuses
-pub refused-answer : (b ps es : List ℕ) (o : TreeBook) (why r : ℕ) → o ≡ treeBook (layoutRefusal b) (headerOf b) → o ≡ layout-refused why → r ≡ layout-number o
+pub refused-answer : (b ps es : List ℕ) (o : TreeBook) (why r : ℕ) → o ≡ treeBook (treeLayoutRefusal b) (headerOf b) → o ≡ layout-refused why
+    → r ≡ layout-number o
     → (Refused r ≡ treeOf b) × ((ps ≡ placesAfter b ps) × (es ≡ endsAfter b es))
 refused-answer b ps es o why r e f g =
-    let n = refused-number (layoutRefusal b) (headerOf b) why (sym e ∙ f) in
+    let n = refused-number (treeLayoutRefusal b) (headerOf b) why (sym e ∙ f) in
     let z : r ≡ why = g ∙ (ap layout-number f ∙ layout-answer why) in (
       unshaped-answer b r (z ∙ sym (refused-is b why (n .0) (n .1))) (λ q. omega (arith, n .1)),
       (
@@ -145,8 +147,8 @@ refused-answer b ps es o why r e f g =
 
 -- ---- an accepted book, for those who read it
 
-shaped-number : (n : ℕ) (h found : Header) → answer n h ≡ Shaped found → (n ≡ 0) × (h ≡ found)
-unfolding answer
+shaped-number : (n : ℕ) (h found : Header) → treeAnswer n h ≡ Shaped found → (n ≡ 0) × (h ≡ found)
+unfolding treeAnswer
 shaped-number zero h found e = (refl, cc)
 shaped-number (suc n) h found e = let z : _≡_ {A = ℕ} 0 1 = cc in absurd (omega arith)
 
@@ -156,22 +158,22 @@ unfolding treeOf
 shaped-found b o h e f = shaped-number (treeRefusal b) (headerOf b) h (sym e ∙ f)
 
 module _ (b : List ℕ) (ok : treeRefusal b ≡ 0) where
-  laid-out : layoutRefusal b ≡ 0
+  laid-out : treeLayoutRefusal b ≡ 0
   unfolding treeRefusal
-  laid-out = first-none (layoutRefusal b) _ ok .0
+  laid-out = first-none (treeLayoutRefusal b) _ ok .0
 
   -- the first entries of the filled arrays, one for each region: places
   pub accepted-laid : (n : ℕ) → n ≡ regionCount b → (old new : List ℕ) → 511 ≤ length old → new ≡ placesAfter b old → Laid b (take n new)
   unfolding placesAfter
   accepted-laid n e old new h z =
-      prefix-laid b laid-out old h n e new (z ∙ choose-yes (eqb (layoutRefusal b) 0) (overwrite (placeOf b) (regionCount b) old) old (eq→eqb
-      (layoutRefusal b) 0 laid-out))
+      prefix-laid b laid-out old h n e new (z ∙ choose-yes (eqb (treeLayoutRefusal b) 0) (overwrite (placeOf b) (regionCount b) old) old (eq→eqb
+      (treeLayoutRefusal b) 0 laid-out))
 
   pub accepted-slots : (n : ℕ) → n ≡ regionCount b → (old new : List ℕ) → 511 ≤ length old → new ≡ placesAfter b old → n ≤ length new
   unfolding placesAfter
   accepted-slots n e old new h z =
-      prefix-room b laid-out old h n e new (z ∙ choose-yes (eqb (layoutRefusal b) 0) (overwrite (placeOf b) (regionCount b) old) old (eq→eqb
-      (layoutRefusal b) 0 laid-out))
+      prefix-room b laid-out old h n e new (z ∙ choose-yes (eqb (treeLayoutRefusal b) 0) (overwrite (placeOf b) (regionCount b) old) old (eq→eqb
+      (treeLayoutRefusal b) 0 laid-out))
 
   few : regionCount b ≤ 511
   few = layout-facts b laid-out .regions .1
@@ -190,10 +192,10 @@ module _ (b : List ℕ) (ok : treeRefusal b ≡ 0) where
       getD-take n new j 0 k ∙ rw (ends-are old new z) (overwrite-new (endOf (decode b .regions)) old (regionCount b) j (omega arith) (omega (arith, few)))
 
 -- the number that an answer has
-pub number-is : (b : List ℕ) (o : Tree) → o ≡ treeOf b → numberOf o ≡ treeRefusal b
-unfolding treeOf answer numberOf
-number-is b o e = ap numberOf e ∙ go (treeRefusal b)
+pub number-is : (b : List ℕ) (o : Tree) → o ≡ treeOf b → treeNumber o ≡ treeRefusal b
+unfolding treeOf treeAnswer treeNumber
+number-is b o e = ap treeNumber e ∙ go (treeRefusal b)
   where
-    go : (n : ℕ) → numberOf (answer n (headerOf b)) ≡ n
+    go : (n : ℕ) → treeNumber (treeAnswer n (headerOf b)) ≡ n
     go zero = refl
     go (suc n) = refl

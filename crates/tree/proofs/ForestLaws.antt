@@ -15,7 +15,7 @@ use Rattle.book.proofs.Lists.{eq→eqb, ne→neqb, distinct-append}
 use Rattle.tree_layout.specs.Values.{Region, regionAt}
 use Rattle.tree_leaf.specs.Leaf.{leafOk, firstList}
 use Rattle.tree_leaf.specs.Leaf.{yardsIn}
-use Rattle.tree.specs.Yards.{endOf, starts, hops, childrenOf, ownYards, yardsFrom, sumFrom, oneLeaf, oneInner}
+use Rattle.tree.specs.Yards.{endOf, starts, hops, childrenOf, ownYards, leafYardsFrom, sumFrom, oneLeaf, oneInner}
 use Rattle.tree_leaf.proofs.Named.{yards-length, first-range, first-once}
 use Rattle.tree.proofs.Forest.{Forest, none, leaf, wrap, join, rise, fits, Rooted}
 
@@ -31,15 +31,15 @@ pub record Sane (rs : List Region) : Type 0 where
 module _ (rs : List Region) where
   -- The yards of the leaves from number i up to e.
   unfoldable pub span : ℕ → ℕ → List ℕ
-  span i e = yardsFrom rs (e - i) i
+  span i e = leafYardsFrom rs (e - i) i
 
-  yards-add : (a b i : ℕ) → yardsFrom rs (a + b) i ≡ yardsFrom rs a i ++ yardsFrom rs b (i + a)
-  unfolding yardsFrom
+  yards-add : (a b i : ℕ) → leafYardsFrom rs (a + b) i ≡ leafYardsFrom rs a i ++ leafYardsFrom rs b (i + a)
+  unfolding leafYardsFrom
   yards-add zero b i = rw (let e : 0 + b ≡ b = omega arith in e, let e : i + 0 ≡ i = omega arith in e) refl
   yards-add (suc a) b i =
       rw (let e : suc a + b ≡ suc (a + b) = omega arith in e, let e : i + suc a ≡ suc i + a = omega arith in e)
       (ap (λ l. ownYards (regionAt rs i) ++ l) (yards-add a b (suc i))
-      ∙ sym (append-assoc (ownYards (regionAt rs i)) (yardsFrom rs a (suc i)) (yardsFrom rs b (suc i + a))))
+      ∙ sym (append-assoc (ownYards (regionAt rs i)) (leafYardsFrom rs a (suc i)) (leafYardsFrom rs b (suc i + a))))
 
   pub span-split : (i m e : ℕ) → i ≤ m → m ≤ e → span i e ≡ span i m ++ span m e
   unfolding span
@@ -49,11 +49,11 @@ module _ (rs : List Region) where
       rw x (yards-add (m - i) (e - m) i ∙ rw y refl)
 
   pub span-none : (i : ℕ) → span i i ≡ []
-  unfolding span yardsFrom
+  unfolding span leafYardsFrom
   span-none i = rw (let e : i - i ≡ 0 = omega arith in e) refl
 
   pub span-first : (i e : ℕ) → i < e → span i e ≡ ownYards (regionAt rs i) ++ span (suc i) e
-  unfolding span yardsFrom
+  unfolding span leafYardsFrom
   span-first i e h = rw (let x : e - i ≡ suc (e - suc i) = omega arith in x) refl
 
   pub span-mem : (i e c m : ℕ) (y : ℕ) → i ≤ c → c ≤ m → m ≤ e → Mem y (span c m) → Mem y (span i e)

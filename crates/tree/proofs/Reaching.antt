@@ -9,7 +9,7 @@ use lib.Dec.{ltb, not-T, ltb→lt, lt→ltb}
 use Rattle.book.specs.Choose.{choose}
 use Rattle.book.proofs.Choosing.{choose-case, choose-yes, choose-no}
 use Rattle.tree_layout.specs.Values.{Region}
-use Rattle.tree.specs.Yards.{endOf, hops, gather, reached, numbers, holders, levelBy, levelOf}
+use Rattle.tree.specs.Yards.{endOf, hops, gather, regionsReached, numbers, holders, levelBy, levelOf}
 use Rattle.tree.specs.Facts.{Preorder, none as ended, tree}
 use Rattle.tree.proofs.Shaping.{EndsMeet, placed, children-are}
 
@@ -37,8 +37,8 @@ module _ (rs : List Region) where
   up (tree h c g k) = omega (arith, up g, up k)
 
   -- what is reached from subtrees' roots are the numbers from the first root up to the next after them
-  pub reached-all : EndsMeet rs → {l i e : ℕ} {ks : List ℕ} → Preorder rs l i ks e → gather (reached rs l) ks ≡ numbers (e - i) i
-  unfolding gather reached numbers
+  pub reached-all : EndsMeet rs → {l i e : ℕ} {ks : List ℕ} → Preorder rs l i ks e → gather (regionsReached rs l) ks ≡ numbers (e - i) i
+  unfolding gather regionsReached numbers
   reached-all f (ended {i = i}) = rw (let z : i - i ≡ 0 = omega arith in z) refl
   reached-all f (tree {levels = l} {i = i} {m = m} {next = e} {children = cs} {roots = ks} h c g k) =
       let z = children-are rs f i cs (record { count = c; levels = l; next = m; subtrees = g }) in

@@ -10,7 +10,7 @@ use borrow.Author.Tests.{eq-eqb, ne-eqb}
 use lib.Dec.{eqb}
 use Rattle.tree_layout.specs.Accessors.{fieldsAt}
 use Rattle.tree_layout.specs.Values.{Region, regionAt}
-use Rattle.tree_layout.specs.Decode.{readRegion, sizeAt, landmarkCount, placeOf, decode, yardCount}
+use Rattle.tree_layout.specs.Decode.{readRegion, sizeAt, landmarkCount, placeOf, decode, treeYardCount}
 use Rattle.tree_layout.proofs.Places.{decode-yards}
 use Rattle.tree_leaf.specs.Leaf.{leafOk}
 use Rattle.tree.specs.Shape.{childFits, siblings, subtree, shaped}
@@ -133,7 +133,7 @@ module _ (b places : List ℕ) (laid : Laid b places) where
   unfolding shaped
   not-all x z h = simp (ne-eqb _ _ (λ e. h (z ∙ (e ∙ laid-length b places laid))))
 
-  pub takes-all : (x : ℕ) → x ≡ subtree rs 8 0 → x ≡ length places → (f : Fields) → f ≡ fieldsOf b 0 → (y : ℕ) → y ≡ yardCount b → eqb
+  pub takes-all : (x : ℕ) → x ≡ subtree rs 8 0 → x ≡ length places → (f : Fields) → f ≡ fieldsOf b 0 → (y : ℕ) → y ≡ treeYardCount b → eqb
       (f .yards) y ≡ shaped (decode b)
   unfolding shaped
   takes-all x z h f e y q =

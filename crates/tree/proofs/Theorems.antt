@@ -11,7 +11,7 @@ use lib.Dec.{T}
 use Rattle.tree_layout.specs.Values.{Region, Tree, regionAt}
 use Rattle.book.proofs.Choosing.{passes, passed, first-none, first-later}
 use Rattle.tree_layout.specs.Decode.{decode}
-use Rattle.tree_layout.specs.Refusal.{layoutRefusal}
+use Rattle.tree_layout.specs.Refusal.{treeLayoutRefusal}
 use Rattle.tree_layout.specs.Facts.{TreeLayout, RegionValues}
 use Rattle.tree_layout.proofs.Accepting.{layout-facts, facts-layout}
 use Rattle.tree_layout.proofs.Places.{decode-length, decode-junctions, decode-yards, decode-landmarks}
@@ -20,7 +20,8 @@ use Rattle.tree_layout.proofs.Formed.{decode-formed, at-mem}
 use Rattle.tree_leaf.specs.Leaf.{firstList}
 use Rattle.tree.specs.Shape.{shaped, treeRefusal}
 use Rattle.tree_leaf.specs.Leaf.{yardsIn}
-use Rattle.tree.specs.Yards.{endOf, starts, hops, childrenOf, gather, reached, ownYards, yardsFrom, yardsBelow, treeYards, sumFrom, oneLeaf, oneInner}
+use Rattle.tree.specs.Yards.{endOf, starts, hops, childrenOf, gather, regionsReached, ownYards, leafYardsFrom, yardsBelow, treeYards, sumFrom, oneLeaf}
+use Rattle.tree.specs.Yards.{oneInner}
 use Rattle.tree.specs.Yards.{leaves, inners}
 use Rattle.tree.specs.Facts.{Preorder}
 use Rattle.tree.specs.Theorems.{TreeFacts, LeafOf, Regions, Holdings, Whole}
@@ -64,14 +65,14 @@ layout-there b l = rw (decode-length b) (l .regions .0)
 pub tree-facts : (b : List ℕ) → treeRefusal b ≡ 0 → TreeFacts b
 unfolding treeRefusal
 tree-facts b e =
-    let p = first-none (layoutRefusal b) _ e in
+    let p = first-none (treeLayoutRefusal b) _ e in
     let l = layout-facts b (p .0) in
     let q = passed (shaped (decode b)) 7 0 (p .1) (omega arith) in
     record { layout = l; shape = shape-facts (decode b) (layout-sane b l) (layout-there b l) (q .0) }
 
 pub facts-tree : (b : List ℕ) → TreeFacts b → treeRefusal b ≡ 0
 unfolding treeRefusal
-facts-tree b f = first-later (layoutRefusal b) _ (facts-layout b (f .layout)) ∙ passes (shaped (decode b)) 7 0 (facts-shaped (decode b) (f .shape))
+facts-tree b f = first-later (treeLayoutRefusal b) _ (facts-layout b (f .layout)) ∙ passes (shaped (decode b)) 7 0 (facts-shaped (decode b) (f .shape))
 
 -- a tree book is accepted if and only if the facts of "Tree book" and "Tree shape" hold of it
 pub accepted-iff : (b : List ℕ) → (treeRefusal b ≡ 0) ↔ TreeFacts b
@@ -95,12 +96,12 @@ module _ (rs : List Region) (sane : Sane rs) where
       rw (w, z, gathered k) (sym (span-split rs i m e (omega (arith, rise rs g)) (omega (arith, rise rs k))))
 
   -- a yard of some regions is one of their own yards
-  yard-from : (n i y : ℕ) → Mem y (yardsFrom rs n i) → (j : ℕ) × (i ≤ j) × (j < i + n) × Mem y (ownYards (regionAt rs j))
-  unfolding yardsFrom
+  yard-from : (n i y : ℕ) → Mem y (leafYardsFrom rs n i) → (j : ℕ) × (i ≤ j) × (j < i + n) × Mem y (ownYards (regionAt rs j))
+  unfolding leafYardsFrom
   yard-from zero i y k = absurd (not-nil k)
   yard-from (suc n) i y k = go (append-cases (ownYards (regionAt rs i)) k) (λ j. yard-from n (suc i) y j)
     where
-      go : Mem y (ownYards (regionAt rs i)) ⊎ Mem y (yardsFrom rs n (suc i)) → (Mem y (yardsFrom rs n (suc i))
+      go : Mem y (ownYards (regionAt rs i)) ⊎ Mem y (leafYardsFrom rs n (suc i)) → (Mem y (leafYardsFrom rs n (suc i))
           → (j : ℕ) × (suc i ≤ j) × (j < suc i + n) × Mem y (ownYards (regionAt rs j))) → (j : ℕ) × (i ≤ j) × (j < i + suc n) × Mem y (ownYards (regionAt rs j))
       go (inl j) rec = (i, omega arith, omega arith, j)
       go (inr j) rec = let x = rec j in (x .0, omega (arith, x .1), omega (arith, x .2), x .3)
@@ -145,7 +146,7 @@ module _ (t : Tree) (sane : Sane (t .regions)) (there : 1 ≤ length (t .regions
   pub tree-regions : Regions rs
   unfolding gather
   tree-regions = record {
-    each-once = sym (append-nil (reached rs 8 0)) ∙ (reached-all rs ends-at one-tree ∙ rw (let e : length rs - 0 ≡ length rs = omega arith in e) refl);
+    each-once = sym (append-nil (regionsReached rs 8 0)) ∙ (reached-all rs ends-at one-tree ∙ rw (let e : length rs - 0 ≡ length rs = omega arith in e) refl);
     above = λ r c h k. let x = child rs sane root r c (omega arith) h k in (x .0, omega (arith, x .1, visit rs sane root r (omega arith) h .down));
     parent = parent-of;
     one-parent = λ r s c h k i j. parent rs sane root r s c (omega arith) h (omega arith) k i j;
@@ -245,7 +246,7 @@ module _ (t : Tree) (sane : Sane (t .regions)) (there : 1 ≤ length (t .regions
 pub accepted-whole : (b : List ℕ) → treeRefusal b ≡ 0 → Whole (decode b)
 unfolding treeRefusal
 accepted-whole b e =
-    let p = first-none (layoutRefusal b) _ e in
+    let p = first-none (treeLayoutRefusal b) _ e in
     let l = layout-facts b (p .0) in
     let q = passed (shaped (decode b)) 7 0 (p .1) (omega arith) in
     let h = layout-there b l in

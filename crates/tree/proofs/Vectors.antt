@@ -9,13 +9,14 @@ use Rattle.book.specs.Bytes.{u8At, u16At, u32At}
 use Rattle.book.specs.Open.{openRefusal}
 use Rattle.tree_layout.specs.Values.{leafMark, innerMark, firstDistance, lastFrom, noRegion, regionAt}
 use Rattle.tree_layout.specs.Decode.{elementAt, readList, listPart, readLists, readSpans, readMarks, markSize, recordSize, sizeAt, readRegion, readRegions}
-use Rattle.tree_layout.specs.Decode.{junctionCount, regionCount, yardCount, landmarkCount, decode}
-use Rattle.tree_layout.specs.Refusal.{between, all, recordsOk, near, comes, risesFrom, rises, listOk, markOk, childrenOk, regionOk, valuesOk, layoutRefusal}
+use Rattle.tree_layout.specs.Decode.{junctionCount, regionCount, treeYardCount, landmarkCount, decode}
+use Rattle.tree_layout.specs.Refusal.{between, all, recordsOk, near, comes, risesFrom, listRises, listOk, markOk, childrenOk, regionOk, valuesOk}
+use Rattle.tree_layout.specs.Refusal.{treeLayoutRefusal}
 use Rattle.tree_layout.proofs.Vectors.{netN, fiveRegions}
 use Rattle.tree_leaf.specs.Leaf.{names, once, inRange, namedBy, firstList, sameYards, agreeing, leafOk}
 use Rattle.tree.specs.Shape.{childFits, siblings, subtree, shaped, treeRefusal}
 use Rattle.tree_leaf.specs.Leaf.{yardsIn}
-use Rattle.tree.specs.Yards.{endOf, starts, childrenOf, ownYards, yardsFrom, yardsBelow, sumFrom, oneLeaf, oneInner, leaves, inners}
+use Rattle.tree.specs.Yards.{endOf, starts, childrenOf, ownYards, leafYardsFrom, yardsBelow, sumFrom, oneLeaf, oneInner, leaves, inners}
 
 -- net N's tree with two landmarks, 0 and 2
 unfoldable pub twoLandmarks : List ℕ
@@ -39,8 +40,10 @@ ladder n = (0 ∷ 0 ∷ ((23 + 32 * n) / 256) ∷ ((23 + 32 * n) % 256) ∷ 1 �
 -- unchanged
 pub row0 : map treeRefusal ((netN) ∷ (fiveRegions) ∷ (twoLandmarks) ∷ []) ≡ 0 ∷ 0 ∷ 0 ∷ []
 unfolding netN fiveRegions choose refuse firstOf u8At u16At u32At openRefusal leafMark innerMark firstDistance lastFrom elementAt readList listPart readLists
-    readSpans readMarks markSize recordSize sizeAt readRegion readRegions junctionCount regionCount yardCount landmarkCount decode between all recordsOk near
-    comes risesFrom rises listOk markOk childrenOk regionOk valuesOk layoutRefusal noRegion regionAt twoLandmarks leafBytes ladderBytes ladder names once
+    readSpans readMarks markSize recordSize sizeAt readRegion readRegions junctionCount regionCount treeYardCount landmarkCount decode between all recordsOk
+    near
+    comes risesFrom listRises listOk markOk childrenOk regionOk valuesOk treeLayoutRefusal noRegion regionAt twoLandmarks leafBytes ladderBytes ladder names
+    once
     inRange namedBy firstList sameYards agreeing leafOk childFits siblings subtree shaped treeRefusal
 row0 = refl
 
@@ -48,8 +51,10 @@ row0 = refl
 pub row1 : map treeRefusal (([]) ∷ (set fiveRegions 4 2) ∷ (set fiveRegions 6 0) ∷ (take 90 (set fiveRegions 3 86)) ∷ (set (set fiveRegions 10 2) 16 1) ∷ []) ≡
     1 ∷ 2 ∷ 3 ∷ 4 ∷ 5 ∷ []
 unfolding netN fiveRegions choose refuse firstOf u8At u16At u32At openRefusal leafMark innerMark firstDistance lastFrom elementAt readList listPart readLists
-    readSpans readMarks markSize recordSize sizeAt readRegion readRegions junctionCount regionCount yardCount landmarkCount decode between all recordsOk near
-    comes risesFrom rises listOk markOk childrenOk regionOk valuesOk layoutRefusal noRegion regionAt twoLandmarks leafBytes ladderBytes ladder names once
+    readSpans readMarks markSize recordSize sizeAt readRegion readRegions junctionCount regionCount treeYardCount landmarkCount decode between all recordsOk
+    near
+    comes risesFrom listRises listOk markOk childrenOk regionOk valuesOk treeLayoutRefusal noRegion regionAt twoLandmarks leafBytes ladderBytes ladder names
+    once
     inRange namedBy firstList sameYards agreeing leafOk childFits siblings subtree shaped treeRefusal
 row1 = refl
 
@@ -58,44 +63,56 @@ row1 = refl
 pub row2 : map treeRefusal ((set fiveRegions 45 1) ∷ (set fiveRegions 47 4) ∷ (set fiveRegions 18 2) ∷ (set fiveRegions 10 2) ∷ (set fiveRegions 75 4) ∷ (set
     fiveRegions 16 3) ∷ (set fiveRegions 48 3) ∷ (set netN 38 3) ∷ (set twoLandmarks 46 0) ∷ []) ≡ 7 ∷ 7 ∷ 7 ∷ 7 ∷ 7 ∷ 7 ∷ 7 ∷ 7 ∷ 7 ∷ []
 unfolding netN fiveRegions choose refuse firstOf u8At u16At u32At openRefusal leafMark innerMark firstDistance lastFrom elementAt readList listPart readLists
-    readSpans readMarks markSize recordSize sizeAt readRegion readRegions junctionCount regionCount yardCount landmarkCount decode between all recordsOk near
-    comes risesFrom rises listOk markOk childrenOk regionOk valuesOk layoutRefusal noRegion regionAt twoLandmarks leafBytes ladderBytes ladder names once
+    readSpans readMarks markSize recordSize sizeAt readRegion readRegions junctionCount regionCount treeYardCount landmarkCount decode between all recordsOk
+    near
+    comes risesFrom listRises listOk markOk childrenOk regionOk valuesOk treeLayoutRefusal noRegion regionAt twoLandmarks leafBytes ladderBytes ladder names
+    once
     inRange namedBy firstList sameYards agreeing leafOk childFits siblings subtree shaped treeRefusal
 row2 = refl
 
 -- eight levels pass, nine do not
 pub row3 : map treeRefusal ((ladder 7) ∷ (ladder 8) ∷ []) ≡ 0 ∷ 7 ∷ []
 unfolding netN fiveRegions choose refuse firstOf u8At u16At u32At openRefusal leafMark innerMark firstDistance lastFrom elementAt readList listPart readLists
-    readSpans readMarks markSize recordSize sizeAt readRegion readRegions junctionCount regionCount yardCount landmarkCount decode between all recordsOk near
-    comes risesFrom rises listOk markOk childrenOk regionOk valuesOk layoutRefusal noRegion regionAt twoLandmarks leafBytes ladderBytes ladder names once
+    readSpans readMarks markSize recordSize sizeAt readRegion readRegions junctionCount regionCount treeYardCount landmarkCount decode between all recordsOk
+    near
+    comes risesFrom listRises listOk markOk childrenOk regionOk valuesOk treeLayoutRefusal noRegion regionAt twoLandmarks leafBytes ladderBytes ladder names
+    once
     inRange namedBy firstList sameYards agreeing leafOk childFits siblings subtree shaped treeRefusal
 row3 = refl
 
 -- the five regions' children, subtrees' ends and yards
 pub children : map (childrenOf (decode fiveRegions .regions)) (0 ∷ 1 ∷ 2 ∷ []) ≡ (1 ∷ 2 ∷ []) ∷ [] ∷ (3 ∷ 4 ∷ []) ∷ []
 unfolding netN fiveRegions choose refuse firstOf u8At u16At u32At openRefusal leafMark innerMark firstDistance lastFrom elementAt readList listPart readLists
-    readSpans readMarks markSize recordSize sizeAt readRegion readRegions junctionCount regionCount yardCount landmarkCount decode between all recordsOk near
-    comes risesFrom rises listOk markOk childrenOk regionOk valuesOk layoutRefusal noRegion regionAt twoLandmarks leafBytes ladderBytes ladder names once
+    readSpans readMarks markSize recordSize sizeAt readRegion readRegions junctionCount regionCount treeYardCount landmarkCount decode between all recordsOk
+    near
+    comes risesFrom listRises listOk markOk childrenOk regionOk valuesOk treeLayoutRefusal noRegion regionAt twoLandmarks leafBytes ladderBytes ladder names
+    once
     inRange namedBy firstList sameYards agreeing leafOk childFits siblings subtree shaped treeRefusal endOf starts childrenOf
 children = refl
 
 pub ends : map (endOf (decode fiveRegions .regions)) (0 ∷ 1 ∷ 2 ∷ 3 ∷ 4 ∷ []) ≡ 5 ∷ 2 ∷ 5 ∷ 4 ∷ 5 ∷ []
 unfolding netN fiveRegions choose refuse firstOf u8At u16At u32At openRefusal leafMark innerMark firstDistance lastFrom elementAt readList listPart readLists
-    readSpans readMarks markSize recordSize sizeAt readRegion readRegions junctionCount regionCount yardCount landmarkCount decode between all recordsOk near
-    comes risesFrom rises listOk markOk childrenOk regionOk valuesOk layoutRefusal noRegion regionAt twoLandmarks leafBytes ladderBytes ladder names once
+    readSpans readMarks markSize recordSize sizeAt readRegion readRegions junctionCount regionCount treeYardCount landmarkCount decode between all recordsOk
+    near
+    comes risesFrom listRises listOk markOk childrenOk regionOk valuesOk treeLayoutRefusal noRegion regionAt twoLandmarks leafBytes ladderBytes ladder names
+    once
     inRange namedBy firstList sameYards agreeing leafOk childFits siblings subtree shaped treeRefusal endOf
 ends = refl
 
 pub yards : map (yardsBelow (decode fiveRegions .regions)) (0 ∷ 1 ∷ 2 ∷ []) ≡ (1 ∷ 3 ∷ 4 ∷ []) ∷ (1 ∷ []) ∷ (3 ∷ 4 ∷ []) ∷ []
 unfolding netN fiveRegions choose refuse firstOf u8At u16At u32At openRefusal leafMark innerMark firstDistance lastFrom elementAt readList listPart readLists
-    readSpans readMarks markSize recordSize sizeAt readRegion readRegions junctionCount regionCount yardCount landmarkCount decode between all recordsOk near
-    comes risesFrom rises listOk markOk childrenOk regionOk valuesOk layoutRefusal noRegion regionAt twoLandmarks leafBytes ladderBytes ladder names once
-    inRange namedBy firstList sameYards agreeing leafOk childFits siblings subtree shaped treeRefusal endOf yardsIn ownYards yardsFrom yardsBelow
+    readSpans readMarks markSize recordSize sizeAt readRegion readRegions junctionCount regionCount treeYardCount landmarkCount decode between all recordsOk
+    near
+    comes risesFrom listRises listOk markOk childrenOk regionOk valuesOk treeLayoutRefusal noRegion regionAt twoLandmarks leafBytes ladderBytes ladder names
+    once
+    inRange namedBy firstList sameYards agreeing leafOk childFits siblings subtree shaped treeRefusal endOf yardsIn ownYards leafYardsFrom yardsBelow
 yards = refl
 
 pub counts : inners (decode fiveRegions) ∷ leaves (decode fiveRegions) ∷ [] ≡ 2 ∷ 3 ∷ []
 unfolding netN fiveRegions choose refuse firstOf u8At u16At u32At openRefusal leafMark innerMark firstDistance lastFrom elementAt readList listPart readLists
-    readSpans readMarks markSize recordSize sizeAt readRegion readRegions junctionCount regionCount yardCount landmarkCount decode between all recordsOk near
-    comes risesFrom rises listOk markOk childrenOk regionOk valuesOk layoutRefusal noRegion regionAt twoLandmarks leafBytes ladderBytes ladder names once
+    readSpans readMarks markSize recordSize sizeAt readRegion readRegions junctionCount regionCount treeYardCount landmarkCount decode between all recordsOk
+    near
+    comes risesFrom listRises listOk markOk childrenOk regionOk valuesOk treeLayoutRefusal noRegion regionAt twoLandmarks leafBytes ladderBytes ladder names
+    once
     inRange namedBy firstList sameYards agreeing leafOk childFits siblings subtree shaped treeRefusal sumFrom oneLeaf oneInner leaves inners
 counts = refl

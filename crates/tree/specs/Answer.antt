@@ -4,7 +4,7 @@ use Prim.Native.Nat.{ℕ, zero, suc}
 use lib.Dec.{eqb}
 use Rattle.book.specs.Choose.{choose}
 use Rattle.tree_layout.specs.Decode.{regionCount, placeOf, decode}
-use Rattle.tree_layout.specs.Refusal.{layoutRefusal}
+use Rattle.tree_layout.specs.Refusal.{treeLayoutRefusal}
 use Rattle.tree_layout.specs.Reading.{headerOf}
 use Rattle.tree_layout.specs.declared.Header.{Header}
 use Rattle.tree.specs.declared.Tree.{Tree}
@@ -14,22 +14,22 @@ use Rattle.tree.specs.Yards.{endOf}
 use Rattle.tree.specs.Arrays.{overwrite}
 
 -- the answer for a refusal's number and a header: 0 gives the header
-unfoldable pub answer : ℕ → Header → Tree
-answer zero h = Shaped h
-answer (suc n) h = Refused (suc n)
+unfoldable pub treeAnswer : ℕ → Header → Tree
+treeAnswer zero h = Shaped h
+treeAnswer (suc n) h = Refused (suc n)
 
 -- the number of an answer: "The number of an accepted call is 0."
-unfoldable pub numberOf : Tree → ℕ
-numberOf (Shaped h) = 0
-numberOf (Refused why) = why
+unfoldable pub treeNumber : Tree → ℕ
+treeNumber (Shaped h) = 0
+treeNumber (Refused why) = why
 
 -- a book's answer
 unfoldable pub treeOf : List ℕ → Tree
-treeOf b = answer (treeRefusal b) (headerOf b)
+treeOf b = treeAnswer (treeRefusal b) (headerOf b)
 
 -- the places: of each region's record, if tests 1 to 5 accept the book; else as they were
 unfoldable pub placesAfter : List ℕ → List ℕ → List ℕ
-placesAfter b places = choose (eqb (layoutRefusal b) 0) (overwrite (placeOf b) (regionCount b) places) places
+placesAfter b places = choose (eqb (treeLayoutRefusal b) 0) (overwrite (placeOf b) (regionCount b) places) places
 
 -- the ends: of each region's subtree, if the book is accepted; else as they were
 unfoldable pub endsAfter : List ℕ → List ℕ → List ℕ

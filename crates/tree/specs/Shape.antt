@@ -8,7 +8,7 @@ use lib.Dec.{ltb, leb, eqb}
 use Rattle.book.specs.Choose.{choose, refuse, firstOf}
 use Rattle.tree_layout.specs.Values.{Region, Tree, regionAt}
 use Rattle.tree_layout.specs.Decode.{decode}
-use Rattle.tree_layout.specs.Refusal.{layoutRefusal}
+use Rattle.tree_layout.specs.Refusal.{treeLayoutRefusal}
 use Rattle.tree_leaf.specs.Leaf.{leafOk}
 
 -- ---- the descent
@@ -51,4 +51,4 @@ shaped t = eqb (subtree (t .regions) levels 0) (length (t .regions)) && eqb (reg
 
 -- ---- the first test that fails, or 0: "7. The tree's shape rules don't hold." comes after 1 to 5
 unfoldable pub treeRefusal : List ℕ → ℕ
-treeRefusal b = firstOf (layoutRefusal b) (refuse (shaped (decode b)) 7 0)
+treeRefusal b = firstOf (treeLayoutRefusal b) (refuse (shaped (decode b)) 7 0)

@@ -9,7 +9,8 @@ use Rattle.tree_layout.specs.Values.{Mark, Region, Tree, regionAt}
 use Rattle.tree_layout.specs.Decode.{decode}
 use Rattle.tree_layout.specs.Facts.{TreeLayout}
 use Rattle.tree_leaf.specs.Leaf.{yardsIn}
-use Rattle.tree.specs.Yards.{endOf, hops, childrenOf, gather, reached, numbers, levelOf, yardsBelow, treeYards}
+use Rattle.tree.specs.Yards.{endOf, hops, childrenOf, gather, regionsReached, numbers, levelOf, yardsBelow}
+use Rattle.tree.specs.Yards.{treeYards}
 use Rattle.tree.specs.Yards.{leaves, inners}
 use Rattle.tree.specs.Facts.{RangesRise, TreeShape}
 
@@ -27,7 +28,7 @@ pub record LeafOf (rs : List Region) (y j : ℕ) : Type 0 where
 -- regions and their children
 pub record Regions (rs : List Region) : Type 0 where
   -- every region number is reached exactly once from the root, in preorder
-  pub each-once : reached rs 8 0 ≡ numbers (length rs) 0
+  pub each-once : regionsReached rs 8 0 ≡ numbers (length rs) 0
   -- a child's number is above its parent's
   pub above : (r c : ℕ) → r < length rs → Mem c (childrenOf rs r) → (r < c) × (c < length rs)
   -- every region but the root has a parent, and no region has two

@@ -33,9 +33,9 @@ gather f [] = []
 gather f (c ∷ cs) = f c ++ gather f cs
 
 -- the regions that are reached from region i: itself, then those reached from its children, over so many levels
-unfoldable pub reached : List Region → ℕ → ℕ → List ℕ
-reached rs zero i = []
-reached rs (suc levels) i = i ∷ gather (reached rs levels) (childrenOf rs i)
+unfoldable pub regionsReached : List Region → ℕ → ℕ → List ℕ
+regionsReached rs zero i = []
+regionsReached rs (suc levels) i = i ∷ gather (regionsReached rs levels) (childrenOf rs i)
 
 -- n numbers from i on: i, i + 1, ..
 unfoldable pub numbers : ℕ → ℕ → List ℕ
@@ -59,17 +59,17 @@ unfoldable pub ownYards : Region → List ℕ
 ownYards r = choose (eqb (r .children) 0) (yardsIn (firstList (r .marks))) []
 
 -- the yards of the leaves among n regions from number i on
-unfoldable pub yardsFrom : List Region → ℕ → ℕ → List ℕ
-yardsFrom rs zero i = []
-yardsFrom rs (suc n) i = ownYards (regionAt rs i) ++ yardsFrom rs n (suc i)
+unfoldable pub leafYardsFrom : List Region → ℕ → ℕ → List ℕ
+leafYardsFrom rs zero i = []
+leafYardsFrom rs (suc n) i = ownYards (regionAt rs i) ++ leafYardsFrom rs n (suc i)
 
 -- the yards below region i: those of the leaves of its subtree
 unfoldable pub yardsBelow : List Region → ℕ → List ℕ
-yardsBelow rs i = yardsFrom rs (endOf rs i - i) i
+yardsBelow rs i = leafYardsFrom rs (endOf rs i - i) i
 
 -- all of the tree's yards
 unfoldable pub treeYards : Tree → List ℕ
-treeYards t = yardsFrom (t .regions) (length (t .regions)) 0
+treeYards t = leafYardsFrom (t .regions) (length (t .regions)) 0
 
 -- the sum of a number for each of n regions from number i on
 unfoldable pub sumFrom : List Region → (Region → ℕ) → ℕ → ℕ → ℕ

@@ -9,9 +9,9 @@ use tree_layout::records;
 ghost use mathlib.Core.Path.{_≡_};
 ghost use Prim.Native.Nat.{_≤_};
 ghost use lib.ListN.{length};
-ghost use Rattle.tree_layout.specs.Refusal.{layoutRefusal};
+ghost use Rattle.tree_layout.specs.Refusal.{treeLayoutRefusal};
 ghost use Rattle.tree.specs.Shape.{treeRefusal};
-ghost use Rattle.tree.specs.Answer.{numberOf, treeOf, placesAfter, endsAfter};
+ghost use Rattle.tree.specs.Answer.{treeNumber, treeOf, placesAfter, endsAfter};
 
 // What reading a tree book finds: its header, or the number of the test that turns it back.
 pub enum Tree {
@@ -21,7 +21,7 @@ pub enum Tree {
 
 // The number of an answer, 0 for a tree that is accepted.
 pub fn number(o: Tree) -> u8
-    ensures { λ r. ⌜ r ≡ numberOf o ⌝ }
+    ensures { λ r. ⌜ r ≡ treeNumber o ⌝ }
 {
     match o {
         Tree::Shaped(_) => 0,
@@ -31,7 +31,7 @@ pub fn number(o: Tree) -> u8
 
 // Test 7 of a book of sound layout: 0 or 7. The arrays then hold each record's place and, if 0, each subtree's end.
 fn shape_refusal(b: &[u8], places: &mut [usize], ends: &mut [usize]) -> u8
-    requires { ⌜ (layoutRefusal (now b) ≡ 0) × (511 ≤ length (now places)) × (511 ≤ length (now ends)) ⌝ }
+    requires { ⌜ (treeLayoutRefusal (now b) ≡ 0) × (511 ≤ length (now places)) × (511 ≤ length (now ends)) ⌝ }
     ensures answer { λ r. ⌜ r ≡ treeRefusal (now (b .entry)) ⌝ }
     ensures places { λ _. ⌜ now (places .exit) ≡ placesAfter (now (b .entry)) (now (places .entry)) ⌝ }
     ensures ends { λ _. ⌜ now (ends .exit) ≡ endsAfter (now (b .entry)) (now (ends .entry)) ⌝ }

@@ -16,7 +16,7 @@ use Rattle.book.proofs.Lists.{neqb→ne}
 use Rattle.book.proofs.Writing.{Rest, rest-all, read-u8, next-u8, read-u16, next-u16, read-u32, next-u32}
 use Rattle.tree_layout.specs.Values.{Element, Mark, Region, Tree, leafMark, innerMark}
 use Rattle.tree_layout.specs.Decode.{elementAt, readList, listPart, readLists, readSpans, readMarks, readRegion, readRegions, markSize, recordSize, sizeAt}
-use Rattle.tree_layout.specs.Decode.{placeFrom, junctionCount, regionCount, yardCount, landmarkCount, decode}
+use Rattle.tree_layout.specs.Decode.{placeFrom, junctionCount, regionCount, treeYardCount, landmarkCount, decode}
 use Rattle.tree_layout.proofs.Places.{mark-size-leaf, mark-size-inner, place-zero, place-suc}
 use Rattle.tree_layout.specs.Formed.{Formed, FormedTree}
 use Rattle.tree_layout.proofs.Formed.{marks-lists, marks-spans}
@@ -202,7 +202,7 @@ pub record HeaderBack (t : Tree) : Type 0 where
   pub version : u8At (encode t) 4 ≡ 1
   pub junctions : junctionCount (encode t) ≡ t .junctions
   pub regions : regionCount (encode t) ≡ length (t .regions)
-  pub yards : yardCount (encode t) ≡ t .yards
+  pub yards : treeYardCount (encode t) ≡ t .yards
   pub landmarks : landmarkCount (encode t) ≡ t .landmarks
   pub body : Rest (encode t) 12 (encodeRegions (t .regions))
 

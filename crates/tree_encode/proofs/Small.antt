@@ -13,7 +13,7 @@ use Rattle.book.proofs.Writing.{bytes-none, bytes-cons, bytes-append, u16-bytes
 use Rattle.tree_layout.specs.Values.{Element, Mark, Region, Tree}
 use Rattle.tree_encode.specs.Encode.{encodeElement, encodeList, encodeLeafMark, encodeInnerMark, encodeMark, encodeMarks, encodeRegion, encodeRegions}
 use Rattle.tree_encode.specs.Encode.{encodeBody, encode}
-use Rattle.tree_encode.specs.Facts.{SmallRegion, Small}
+use Rattle.tree_encode.specs.Facts.{SmallRegion, SmallTree}
 
 list-bytes : (es : List Element) → ((e : Element) → Mem e es → (e .distance < 4294967296) × (e .yard < 65536)) → Bytes (encodeList es)
 unfolding encodeList encodeElement
@@ -56,7 +56,7 @@ unfolding encodeRegions
 regions-bytes [] f = bytes-none
 regions-bytes (r ∷ rs) f = bytes-append (encodeRegion r) (encodeRegions rs) (region-bytes r (f r (head refl))) (regions-bytes rs (λ q k. f q (tail k)))
 
-pub encode-bytes : (t : Tree) → length (encodeBody t) < 4294967296 → Small t → Bytes (encode t)
+pub encode-bytes : (t : Tree) → length (encodeBody t) < 4294967296 → SmallTree t → Bytes (encode t)
 unfolding encode encodeBody
 encode-bytes t h s =
     let rest = t .landmarks ∷ encodeRegions (t .regions) in

@@ -40,7 +40,7 @@ pub record SmallRegion (r : Region) : Type 0 where
   pub spans : 0 < r .children → (m : Mark) → Mem m (r .marks) → (m .least < 4294967296) × (m .greatest < 4294967296)
 
 -- the fields of a tree fit theirs
-pub record Small (t : Tree) : Type 0 where
+pub record SmallTree (t : Tree) : Type 0 where
   pub junctions : t .junctions < 65536
   pub count : length (t .regions) < 65536
   pub yards : t .yards < 65536
@@ -52,7 +52,7 @@ abbrev pub sizeOf : ℕ → Region → ℕ
 sizeOf m r = recordSize m (r .children) (r .yards)
 
 -- what is written of a tree
-pub record Written (t : Tree) : Type 0 where
+pub record WrittenTree (t : Tree) : Type 0 where
   -- "reading it back gives the regions and numbers that were written"
   pub back : FormedTree t → decode (encode t) ≡ t
   -- its length is the header's and the records'
@@ -62,4 +62,4 @@ pub record Written (t : Tree) : Type 0 where
   pub accepted : SoundTree t → treeRefusal (encode t) ≡ 0
   pub short : SoundTree t → length (encode t) ≤ 21981
   -- its numbers are bytes, for a tree whose fields fit
-  pub bytes : SoundTree t → Small t → Bytes (encode t)
+  pub bytes : SoundTree t → SmallTree t → Bytes (encode t)

@@ -6,7 +6,7 @@ use native.Mathlib.Omega.{arith}
 use lib.ListN.{length, drop, length-drop}
 use lib.Seq.{length-take-le}
 use Rattle.tree_layout.specs.Sizes.{junctionSize, elementSize, leafMarkSize}
-use Rattle.tree_layout.specs.Decode.{elementAt, listPart, regionCount, yardCount, landmarkCount}
+use Rattle.tree_layout.specs.Decode.{elementAt, listPart, regionCount, treeYardCount, landmarkCount}
 use Rattle.tree_layout.specs.Reading.{headerOf}
 use Rattle.tree_layout.specs.Accessors.{listedAt}
 use Rattle.tree_layout.specs.declared.Header.{Header}
@@ -18,7 +18,7 @@ module _ (b : List ℕ) (h : Header) (e : h ≡ headerOf b) where
   unfolding headerOf
   its-regions = ap (λ (z : Header). z .regions) e
 
-  pub its-yards : h .yards ≡ yardCount b
+  pub its-yards : h .yards ≡ treeYardCount b
   unfolding headerOf
   its-yards = ap (λ (z : Header). z .yards) e
 

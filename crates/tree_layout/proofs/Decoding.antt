@@ -6,7 +6,7 @@ use lib.ListN.{take, drop}
 use Rattle.book.specs.Bytes.{u8At, u16At, u32At}
 use Rattle.tree_layout.specs.Values.{leafMark, innerMark}
 use Rattle.tree_layout.specs.Decode.{elementAt, readList, listPart, readLists, readSpans, readMarks, readRegion, readRegions, markSize, recordSize}
-use Rattle.tree_layout.specs.Decode.{sizeAt, junctionCount, regionCount, yardCount, landmarkCount, placeFrom, placeOf, decode}
+use Rattle.tree_layout.specs.Decode.{sizeAt, junctionCount, regionCount, treeYardCount, landmarkCount, placeFrom, placeOf, decode}
 
 -- ---- a list
 
@@ -84,8 +84,8 @@ pub count-regions : (b : List ℕ) → regionCount b ≡ u16At b 7
 unfolding regionCount
 count-regions b = refl
 
-pub count-yards : (b : List ℕ) → yardCount b ≡ u16At b 9
-unfolding yardCount
+pub count-yards : (b : List ℕ) → treeYardCount b ≡ u16At b 9
+unfolding treeYardCount
 count-yards b = refl
 
 pub count-landmarks : (b : List ℕ) → landmarkCount b ≡ u8At b 11
@@ -94,7 +94,7 @@ count-landmarks b = refl
 
 pub decode-is : (b : List ℕ) → decode b ≡ record {
   junctions = junctionCount b;
-  yards = yardCount b;
+  yards = treeYardCount b;
   landmarks = landmarkCount b;
   regions = readRegions b (landmarkCount b) (regionCount b) 12;
 }

@@ -10,7 +10,7 @@ use Rattle.book.proofs.Choosing.{choose-yes, choose-no, and-right, and-both}
 use Rattle.book.proofs.Lists.{eq→eqb, ne→neqb}
 use Rattle.tree_layout.specs.Values.{noRegion, regionAt}
 use Rattle.tree_layout.specs.Decode.{readRegion, readRegions, markSize, recordSize, sizeAt, placeFrom, placeOf, landmarkCount, regionCount, junctionCount}
-use Rattle.tree_layout.specs.Decode.{yardCount, decode}
+use Rattle.tree_layout.specs.Decode.{treeYardCount, decode}
 use Rattle.tree_layout.specs.Refusal.{recordsOk}
 
 -- ---- sizes
@@ -101,7 +101,7 @@ module _ (b : List ℕ) where
   unfolding decode
   decode-junctions = refl
 
-  pub decode-yards : decode b .yards ≡ yardCount b
+  pub decode-yards : decode b .yards ≡ treeYardCount b
   unfolding decode
   decode-yards = refl
 

@@ -7,9 +7,9 @@ use native.Mathlib.Omega.{arith}
 use lib.ListN.{take, drop}
 use Rattle.book.specs.Bytes.{u8At, u16At}
 use Rattle.tree_layout.specs.Values.{Element, leafMark, innerMark}
-use Rattle.tree_layout.specs.Decode.{elementAt, readList, listPart, readLists, readRegion, junctionCount, regionCount, yardCount, landmarkCount}
+use Rattle.tree_layout.specs.Decode.{elementAt, readList, listPart, readLists, readRegion, junctionCount, regionCount, treeYardCount, landmarkCount}
 use Rattle.tree_layout.specs.Refusal.{all}
-use Rattle.tree_layout.specs.Reading.{numberOf, headerOf}
+use Rattle.tree_layout.specs.Reading.{layoutNumber, headerOf}
 use Rattle.tree_layout.specs.declared.TreeBook.the-variants.{Refused}
 use Rattle.tree_layout.proofs.Formed.{marks-lists}
 
@@ -109,8 +109,8 @@ module _ (b : List ℕ) where
   unfolding regionCount
   region-count = refl
 
-  pub yard-count : yardCount b ≡ u16At b 9
-  unfolding yardCount
+  pub yard-count : treeYardCount b ≡ u16At b 9
+  unfolding treeYardCount
   yard-count = refl
 
   pub landmark-count : landmarkCount b ≡ u8At b 11
@@ -119,15 +119,15 @@ module _ (b : List ℕ) where
 
 -- ---- the reader's answer
 
-pub refused-answer : (why : ℕ) → numberOf (Refused why) ≡ why
-unfolding numberOf
+pub refused-answer : (why : ℕ) → layoutNumber (Refused why) ≡ why
+unfolding layoutNumber
 refused-answer why = refl
 
 pub header-junctions : (b : List ℕ) → headerOf b .junctions ≡ junctionCount b
 unfolding headerOf
 header-junctions b = refl
 
-pub header-yards : (b : List ℕ) → headerOf b .yards ≡ yardCount b
+pub header-yards : (b : List ℕ) → headerOf b .yards ≡ treeYardCount b
 unfolding headerOf
 header-yards b = refl
 

@@ -1,4 +1,4 @@
--- Which facts lead to which answer of `layoutRefusal`. Assumes nothing.
+-- Which facts lead to which answer of `treeLayoutRefusal`. Assumes nothing.
 use mathlib.Core.Path.{_≡_, refl, sym, ap, _∙_}
 use mathlib.Core.Bool.{Bool, true, false}
 use mathlib.Core.List.{List}
@@ -8,83 +8,83 @@ use Rattle.book.specs.Choose.{refuse}
 use Rattle.book.specs.Bytes.{u8At, u16At}
 use Rattle.book.specs.Open.{openRefusal}
 use Rattle.book.proofs.Choosing.{passes, fails, true-T, false-T, first-earlier, first-later}
-use Rattle.tree_layout.specs.Decode.{readRegions, decode, junctionCount, regionCount, yardCount, landmarkCount}
-use Rattle.tree_layout.specs.Refusal.{between, all, recordsOk, regionOk, valuesOk, layoutRefusal}
+use Rattle.tree_layout.specs.Decode.{readRegions, decode, junctionCount, regionCount, treeYardCount, landmarkCount}
+use Rattle.tree_layout.specs.Refusal.{between, all, recordsOk, regionOk, valuesOk, treeLayoutRefusal}
 use Rattle.tree_layout.specs.Reading.{headerOf, treeBook}
 use Rattle.tree_layout.specs.declared.Header.{Header}
 use Rattle.tree_layout.specs.declared.TreeBook.the-variants.{Laid, Refused}
 
 -- a book that does not open
-pub unopened : (b : List ℕ) (why : ℕ) → openRefusal b 7 ≡ why → 1 ≤ why → layoutRefusal b ≡ why
-unfolding layoutRefusal
+pub unopened : (b : List ℕ) (why : ℕ) → openRefusal b 7 ≡ why → 1 ≤ why → treeLayoutRefusal b ≡ why
+unfolding treeLayoutRefusal
 unopened b why e h = first-earlier _ _ (omega arith) ∙ e
 
 -- the tests after the opening
 module _ (b : List ℕ) (o : openRefusal b 7 ≡ 0) where
-  opened : layoutRefusal b
+  opened : treeLayoutRefusal b
       ≡ refuse (between 1 1024 (junctionCount b)) 3
       (refuse (between 1 511 (regionCount b)) 3
-      (refuse (between 1 256 (yardCount b)) 3
+      (refuse (between 1 256 (treeYardCount b)) 3
       (refuse (between 1 4 (landmarkCount b)) 3
       (refuse (recordsOk b (landmarkCount b) (regionCount b) 12) 4
       (refuse (valuesOk (decode b)) 5 0)))))
-  unfolding layoutRefusal
+  unfolding treeLayoutRefusal
   opened = first-later _ _ o
 
-  pub junctions-out : between 1 1024 (junctionCount b) ≡ false → layoutRefusal b ≡ 3
+  pub junctions-out : between 1 1024 (junctionCount b) ≡ false → treeLayoutRefusal b ≡ 3
   junctions-out t = opened ∙ fails _ _ _ (false-T t)
 
   module _ (t1 : between 1 1024 (junctionCount b) ≡ true) where
-    past1 : layoutRefusal b
+    past1 : treeLayoutRefusal b
         ≡ refuse (between 1 511 (regionCount b)) 3
-        (refuse (between 1 256 (yardCount b)) 3
+        (refuse (between 1 256 (treeYardCount b)) 3
         (refuse (between 1 4 (landmarkCount b)) 3
         (refuse (recordsOk b (landmarkCount b) (regionCount b) 12) 4
         (refuse (valuesOk (decode b)) 5 0))))
     past1 = opened ∙ passes _ _ _ (true-T t1)
 
-    pub regions-out : between 1 511 (regionCount b) ≡ false → layoutRefusal b ≡ 3
+    pub regions-out : between 1 511 (regionCount b) ≡ false → treeLayoutRefusal b ≡ 3
     regions-out t = past1 ∙ fails _ _ _ (false-T t)
 
     module _ (t2 : between 1 511 (regionCount b) ≡ true) where
-      past2 : layoutRefusal b
-          ≡ refuse (between 1 256 (yardCount b)) 3
+      past2 : treeLayoutRefusal b
+          ≡ refuse (between 1 256 (treeYardCount b)) 3
           (refuse (between 1 4 (landmarkCount b)) 3
           (refuse (recordsOk b (landmarkCount b) (regionCount b) 12) 4
           (refuse (valuesOk (decode b)) 5 0)))
       past2 = past1 ∙ passes _ _ _ (true-T t2)
 
-      pub yards-out : between 1 256 (yardCount b) ≡ false → layoutRefusal b ≡ 3
+      pub yards-out : between 1 256 (treeYardCount b) ≡ false → treeLayoutRefusal b ≡ 3
       yards-out t = past2 ∙ fails _ _ _ (false-T t)
 
-      module _ (t3 : between 1 256 (yardCount b) ≡ true) where
-        past3 : layoutRefusal b
+      module _ (t3 : between 1 256 (treeYardCount b) ≡ true) where
+        past3 : treeLayoutRefusal b
             ≡ refuse (between 1 4 (landmarkCount b)) 3
             (refuse (recordsOk b (landmarkCount b) (regionCount b) 12) 4
             (refuse (valuesOk (decode b)) 5 0))
         past3 = past2 ∙ passes _ _ _ (true-T t3)
 
-        pub landmarks-out : between 1 4 (landmarkCount b) ≡ false → layoutRefusal b ≡ 3
+        pub landmarks-out : between 1 4 (landmarkCount b) ≡ false → treeLayoutRefusal b ≡ 3
         landmarks-out t = past3 ∙ fails _ _ _ (false-T t)
 
         module _ (t4 : between 1 4 (landmarkCount b) ≡ true) where
-          past4 : layoutRefusal b
+          past4 : treeLayoutRefusal b
               ≡ refuse (recordsOk b (landmarkCount b) (regionCount b) 12) 4
               (refuse (valuesOk (decode b)) 5 0)
           past4 = past3 ∙ passes _ _ _ (true-T t4)
 
-          pub records-out : recordsOk b (landmarkCount b) (regionCount b) 12 ≡ false → layoutRefusal b ≡ 4
+          pub records-out : recordsOk b (landmarkCount b) (regionCount b) 12 ≡ false → treeLayoutRefusal b ≡ 4
           records-out t = past4 ∙ fails _ _ _ (false-T t)
 
           module _ (t5 : recordsOk b (landmarkCount b) (regionCount b) 12 ≡ true) where
-            past5 : layoutRefusal b ≡ refuse (all (regionOk (junctionCount b)) (readRegions b (landmarkCount b) (regionCount b) 12)) 5 0
+            past5 : treeLayoutRefusal b ≡ refuse (all (regionOk (junctionCount b)) (readRegions b (landmarkCount b) (regionCount b) 12)) 5 0
             unfolding valuesOk decode
             past5 = past4 ∙ passes _ _ _ (true-T t5)
 
-            pub values-out : all (regionOk (junctionCount b)) (readRegions b (landmarkCount b) (regionCount b) 12) ≡ false → layoutRefusal b ≡ 5
+            pub values-out : all (regionOk (junctionCount b)) (readRegions b (landmarkCount b) (regionCount b) 12) ≡ false → treeLayoutRefusal b ≡ 5
             values-out t = past5 ∙ fails _ _ _ (false-T t)
 
-            pub laid-out : all (regionOk (junctionCount b)) (readRegions b (landmarkCount b) (regionCount b) 12) ≡ true → layoutRefusal b ≡ 0
+            pub laid-out : all (regionOk (junctionCount b)) (readRegions b (landmarkCount b) (regionCount b) 12) ≡ true → treeLayoutRefusal b ≡ 0
             laid-out t = past5 ∙ passes _ _ _ (true-T t)
 
 -- a test of a header's number, as the reader makes it
@@ -110,8 +110,8 @@ module _ (b : List ℕ) where
   unfolding regionCount
   regions-read = refl
 
-  pub yards-read : u16At b 9 ≡ yardCount b
-  unfolding yardCount
+  pub yards-read : u16At b 9 ≡ treeYardCount b
+  unfolding treeYardCount
   yards-read = refl
 
   pub landmarks-read : u8At b 11 ≡ landmarkCount b
@@ -143,11 +143,11 @@ refused-number (suc n) h why e =
     (q, omega arith)
 
 -- what a reader answers for the number that it found
-pub answers-refused : (b : List ℕ) (why : ℕ) → why ≡ layoutRefusal b → (why ≡ 0 → ⊥) → Refused why ≡ treeBook (layoutRefusal b) (headerOf b)
+pub answers-refused : (b : List ℕ) (why : ℕ) → why ≡ treeLayoutRefusal b → (why ≡ 0 → ⊥) → Refused why ≡ treeBook (treeLayoutRefusal b) (headerOf b)
 answers-refused b why e h = rw (← e) (sym (answer-refused why (headerOf b) (omega arith)))
 
-pub answers-laid : (b : List ℕ) (junctions regions yards landmarks : ℕ) → layoutRefusal b ≡ 0
+pub answers-laid : (b : List ℕ) (junctions regions yards landmarks : ℕ) → treeLayoutRefusal b ≡ 0
     → junctions ≡ u16At b 5 → regions ≡ u16At b 7 → yards ≡ u16At b 9 → landmarks ≡ u8At b 11
-    → Laid (record { junctions = junctions; regions = regions; yards = yards; landmarks = landmarks }) ≡ treeBook (layoutRefusal b) (headerOf b)
-unfolding headerOf junctionCount regionCount yardCount landmarkCount
-answers-laid b junctions regions yards landmarks e p q r s = rw (p, q, r, s) (sym (answer-laid (layoutRefusal b) (headerOf b) e))
+    → Laid (record { junctions = junctions; regions = regions; yards = yards; landmarks = landmarks }) ≡ treeBook (treeLayoutRefusal b) (headerOf b)
+unfolding headerOf junctionCount regionCount treeYardCount landmarkCount
+answers-laid b junctions regions yards landmarks e p q r s = rw (p, q, r, s) (sym (answer-laid (treeLayoutRefusal b) (headerOf b) e))

@@ -11,7 +11,7 @@ use Rattle.book.specs.Choose.{choose}
 use Rattle.book.proofs.Choosing.{choose-case, choose-yes, choose-no, and-left, and-right, and-both}
 use Rattle.book.proofs.Lists.{or-left, or-right, or-cases, eq→eqb, ne→neqb, neqb→ne}
 use Rattle.tree_layout.specs.Values.{Element, Mark, Region, Tree}
-use Rattle.tree_layout.specs.Refusal.{between, all, near, comes, risesFrom, rises, listOk, markOk, childrenOk, regionOk, valuesOk}
+use Rattle.tree_layout.specs.Refusal.{between, all, near, comes, risesFrom, listRises, listOk, markOk, childrenOk, regionOk, valuesOk}
 use Rattle.tree_layout.specs.Facts.{Before, RisingFrom, Rising, RegionValues}
 
 -- ---- a test over a list
@@ -70,13 +70,13 @@ unfolding risesFrom
 rising-from e [] r = tt
 rising-from e (g ∷ gs) r = and-both (comes e g) _ (before-comes e g (r .0)) (rising-from g gs (r .1))
 
-pub rises-rising : (es : List Element) → T (rises es) → Rising es
-unfolding rises
+pub rises-rising : (es : List Element) → T (listRises es) → Rising es
+unfolding listRises
 rises-rising [] t = tt
 rises-rising (e ∷ es) t = from-rising e es t
 
-pub rising-rises : (es : List Element) → Rising es → T (rises es)
-unfolding rises
+pub rising-rises : (es : List Element) → Rising es → T (listRises es)
+unfolding listRises
 rising-rises [] r = tt
 rising-rises (e ∷ es) r = rising-from e es r
 
@@ -105,7 +105,7 @@ mark-values r m t = record {
     t2 : T (choose (eqb (r .children) 0) (listOk (m .list)) (leb (m .least) (m .greatest)))
     t2 = and-right (ltb (m .place) (r .after)) _ t1
 
-    list : r .children ≡ 0 → T (all near (m .list) && rises (m .list))
+    list : r .children ≡ 0 → T (all near (m .list) && listRises (m .list))
     list c = rw (choose-yes (eqb (r .children) 0) (listOk (m .list)) (leb (m .least) (m .greatest)) (eq→eqb (r .children) 0 c)) at t2
 
 values-mark : (r : Region) (m : Mark) → MarkValues r m → T (markOk r m)
@@ -115,7 +115,7 @@ values-mark r m v =
     (and-both (ltb (m .place) (r .after)) _ (lt→ltb (m .place) (r .after) (v .placed .1))
     (choose-case (λ (b : Bool). T b) (eqb (r .children) 0)
     (λ t. let c = eqb→eq (r .children) 0 t in
-    and-both (all near (m .list)) (rises (m .list)) (all-intro near (m .list) (λ e k. le→leb (e .distance) 67042305 (v .near-all c e k))) (rising-rises (m
+    and-both (all near (m .list)) (listRises (m .list)) (all-intro near (m .list) (λ e k. le→leb (e .distance) 67042305 (v .near-all c e k))) (rising-rises (m
     .list) (v .rising c)))
     (λ t. le→leb (m .least) (m .greatest) (v .span (omega (arith, neqb→ne (r .children) 0 t))))))
 

@@ -12,7 +12,7 @@ use Rattle.book.specs.Bytes.{u16At, u32At}
 use Rattle.book.proofs.Choosing.{and-left, and-right, true-T, T-true}
 use Rattle.tree_layout.specs.Values.{Element, Mark, Region, leafMark, innerMark}
 use Rattle.tree_layout.specs.Decode.{elementAt, readList, listPart, readLists, readSpans, readRegion, readRegions, sizeAt}
-use Rattle.tree_layout.specs.Refusal.{all, recordsOk, near, comes, risesFrom, rises, listOk}
+use Rattle.tree_layout.specs.Refusal.{all, recordsOk, near, comes, risesFrom, listRises, listOk}
 use Rattle.tree_layout.specs.Reading.{element}
 use Rattle.tree_layout.proofs.Reading.{all-none, list-turn, list-none, lists-turn, lists-none}
 
@@ -81,7 +81,7 @@ module _ (p : List ℕ) (n : ℕ) (h : 1 ≤ n) (d y : ℕ) (e : d ≡ u32At p 0
       rw s (simp (← e, lt-leb))
 
   pub list-start : d ≤ 67042305 → listRest (element d y) (readList p (n - 1) (6 * 1)) ≡ listOk (readList p n 0)
-  unfolding listRest listOk rises readList all near elementAt
+  unfolding listRest listOk listRises readList all near elementAt
   list-start l =
       let s : n ≡ suc (n - 1) = omega arith in
       let t : suc (n - 1) - 1 ≡ n - 1 = omega arith in

@@ -8,9 +8,9 @@ use Rattle.book.specs.Bytes.{u8At, u16At, u32At}
 use Rattle.book.specs.Open.{openRefusal}
 use Rattle.tree_layout.specs.Values.{leafMark, innerMark, firstDistance, lastFrom}
 use Rattle.tree_layout.specs.Decode.{elementAt, readList, listPart, readLists, readSpans, readMarks, markSize, recordSize, sizeAt, readRegion}
-use Rattle.tree_layout.specs.Decode.{readRegions, junctionCount, regionCount, yardCount, landmarkCount, decode}
-use Rattle.tree_layout.specs.Refusal.{between, all, recordsOk, near, comes, risesFrom, rises, listOk, markOk, childrenOk, regionOk, valuesOk}
-use Rattle.tree_layout.specs.Refusal.{layoutRefusal}
+use Rattle.tree_layout.specs.Decode.{readRegions, junctionCount, regionCount, treeYardCount, landmarkCount, decode}
+use Rattle.tree_layout.specs.Refusal.{between, all, recordsOk, near, comes, risesFrom, listRises, listOk, markOk, childrenOk, regionOk, valuesOk}
+use Rattle.tree_layout.specs.Refusal.{treeLayoutRefusal}
 
 -- net N's tree, as 01 prints it
 unfoldable pub netN : List ℕ
@@ -24,55 +24,63 @@ fiveRegions = 0 ∷ 0 ∷ 0 ∷ 87 ∷ 1 ∷ 0 ∷ 5 ∷ 0 ∷ 5 ∷ 0 ∷ 3 ∷
     3 ∷ 0 ∷ 4 ∷ 0 ∷ 5 ∷ 0 ∷ 0 ∷ 1 ∷ 0 ∷ 4 ∷ 0 ∷ 0 ∷ 0 ∷ 0 ∷ 0 ∷ 4 ∷ []
 
 -- unchanged
-pub row0 : map layoutRefusal ((netN) ∷ (fiveRegions) ∷ []) ≡ 0 ∷ 0 ∷ []
+pub row0 : map treeLayoutRefusal ((netN) ∷ (fiveRegions) ∷ []) ≡ 0 ∷ 0 ∷ []
 unfolding netN fiveRegions choose refuse firstOf u8At u16At u32At openRefusal leafMark innerMark firstDistance lastFrom elementAt readList listPart readLists
-    readSpans readMarks markSize recordSize sizeAt readRegion readRegions junctionCount regionCount yardCount landmarkCount decode between all recordsOk near
-    comes risesFrom rises listOk markOk childrenOk regionOk valuesOk layoutRefusal
+    readSpans readMarks markSize recordSize sizeAt readRegion readRegions junctionCount regionCount treeYardCount landmarkCount decode between all recordsOk
+    near
+    comes risesFrom listRises listOk markOk childrenOk regionOk valuesOk treeLayoutRefusal
 row0 = refl
 
 -- 1: nothing; four bytes; a count too low, too high
-pub row1 : map layoutRefusal (([]) ∷ (0 ∷ 0 ∷ 0 ∷ 0 ∷ []) ∷ (set fiveRegions 3 86) ∷ (set fiveRegions 3 88) ∷ []) ≡ 1 ∷ 1 ∷ 1 ∷ 1 ∷ []
+pub row1 : map treeLayoutRefusal (([]) ∷ (0 ∷ 0 ∷ 0 ∷ 0 ∷ []) ∷ (set fiveRegions 3 86) ∷ (set fiveRegions 3 88) ∷ []) ≡ 1 ∷ 1 ∷ 1 ∷ 1 ∷ []
 unfolding netN fiveRegions choose refuse firstOf u8At u16At u32At openRefusal leafMark innerMark firstDistance lastFrom elementAt readList listPart readLists
-    readSpans readMarks markSize recordSize sizeAt readRegion readRegions junctionCount regionCount yardCount landmarkCount decode between all recordsOk near
-    comes risesFrom rises listOk markOk childrenOk regionOk valuesOk layoutRefusal
+    readSpans readMarks markSize recordSize sizeAt readRegion readRegions junctionCount regionCount treeYardCount landmarkCount decode between all recordsOk
+    near
+    comes risesFrom listRises listOk markOk childrenOk regionOk valuesOk treeLayoutRefusal
 row1 = refl
 
 -- 2
-pub row2 : map layoutRefusal ((set fiveRegions 4 2) ∷ []) ≡ 2 ∷ []
+pub row2 : map treeLayoutRefusal ((set fiveRegions 4 2) ∷ []) ≡ 2 ∷ []
 unfolding netN fiveRegions choose refuse firstOf u8At u16At u32At openRefusal leafMark innerMark firstDistance lastFrom elementAt readList listPart readLists
-    readSpans readMarks markSize recordSize sizeAt readRegion readRegions junctionCount regionCount yardCount landmarkCount decode between all recordsOk near
-    comes risesFrom rises listOk markOk childrenOk regionOk valuesOk layoutRefusal
+    readSpans readMarks markSize recordSize sizeAt readRegion readRegions junctionCount regionCount treeYardCount landmarkCount decode between all recordsOk
+    near
+    comes risesFrom listRises listOk markOk childrenOk regionOk valuesOk treeLayoutRefusal
 row2 = refl
 
 -- 3: eleven bytes; junctions 0 and 1,025; no region, 512; no yard, 257; no landmark, 5
-pub row3 : map layoutRefusal ((take 11 (set fiveRegions 3 7)) ∷ (set fiveRegions 6 0) ∷ (set (set fiveRegions 5 4) 6 1) ∷ (set fiveRegions 8 0) ∷ (set (set
+pub row3 : map treeLayoutRefusal ((take 11 (set fiveRegions 3 7)) ∷ (set fiveRegions 6 0) ∷ (set (set fiveRegions 5 4) 6 1) ∷ (set fiveRegions 8 0) ∷ (set (set
     fiveRegions 7 2) 8 0) ∷ (set fiveRegions 10 0) ∷ (set (set fiveRegions 9 1) 10 1) ∷ (set fiveRegions 11 0) ∷ (set fiveRegions 11 5) ∷ [])
     ≡ 3 ∷ 3 ∷ 3 ∷ 3 ∷ 3 ∷ 3 ∷ 3 ∷ 3 ∷ 3 ∷ []
 unfolding netN fiveRegions choose refuse firstOf u8At u16At u32At openRefusal leafMark innerMark firstDistance lastFrom elementAt readList listPart readLists
-    readSpans readMarks markSize recordSize sizeAt readRegion readRegions junctionCount regionCount yardCount landmarkCount decode between all recordsOk near
-    comes risesFrom rises listOk markOk childrenOk regionOk valuesOk layoutRefusal
+    readSpans readMarks markSize recordSize sizeAt readRegion readRegions junctionCount regionCount treeYardCount landmarkCount decode between all recordsOk
+    near
+    comes risesFrom listRises listOk markOk childrenOk regionOk valuesOk treeLayoutRefusal
 row3 = refl
 
 -- 4: a byte too few, one too many; a bad value before it is still a 4; a region more than there is, one less
-pub row4 : map layoutRefusal ((take 90 (set fiveRegions 3 86)) ∷ (set fiveRegions 3 88 ++ (0 ∷ [])) ∷ (set (take 90 (set fiveRegions 3 86)) 16 1) ∷ (set
+pub row4 : map treeLayoutRefusal ((take 90 (set fiveRegions 3 86)) ∷ (set fiveRegions 3 88 ++ (0 ∷ [])) ∷ (set (take 90 (set fiveRegions 3 86)) 16 1) ∷ (set
     fiveRegions 8 6) ∷ (set fiveRegions 8 4) ∷ []) ≡ 4 ∷ 4 ∷ 4 ∷ 4 ∷ 4 ∷ []
 unfolding netN fiveRegions choose refuse firstOf u8At u16At u32At openRefusal leafMark innerMark firstDistance lastFrom elementAt readList listPart readLists
-    readSpans readMarks markSize recordSize sizeAt readRegion readRegions junctionCount regionCount yardCount landmarkCount decode between all recordsOk near
-    comes risesFrom rises listOk markOk childrenOk regionOk valuesOk layoutRefusal
+    readSpans readMarks markSize recordSize sizeAt readRegion readRegions junctionCount regionCount treeYardCount landmarkCount decode between all recordsOk
+    near
+    comes risesFrom listRises listOk markOk childrenOk regionOk valuesOk treeLayoutRefusal
 row4 = refl
 
 -- 5: one child, five; an empty range; a range past the junctions; a landmark outside; a far distance; least above greatest; a list that does not rise, one that
 -- stays
-pub row5 : map layoutRefusal ((set fiveRegions 16 1) ∷ (set fiveRegions 16 5) ∷ (set fiveRegions 32 1) ∷ (set fiveRegions 15 6) ∷ (set fiveRegions 37 2) ∷ (set
+pub row5 : map treeLayoutRefusal ((set fiveRegions 16 1) ∷ (set fiveRegions 16 5) ∷ (set fiveRegions 32 1) ∷ (set fiveRegions 15 6) ∷ (set fiveRegions 37 2) ∷
+    (set
     fiveRegions 38 4) ∷ (set fiveRegions 24 255) ∷ (set netN 30 1) ∷ (set (set netN 30 2) 32 1) ∷ []) ≡ 5 ∷ 5 ∷ 5 ∷ 5 ∷ 5 ∷ 5 ∷ 5 ∷ 5 ∷ 5 ∷ []
 unfolding netN fiveRegions choose refuse firstOf u8At u16At u32At openRefusal leafMark innerMark firstDistance lastFrom elementAt readList listPart readLists
-    readSpans readMarks markSize recordSize sizeAt readRegion readRegions junctionCount regionCount yardCount landmarkCount decode between all recordsOk near
-    comes risesFrom rises listOk markOk childrenOk regionOk valuesOk layoutRefusal
+    readSpans readMarks markSize recordSize sizeAt readRegion readRegions junctionCount regionCount treeYardCount landmarkCount decode between all recordsOk
+    near
+    comes risesFrom listRises listOk markOk childrenOk regionOk valuesOk treeLayoutRefusal
 row5 = refl
 
 -- an inner region's greatest may be any u32
-pub row6 : map layoutRefusal ((set fiveRegions 25 255) ∷ []) ≡ 0 ∷ []
+pub row6 : map treeLayoutRefusal ((set fiveRegions 25 255) ∷ []) ≡ 0 ∷ []
 unfolding netN fiveRegions choose refuse firstOf u8At u16At u32At openRefusal leafMark innerMark firstDistance lastFrom elementAt readList listPart readLists
-    readSpans readMarks markSize recordSize sizeAt readRegion readRegions junctionCount regionCount yardCount landmarkCount decode between all recordsOk near
-    comes risesFrom rises listOk markOk childrenOk regionOk valuesOk layoutRefusal
+    readSpans readMarks markSize recordSize sizeAt readRegion readRegions junctionCount regionCount treeYardCount landmarkCount decode between all recordsOk
+    near
+    comes risesFrom listRises listOk markOk childrenOk regionOk valuesOk treeLayoutRefusal
 row6 = refl

@@ -86,8 +86,8 @@ junctionCount b = u16At b 5
 unfoldable pub regionCount : List ℕ → ℕ
 regionCount b = u16At b 7
 
-unfoldable pub yardCount : List ℕ → ℕ
-yardCount b = u16At b 9
+unfoldable pub treeYardCount : List ℕ → ℕ
+treeYardCount b = u16At b 9
 
 unfoldable pub landmarkCount : List ℕ → ℕ
 landmarkCount b = u8At b 11
@@ -100,7 +100,7 @@ placeOf b i = placeFrom b (landmarkCount b) i headerSize
 unfoldable pub decode : List ℕ → Tree
 decode b = record {
   junctions = junctionCount b;
-  yards = yardCount b;
+  yards = treeYardCount b;
   landmarks = landmarkCount b;
   regions = readRegions b (landmarkCount b) (regionCount b) headerSize;
 }

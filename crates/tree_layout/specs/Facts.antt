@@ -7,7 +7,7 @@ use Prim.Native.Nat.{ℕ, _≤_, _<_}
 use lib.ListN.{length}
 use Rattle.book.specs.Open.{Opens}
 use Rattle.tree_layout.specs.Values.{Element, Mark, Region}
-use Rattle.tree_layout.specs.Decode.{decode, junctionCount, regionCount, yardCount, landmarkCount, placeOf}
+use Rattle.tree_layout.specs.Decode.{decode, junctionCount, regionCount, treeYardCount, landmarkCount, placeOf}
 
 -- the order of a leaf's list: "by distance and then yard"
 abbrev pub Before : Element → Element → Type 0
@@ -47,7 +47,7 @@ pub record TreeLayout (b : List ℕ) : Type 0 where
   -- "junctions u16 (1 to 1,024), regions u16 (1 to 511), yards u16 (1 to 256), landmarks per region m u8 (1 to 4)"
   pub junctions : (1 ≤ junctionCount b) × (junctionCount b ≤ 1024)
   pub regions : (1 ≤ regionCount b) × (regionCount b ≤ 511)
-  pub yards : (1 ≤ yardCount b) × (yardCount b ≤ 256)
+  pub yards : (1 ≤ treeYardCount b) × (treeYardCount b ≤ 256)
   pub landmarks : (1 ≤ landmarkCount b) × (landmarkCount b ≤ 4)
   -- no record is incomplete and no bytes follow the last one: the records, one after the other, take up the book to its
   -- end

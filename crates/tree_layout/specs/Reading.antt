@@ -2,7 +2,7 @@
 use mathlib.Core.List.{List, []}
 use Prim.Native.Nat.{ℕ, zero, suc}
 use Rattle.tree_layout.specs.Values.{Element, Region}
-use Rattle.tree_layout.specs.Decode.{junctionCount, regionCount, yardCount, landmarkCount}
+use Rattle.tree_layout.specs.Decode.{junctionCount, regionCount, treeYardCount, landmarkCount}
 use Rattle.tree_layout.specs.declared.Header.{Header}
 use Rattle.tree_layout.specs.declared.TreeBook.{TreeBook}
 use Rattle.tree_layout.specs.declared.TreeBook.the-variants.{Laid, Refused}
@@ -20,7 +20,7 @@ unfoldable pub headerOf : List ℕ → Header
 headerOf b = record {
   junctions = junctionCount b;
   regions = regionCount b;
-  yards = yardCount b;
+  yards = treeYardCount b;
   landmarks = landmarkCount b;
 }
 
@@ -30,6 +30,6 @@ treeBook zero h = Laid h
 treeBook (suc n) h = Refused (suc n)
 
 -- the number of an answer: "The number of an accepted call is 0."
-unfoldable pub numberOf : TreeBook → ℕ
-numberOf (Laid h) = 0
-numberOf (Refused why) = why
+unfoldable pub layoutNumber : TreeBook → ℕ
+layoutNumber (Laid h) = 0
+layoutNumber (Refused why) = why

@@ -7,7 +7,7 @@ use lib.Dec.{ltb, leb, eqb}
 use Rattle.book.specs.Choose.{choose, refuse, firstOf}
 use Rattle.book.specs.Open.{openRefusal}
 use Rattle.tree_layout.specs.Values.{Element, Mark, Region, Tree}
-use Rattle.tree_layout.specs.Decode.{sizeAt, decode, junctionCount, regionCount, yardCount, landmarkCount}
+use Rattle.tree_layout.specs.Decode.{sizeAt, decode, junctionCount, regionCount, treeYardCount, landmarkCount}
 
 -- low ≤ x ≤ high
 unfoldable pub between : ℕ → ℕ → ℕ → Bool
@@ -41,13 +41,13 @@ unfoldable pub risesFrom : Element → List Element → Bool
 risesFrom e [] = true
 risesFrom e (g ∷ gs) = comes e g && risesFrom g gs
 
-unfoldable pub rises : List Element → Bool
-rises [] = true
-rises (e ∷ es) = risesFrom e es
+unfoldable pub listRises : List Element → Bool
+listRises [] = true
+listRises (e ∷ es) = risesFrom e es
 
 -- a leaf's list: its distances are within their limit, and it rises
 unfoldable pub listOk : List Element → Bool
-listOk es = all near es && rises es
+listOk es = all near es && listRises es
 
 -- "Landmarks lie in their range"; a leaf's lists rise; in an inner region "least not above greatest"
 unfoldable pub markOk : Region → Mark → Bool
@@ -69,14 +69,14 @@ valuesOk t = all (regionOk (t .junctions)) (t .regions)
 
 -- ---- the first test that fails, or 0
 
-unfoldable pub layoutRefusal : List ℕ → ℕ
-layoutRefusal b =
+unfoldable pub treeLayoutRefusal : List ℕ → ℕ
+treeLayoutRefusal b =
     -- 1, 2, and 3: "The header is incomplete": seven bytes after the version
     firstOf (openRefusal b 7)
     -- 3: "a junction, .. yard, region or landmark count is outside its limits"
     (refuse (between 1 1024 (junctionCount b)) 3
     (refuse (between 1 511 (regionCount b)) 3
-    (refuse (between 1 256 (yardCount b)) 3
+    (refuse (between 1 256 (treeYardCount b)) 3
     (refuse (between 1 4 (landmarkCount b)) 3
     -- 4, over the whole book before 5 looks at any value
     (refuse (recordsOk b (landmarkCount b) (regionCount b) 12) 4

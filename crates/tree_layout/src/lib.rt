@@ -12,8 +12,8 @@ ghost use Rattle.tree_layout.specs.Values.{leafMark, innerMark};
 ghost use Rattle.tree_layout.specs.Decode.{readList, listPart, readLists, readSpans};
 ghost use Rattle.tree_layout.specs.Decode.{readRegion, readRegions, sizeAt};
 ghost use Rattle.tree_layout.specs.Refusal.{between, all, recordsOk, comes, listOk};
-ghost use Rattle.tree_layout.specs.Refusal.{markOk, childrenOk, regionOk, layoutRefusal};
-ghost use Rattle.tree_layout.specs.Reading.{element, bounded, headerOf, treeBook, numberOf};
+ghost use Rattle.tree_layout.specs.Refusal.{markOk, childrenOk, regionOk, treeLayoutRefusal};
+ghost use Rattle.tree_layout.specs.Reading.{element, bounded, headerOf, treeBook, layoutNumber};
 
 // A tree region's number: a node of the tree, counted from 0 in preorder. Never a junction's number.
 pub struct Region {
@@ -64,7 +64,7 @@ pub enum TreeBook {
 
 // The number of an answer, 0 for a book that is laid out.
 pub fn number(o: TreeBook) -> u8
-    ensures { λ r. ⌜ r ≡ numberOf o ⌝ }
+    ensures { λ r. ⌜ r ≡ layoutNumber o ⌝ }
 {
     match o {
         TreeBook::Laid(_) => 0,
@@ -284,7 +284,7 @@ fn values_ok(b: &[u8], m: usize, n: usize, junctions: u16) -> bool
 
 // The number of the first of tests 1 to 5 that turns the book back, or 0; test 4 goes over all the book before test 5.
 pub fn layout(b: &[u8]) -> u8
-    ensures { λ r. ⌜ r ≡ layoutRefusal (now (b .entry)) ⌝ }
+    ensures { λ r. ⌜ r ≡ treeLayoutRefusal (now (b .entry)) ⌝ }
 {
     let o = book::open(b, 7);
     let Opened::Body = o else {
@@ -321,7 +321,7 @@ pub fn layout(b: &[u8]) -> u8
 
 // Reads a tree book's layout: its header, if none of tests 1 to 5 turns it back.
 pub fn read(b: &[u8]) -> TreeBook
-    ensures { λ r. ⌜ r ≡ treeBook (layoutRefusal (now (b .entry))) (headerOf (now (b .entry))) ⌝ }
+    ensures { λ r. ⌜ r ≡ treeBook (treeLayoutRefusal (now (b .entry))) (headerOf (now (b .entry))) ⌝ }
 {
     let why = layout(b);
     if why != 0 {

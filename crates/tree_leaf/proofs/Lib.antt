@@ -1,3 +1,3 @@
 pub mod Named
 pub mod Listing
-pub mod Table
+pub mod Members

@@ -1,4 +1,5 @@
-// "all of a leaf's lists name the same yards, each yard once, inside its range": a list's yards as a table by junction.
+// "all of a leaf's lists name the same yards, each yard once, inside its range": the yards of a list as a set by
+// junction.
 use tree_layout::Fields;
 use tree_layout::records;
 ghost use mathlib.Core.Path.{_≡_};
@@ -10,27 +11,27 @@ ghost use Rattle.tree_layout.specs.Decode.{readList, listPart, readLists, sizeA
 ghost use Rattle.tree_layout.specs.Accessors.{fieldsAt};
 ghost use Rattle.tree_layout.specs.Refusal.{all};
 ghost use Rattle.tree_leaf.specs.Leaf.{firstList, sameYards, agreeing, leafOk};
-ghost use Rattle.tree_leaf.specs.Table.{tableOf, inTable, fits};
+ghost use Rattle.tree_leaf.specs.Members.{membersOf, isMember, fits};
 
-// Makes a table hold no yard.
-fn clear(table: &mut [bool])
-    requires { ⌜ length (now table) ≡ 1024 ⌝ }
-    ensures { λ _. ⌜ now (table .exit) ≡ replicate 1024 false ⌝ }
+// Makes a set hold no yard.
+fn clear(members: &mut [bool])
+    requires { ⌜ length (now members) ≡ 1024 ⌝ }
+    ensures { λ _. ⌜ now (members .exit) ≡ replicate 1024 false ⌝ }
 {
     let mut i: usize = 0;
     while i < 1024 {
-        table[i] = false;
+        members[i] = false;
         i += 1;
     }
 }
 
-// Whether a leaf's list names each yard once, inside the leaf's range; the table then has these yards.
-fn fill_table(p: &[u8], f: Fields, table: &mut [bool]) -> bool
-    requires { ⌜ (elementSize * f .yards ≤ length (now p)) × (f .after ≤ 1024) × (length (now table) ≡ 1024) ⌝ }
+// Whether a leaf's list names each yard once, inside the leaf's range; the set then has these yards.
+fn fill_members(p: &[u8], f: Fields, members: &mut [bool]) -> bool
+    requires { ⌜ (elementSize * f .yards ≤ length (now p)) × (f .after ≤ 1024) × (length (now members) ≡ 1024) ⌝ }
     ensures { λ r. ⌜ (r ≡ fits (f .first) (f .after) (readList (now (p .entry)) (f .yards) 0))
-        × (r ≡ true → now (table .exit) ≡ tableOf (readList (now (p .entry)) (f .yards) 0)) ⌝ }
+        × (r ≡ true → now (members .exit) ≡ membersOf (readList (now (p .entry)) (f .yards) 0)) ⌝ }
 {
-    clear(table);
+    clear(members);
     let mut k = f.yards as usize;
     while k != 0 {
         k -= 1;
@@ -42,27 +43,27 @@ fn fill_table(p: &[u8], f: Fields, table: &mut [bool]) -> bool
             return false;
         }
         let i = e.yard as usize;
-        if table[i] {
+        if members[i] {
             return false;
         }
-        table[i] = true;
+        members[i] = true;
     }
     true
 }
 
-// Whether a table has each yard that a list of n elements names.
-fn all_in(p: &[u8], n: usize, table: &[bool]) -> bool
+// Whether a set has each yard that a list of n elements names.
+fn all_in(p: &[u8], n: usize, members: &[bool]) -> bool
     requires { ⌜ elementSize * n ≤ length (now p) ⌝ }
-    ensures { λ r. ⌜ r ≡ all (inTable (now (table .entry))) (readList (now (p .entry)) n 0) ⌝ }
+    ensures { λ r. ⌜ r ≡ all (isMember (now (members .entry))) (readList (now (p .entry)) n 0) ⌝ }
 {
     let mut k: usize = 0;
     while k < n {
         let e = records::element(p, k);
         let i = e.yard as usize;
-        if table.len() <= i {
+        if members.len() <= i {
             return false;
         }
-        if !table[i] {
+        if !members[i] {
             return false;
         }
         k += 1;
@@ -71,21 +72,21 @@ fn all_in(p: &[u8], n: usize, table: &[bool]) -> bool
 }
 
 // Whether a leaf's list names the first one's yards, each once, inside its range; `named` has the first one's yards.
-fn same_yards(first: &[u8], p: &[u8], f: Fields, named: &[bool], table: &mut [bool]) -> bool
+fn same_yards(first: &[u8], p: &[u8], f: Fields, named: &[bool], members: &mut [bool]) -> bool
     requires { ⌜ (elementSize * f .yards ≤ length (now first)) × (elementSize * f .yards ≤ length (now p))
-        × (f .after ≤ 1024) × (length (now table) ≡ 1024)
+        × (f .after ≤ 1024) × (length (now members) ≡ 1024)
         × (fits (f .first) (f .after) (readList (now first) (f .yards) 0) ≡ true)
-        × (now named ≡ tableOf (readList (now first) (f .yards) 0)) ⌝ }
+        × (now named ≡ membersOf (readList (now first) (f .yards) 0)) ⌝ }
     ensures { λ r. ⌜ r ≡ sameYards (f .first) (f .after) (readList (now (first .entry)) (f .yards) 0)
         (readList (now (p .entry)) (f .yards) 0) ⌝ }
 {
-    if !fill_table(p, f, table) {
+    if !fill_members(p, f, members) {
         return false;
     }
     if !all_in(p, f.yards as usize, named) {
         return false;
     }
-    all_in(first, f.yards as usize, table)
+    all_in(first, f.yards as usize, members)
 }
 
 // Whether the lists of m landmarks from a place on all do, beside the first of them.
@@ -95,13 +96,13 @@ fn all_agree(
     m: usize,
     f: Fields,
     named: &[bool],
-    table: &mut [bool],
+    members: &mut [bool],
 ) -> bool
     requires { ⌜ (start + m * leafMarkSize (f .yards) ≤ length (now b)) × (1 ≤ m) × (f .after ≤ 1024)
-        × (length (now table) ≡ 1024)
+        × (length (now members) ≡ 1024)
         × (fits (f .first) (f .after) (readList (listPart (now b) (f .yards) (start + junctionSize)) (f .yards) 0)
         ≡ true)
-        × (now named ≡ tableOf (readList (listPart (now b) (f .yards) (start + junctionSize)) (f .yards) 0)) ⌝ }
+        × (now named ≡ membersOf (readList (listPart (now b) (f .yards) (start + junctionSize)) (f .yards) 0)) ⌝ }
     ensures { λ r. ⌜ r ≡ agreeing (f .first) (f .after) (firstList (readLists (now (b .entry)) (f .yards) m start))
         (readLists (now (b .entry)) (f .yards) m start) ⌝ }
 {
@@ -111,7 +112,7 @@ fn all_agree(
     let mut k: usize = 0;
     while k < m {
         let p = records::list(b, at, n);
-        if !same_yards(first, p, f, named, table) {
+        if !same_yards(first, p, f, named, members) {
             return false;
         }
         at += records::leaf_mark(n);
@@ -130,12 +131,12 @@ fn lists_agree(b: &[u8], start: usize, m: usize, f: Fields) -> bool
         return true;
     }
     let mut named = [false; 1024];
-    let mut table = [false; 1024];
+    let mut members = [false; 1024];
     let p = records::list(b, start, f.yards as usize);
-    if !fill_table(p, f, &mut named) {
+    if !fill_members(p, f, &mut named) {
         return false;
     }
-    all_agree(b, start, m, f, &named, &mut table)
+    all_agree(b, start, m, f, &named, &mut members)
 }
 
 // Whether the lists of the leaf whose record is at a place keep the shape's rules.

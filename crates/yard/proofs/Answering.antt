@@ -4,7 +4,7 @@ use mathlib.Core.List.{List}
 use Prim.Native.Nat.{ℕ, zero, suc, _-_, _≤_, _<_}
 use native.Mathlib.Omega.{arith}
 use lib.ListN.{getD}
-use Rattle.yard.specs.Yards.{yardCount, yardsOf, yardRefusal, yardRefusalIn, yardBook, numberOf}
+use Rattle.yard.specs.Yards.{yardCount, yardsOf, yardRefusal, yardRefusalIn, yardBook, yardNumber}
 use Rattle.yard.specs.declared.YardBook.{YardBook}
 use Rattle.yard.specs.declared.YardBook.the-variants.{Yards, Refused}
 use Rattle.yard.proofs.YardLayout.{last-inside, last-outside, own-tests, outside, within}
@@ -34,8 +34,8 @@ refused-number (suc n) count why e =
     (q, omega arith)
 
 -- the number that an answer has
-pub number-is : (n count : ℕ) → numberOf (yardBook n count) ≡ n
-unfolding numberOf yardBook
+pub number-is : (n count : ℕ) → yardNumber (yardBook n count) ≡ n
+unfolding yardNumber yardBook
 number-is zero count = refl
 number-is (suc n) count = refl
 

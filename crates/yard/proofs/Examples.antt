@@ -5,7 +5,7 @@ use Prim.Native.Nat.{ℕ}
 use Rattle.book.specs.Choose.{choose, refuse, firstOf}
 use Rattle.book.specs.Bytes.{u8At, u16At, u32At}
 use Rattle.book.specs.Open.{openRefusal}
-use Rattle.yard.specs.Yards.{yardCount, yardAt, yardsFrom, yardsOf, rises, inside, bodyRefusal, yardRefusal, yardRefusalIn}
+use Rattle.yard.specs.Yards.{yardCount, yardAt, yardsFrom, yardsOf, yardsRise, inside, yardBodyRefusal, yardRefusal, yardRefusalIn}
 
 -- a book with this version, this yard count and three yards
 abbrev three : ℕ → ℕ → ℕ → ℕ → ℕ → ℕ → List ℕ
@@ -35,5 +35,5 @@ pub examples :
     × (yardRefusalIn (three 1 3 1 3 4 0) 5 ≡ 0)
     × (yardRefusalIn (three 1 3 1 3 4 0) 4 ≡ 8)
     × (yardRefusalIn (three 1 3 1 3 3 0) 3 ≡ 5)
-unfolding choose refuse firstOf u8At u16At u32At openRefusal yardCount yardAt yardsFrom yardsOf rises inside bodyRefusal yardRefusal yardRefusalIn
+unfolding choose refuse firstOf u8At u16At u32At openRefusal yardCount yardAt yardsFrom yardsOf yardsRise inside yardBodyRefusal yardRefusal yardRefusalIn
 examples = (refl, refl, refl, refl, refl, refl, refl, refl, refl, refl, refl, refl, refl, refl, refl, refl, refl, refl)

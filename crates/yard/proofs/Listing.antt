@@ -10,7 +10,7 @@ use lib.ListN.{length, getD}
 use lib.Dec.{T, leb, ltb, leb→le, le→leb, ltb→lt, lt→ltb}
 use Rattle.book.specs.Lists.{Distinct}
 use Rattle.book.proofs.Choosing.{and-left, and-right, and-both}
-use Rattle.yard.specs.Yards.{yardAt, yardsFrom, rises, inside}
+use Rattle.yard.specs.Yards.{yardAt, yardsFrom, yardsRise, inside}
 
 pub from-length : (b : List ℕ) (n i : ℕ) → length (yardsFrom b n i) ≡ n
 unfolding yardsFrom
@@ -33,16 +33,16 @@ pub record Rises (low : ℕ) (ys : List ℕ) : Type 0 where
   pub below : (i : ℕ) → i < length ys → getD ys i 0 < 1024
   pub rising : (i j : ℕ) → i < j → j < length ys → getD ys i 0 < getD ys j 0
 
-pub rises-facts : (low : ℕ) (ys : List ℕ) → T (rises low ys) → Rises low ys
-unfolding rises
+pub rises-facts : (low : ℕ) (ys : List ℕ) → T (yardsRise low ys) → Rises low ys
+unfolding yardsRise
 rises-facts low [] t = record {
   above = λ i h. absurd (omega arith);
   below = λ i h. absurd (omega arith);
   rising = λ i j h k. absurd (omega arith);
 }
 rises-facts low (y ∷ ys) t =
-    let p : low ≤ y = leb→le low y (and-left (leb low y) (ltb y 1024 && rises (suc y) ys) t) in
-    let q : y < 1024 = ltb→lt y 1024 (and-left (ltb y 1024) (rises (suc y) ys) (and-right (leb low y) _ t)) in
+    let p : low ≤ y = leb→le low y (and-left (leb low y) (ltb y 1024 && yardsRise (suc y) ys) t) in
+    let q : y < 1024 = ltb→lt y 1024 (and-left (ltb y 1024) (yardsRise (suc y) ys) (and-right (leb low y) _ t)) in
     let r : Rises (suc y) ys = rises-facts (suc y) ys (and-right (ltb y 1024) _ (and-right (leb low y) _ t)) in
     record {
       above = above p r;
@@ -68,8 +68,8 @@ pub facts-rises : (low : ℕ) (ys : List ℕ)
     → (0 < length ys → low ≤ getD ys 0 0)
     → ((i : ℕ) → i < length ys → getD ys i 0 < 1024)
     → ((i : ℕ) → i + 1 < length ys → getD ys i 0 < getD ys (i + 1) 0)
-    → T (rises low ys)
-unfolding rises
+    → T (yardsRise low ys)
+unfolding yardsRise
 facts-rises low [] f g h = tt
 facts-rises low (y ∷ ys) f g h =
     and-both (leb low y) _ (le→leb low y (f (omega arith)))
@@ -77,20 +77,20 @@ facts-rises low (y ∷ ys) f g h =
     (facts-rises (suc y) ys (λ p. h 0 (omega arith)) (λ i p. g (suc i) (omega arith)) (λ i p. simp add-one (simp add-one at (h (suc i) (omega arith))))))
 
 -- a list that rises names nothing below where it starts, and nothing twice
-rises-above : (low : ℕ) (ys : List ℕ) → T (rises low ys) → (x : ℕ) → Mem x ys → low ≤ x
-unfolding rises
+rises-above : (low : ℕ) (ys : List ℕ) → T (yardsRise low ys) → (x : ℕ) → Mem x ys → low ≤ x
+unfolding yardsRise
 rises-above low [] t x k = absurd (not-nil k)
 rises-above low (y ∷ ys) t x k = go (cases-cons k) (λ j. rises-above (suc y) ys (and-right (ltb y 1024) _ (and-right (leb low y) _ t)) x j)
   where
     go : (x ≡ y) ⊎ Mem x ys → (Mem x ys → suc y ≤ x) → low ≤ x
-    go (inl e) f = omega (arith, leb→le low y (and-left (leb low y) (ltb y 1024 && rises (suc y) ys) t))
-    go (inr j) f = omega (arith, f j, leb→le low y (and-left (leb low y) (ltb y 1024 && rises (suc y) ys) t))
+    go (inl e) f = omega (arith, leb→le low y (and-left (leb low y) (ltb y 1024 && yardsRise (suc y) ys) t))
+    go (inr j) f = omega (arith, f j, leb→le low y (and-left (leb low y) (ltb y 1024 && yardsRise (suc y) ys) t))
 
-pub rises-distinct : (low : ℕ) (ys : List ℕ) → T (rises low ys) → Distinct ys
-unfolding rises
+pub rises-distinct : (low : ℕ) (ys : List ℕ) → T (yardsRise low ys) → Distinct ys
+unfolding yardsRise
 rises-distinct low [] t = tt
 rises-distinct low (y ∷ ys) t =
-    let r : T (rises (suc y) ys) = and-right (ltb y 1024) _ (and-right (leb low y) _ t) in
+    let r : T (yardsRise (suc y) ys) = and-right (ltb y 1024) _ (and-right (leb low y) _ t) in
     ((λ k. omega (arith, rises-above (suc y) ys r y k)), rises-distinct (suc y) ys r)
 
 -- test 8, of every yard

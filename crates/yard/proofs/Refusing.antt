@@ -11,7 +11,7 @@ use Rattle.book.specs.Choose.{refuse}
 use Rattle.book.specs.Bytes.{u16At}
 use Rattle.book.specs.Open.{openRefusal}
 use Rattle.book.proofs.Choosing.{passes, fails, true-T, false-T, first-earlier, first-later}
-use Rattle.yard.specs.Yards.{yardCount, yardsFrom, yardsOf, rises, bodyRefusal, yardRefusal}
+use Rattle.yard.specs.Yards.{yardCount, yardsFrom, yardsOf, yardsRise, yardBodyRefusal, yardRefusal}
 
 -- a book that does not open
 pub unopened : (b : List ℕ) (why : ℕ) → openRefusal b 2 ≡ why → 1 ≤ why → yardRefusal b ≡ why
@@ -19,25 +19,25 @@ unfolding yardRefusal
 unopened b why e h = first-earlier _ _ (omega arith) ∙ e
 
 module _ (b : List ℕ) (o : openRefusal b 2 ≡ 0) (count : ℕ) (e : count ≡ u16At b 5) where
-  body : yardRefusal b ≡ bodyRefusal b
+  body : yardRefusal b ≡ yardBodyRefusal b
   unfolding yardRefusal
   body = first-later _ _ o
 
   pub none : count < 1 → yardRefusal b ≡ 3
-  unfolding bodyRefusal yardCount
+  unfolding yardBodyRefusal yardCount
   none p = body ∙ fails _ _ _ (false-T (lt-leb 1 (u16At b 5) (omega arith)))
 
   module _ (p : 1 ≤ count) where
     pub many : 256 < count → yardRefusal b ≡ 3
-    unfolding bodyRefusal yardCount
+    unfolding yardBodyRefusal yardCount
     many q =
         body
         ∙ passes _ _ _ (true-T (le-leb 1 (u16At b 5) (omega arith)))
         ∙ fails _ _ _ (false-T (lt-leb (u16At b 5) 256 (omega arith)))
 
     module _ (q : count ≤ 256) where
-      rest : yardRefusal b ≡ refuse (eqb (length b) (7 + 2 * count)) 4 (refuse (rises 0 (yardsFrom b count 0)) 5 0)
-      unfolding bodyRefusal yardCount yardsOf
+      rest : yardRefusal b ≡ refuse (eqb (length b) (7 + 2 * count)) 4 (refuse (yardsRise 0 (yardsFrom b count 0)) 5 0)
+      unfolding yardBodyRefusal yardCount yardsOf
       rest =
           rw e
           (body
@@ -47,8 +47,8 @@ module _ (b : List ℕ) (o : openRefusal b 2 ≡ 0) (count : ℕ) (e : count ≡
       pub unsized : (length b ≡ 7 + 2 * count → ⊥) → yardRefusal b ≡ 4
       unsized r = rest ∙ fails _ _ _ (false-T (ne-eqb _ _ r))
 
-      pub unordered : length b ≡ 7 + 2 * count → rises 0 (yardsFrom b count 0) ≡ false → yardRefusal b ≡ 5
+      pub unordered : length b ≡ 7 + 2 * count → yardsRise 0 (yardsFrom b count 0) ≡ false → yardRefusal b ≡ 5
       unordered r t = rest ∙ passes _ _ _ (true-T (eq-eqb _ _ r)) ∙ fails _ _ _ (false-T t)
 
-      pub sound : length b ≡ 7 + 2 * count → rises 0 (yardsFrom b count 0) ≡ true → yardRefusal b ≡ 0
+      pub sound : length b ≡ 7 + 2 * count → yardsRise 0 (yardsFrom b count 0) ≡ true → yardRefusal b ≡ 0
       sound r t = rest ∙ passes _ _ _ (true-T (eq-eqb _ _ r)) ∙ passes _ _ _ (true-T t)

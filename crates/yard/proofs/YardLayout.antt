@@ -13,7 +13,7 @@ use Rattle.book.specs.Bytes.{u16At}
 use Rattle.book.specs.Lists.{Distinct}
 use Rattle.book.proofs.Choosing.{lt-or-ge, passes, fails, passed, true-T, refuse-case, first-earlier, first-later, first-none, first-case}
 use Rattle.book.proofs.Opening.{opens, open-zero, open-most}
-use Rattle.yard.specs.Yards.{yardCount, yardAt, yardsOf, rises, inside, bodyRefusal, yardRefusal, yardRefusalIn, YardLayout, RisingYards}
+use Rattle.yard.specs.Yards.{yardCount, yardAt, yardsOf, yardsRise, inside, yardBodyRefusal, yardRefusal, yardRefusalIn, YardLayout, RisingYards}
 use Rattle.yard.proofs.Listing.{from-length, from-at, Rises, rises-facts, facts-rises, rises-distinct, inside-all, all-inside}
 
 -- the list of a book's yards has as many as it counts, each where the book has it
@@ -32,10 +32,10 @@ record Body (b : List ℕ) : Type 0 where
   pub least : 1 ≤ yardCount b
   pub most : yardCount b ≤ 256
   pub sized : length b ≡ 7 + 2 * yardCount b
-  pub rise : T (rises 0 (yardsOf b))
+  pub rise : T (yardsRise 0 (yardsOf b))
 
-body-facts : (b : List ℕ) → bodyRefusal b ≡ 0 → Body b
-unfolding bodyRefusal
+body-facts : (b : List ℕ) → yardBodyRefusal b ≡ 0 → Body b
+unfolding yardBodyRefusal
 body-facts b e =
     let p = passed _ _ _ e (omega arith) in
     let q = passed _ _ _ (p .1) (omega arith) in
@@ -43,8 +43,8 @@ body-facts b e =
     let s = passed _ _ _ (r .1) (omega arith) in
     record { least = leb→le _ _ (p .0); most = leb→le _ _ (q .0); sized = eqb→eq _ _ (r .0); rise = s .0 }
 
-facts-body : (b : List ℕ) → Body b → bodyRefusal b ≡ 0
-unfolding bodyRefusal
+facts-body : (b : List ℕ) → Body b → yardBodyRefusal b ≡ 0
+unfolding yardBodyRefusal
 facts-body b f =
     passes _ _ _ (true-T (le-leb _ _ (f .least)))
     ∙ passes _ _ _ (true-T (le-leb _ _ (f .most)))
@@ -135,7 +135,7 @@ read-yard b i x e h = e ∙ sym (yards-at b i h)
 
 -- the yard book's own tests are 1 to 5
 pub yard-most : (b : List ℕ) → yardRefusal b ≤ 5
-unfolding yardRefusal bodyRefusal
+unfolding yardRefusal yardBodyRefusal
 yard-most b =
     first-case (λ n. n ≤ 5) _ (λ _. omega (arith, open-most b 2)) (λ _.
     refuse-case (λ n. n ≤ 5) _ (λ _. omega arith) (λ _.

@@ -31,9 +31,9 @@ yardsOf b = yardsFrom b (yardCount b) 0
 
 -- "below 1,024, rising strictly": every yard is below 1,024 and above the one before; `low` is the least number that
 -- the first may bear
-unfoldable pub rises : ℕ → List ℕ → Bool
-rises low [] = true
-rises low (y ∷ ys) = leb low y && (ltb y 1024 && rises (suc y) ys)
+unfoldable pub yardsRise : ℕ → List ℕ → Bool
+yardsRise low [] = true
+yardsRise low (y ∷ ys) = leb low y && (ltb y 1024 && yardsRise (suc y) ys)
 
 -- every yard is a junction of a road book with so many junctions
 unfoldable pub inside : ℕ → List ℕ → Bool
@@ -41,22 +41,22 @@ inside junctions [] = true
 inside junctions (y ∷ ys) = ltb y junctions && inside junctions ys
 
 -- the tests after the opening
-unfoldable pub bodyRefusal : List ℕ → ℕ
-bodyRefusal b =
+unfoldable pub yardBodyRefusal : List ℕ → ℕ
+yardBodyRefusal b =
     -- 3: "a .. yard .. count is outside its limits"
     refuse (leb 1 (yardCount b)) 3
     (refuse (leb (yardCount b) 256) 3
     -- 4: "A record is incomplete, or bytes follow the last one."
     (refuse (eqb (length b) (7 + 2 * yardCount b)) 4
     -- 5: "A record's value is outside its range or order."
-    (refuse (rises 0 (yardsOf b)) 5 0)))
+    (refuse (yardsRise 0 (yardsOf b)) 5 0)))
 
 -- the number of the first test that turns the book back, or 0
 unfoldable pub yardRefusal : List ℕ → ℕ
 yardRefusal b =
     -- 1, 2 and 3: the opening, with a header of two bytes
     firstOf (openRefusal b 2)
-    (bodyRefusal b)
+    (yardBodyRefusal b)
 
 -- the same beside a road book with so many junctions: "a test between books going with the later one"
 unfoldable pub yardRefusalIn : List ℕ → ℕ → ℕ
@@ -71,9 +71,9 @@ yardBook zero count = Yards count
 yardBook (suc n) count = Refused (suc n)
 
 -- the number of an answer: "The number of an accepted call is 0."
-unfoldable pub numberOf : YardBook → ℕ
-numberOf (Yards count) = 0
-numberOf (Refused why) = why
+unfoldable pub yardNumber : YardBook → ℕ
+yardNumber (Yards count) = 0
+yardNumber (Refused why) = why
 
 -- a yard book that no test turns back, sentence by sentence
 pub record YardLayout (b : List ℕ) : Type 0 where

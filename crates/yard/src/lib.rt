@@ -4,8 +4,8 @@ use book::Opened;
 ghost use mathlib.Core.Path.{_≡_};
 ghost use Prim.Native.Nat.{_+_, _*_, _≤_, _<_};
 ghost use lib.ListN.{length, getD};
-ghost use Rattle.yard.specs.Yards.{yardCount, yardsFrom, yardsOf, rises};
-ghost use Rattle.yard.specs.Yards.{yardRefusal, yardRefusalIn, yardBook, numberOf};
+ghost use Rattle.yard.specs.Yards.{yardCount, yardsFrom, yardsOf, yardsRise};
+ghost use Rattle.yard.specs.Yards.{yardRefusal, yardRefusalIn, yardBook, yardNumber};
 
 // What reading a yard book finds: how many yards it has, or the number of the test that turns it back.
 pub enum YardBook {
@@ -15,7 +15,7 @@ pub enum YardBook {
 
 // The number of an answer, 0 for a book that is read.
 pub fn number(o: YardBook) -> u8
-    ensures { λ r. ⌜ r ≡ numberOf o ⌝ }
+    ensures { λ r. ⌜ r ≡ yardNumber o ⌝ }
 {
     match o {
         YardBook::Yards(_) => 0,
@@ -26,7 +26,7 @@ pub fn number(o: YardBook) -> u8
 // Whether each of the `count` yards is below 1,024 and above the one before.
 fn yards_rise(b: &[u8], count: usize) -> bool
     requires { ⌜ 7 + 2 * count ≤ length (now b) ⌝ }
-    ensures { λ r. ⌜ r ≡ rises 0 (yardsFrom (now (b .entry)) count 0) ⌝ }
+    ensures { λ r. ⌜ r ≡ yardsRise 0 (yardsFrom (now (b .entry)) count 0) ⌝ }
 {
     let mut low: u16 = 0;
     let mut i: usize = 0;

@@ -2,13 +2,13 @@ use borrow.Author.Needs.{needs}
 use mathlib.Core.Path.{_≡_, ap, _∙_}
 use Prim.Native.Nat.{_*_, _-_, _≤_}
 use native.Mathlib.Omega.{arith}
-use Rattle.eccentricity.specs.Rows.{totalOf}
+use Rattle.eccentricity.specs.Rows.{rowTotal}
 use Rattle.eccentricity.proofs.Adding.{none-sum, more}
 use Rattle.eccentricity.proofs.total.Statement.{statement}
 use Rattle.eccentricity.proofs.total.Tie as tie
 
 abbrev Inv-loop : tie.InvT-loop
-Inv-loop ds n sum₀ v₀ sum v = (v ≤ n) × (sum ≤ v * 4294967296) × (sum ≡ totalOf ds v)
+Inv-loop ds n sum₀ v₀ sum v = (v ≤ n) × (sum ≤ v * 4294967296) × (sum ≡ rowTotal ds v)
 
 abbrev μ-loop : tie.MeasureT-loop
 μ-loop ds n sum₀ v₀ sum v = n - v
@@ -40,7 +40,7 @@ loop-again c = (omega arith, omega arith, more _ _ _ _ 0 (c .wide .ensures .0) (
 returns : tie.Need-returns Inv-loop μ-loop
 returns c =
     let e : c .before .loop .v ≡ c .before .before .before .args .n = omega arith in
-    c .before .loop .inv .2 ∙ ap (totalOf _) e
+    c .before .loop .inv .2 ∙ ap (rowTotal _) e
 
 pub total-spec : {M : Type 1} → statement M
 total-spec =

@@ -3,13 +3,13 @@ use mathlib.Core.Path.{_≡_, sym, ap, _∙_}
 use mathlib.Core.Bool.{true}
 use Prim.Native.Nat.{_-_, _≤_}
 use native.Mathlib.Omega.{arith}
-use Rattle.road.specs.Refusal.{reached}
+use Rattle.road.specs.Refusal.{allReached}
 use Rattle.road.proofs.Reaching.{none-yet, one-more, stops}
 use Rattle.road.proofs.all_reached.Statement.{statement}
 use Rattle.road.proofs.all_reached.Tie as tie
 
 abbrev Inv-loop : tie.InvT-loop
-Inv-loop ds n i₀ i = (i ≤ n) × (reached ds i ≡ true)
+Inv-loop ds n i₀ i = (i ≤ n) × (allReached ds i ≡ true)
 
 abbrev μ-loop : tie.MeasureT-loop
 μ-loop ds n i₀ i = n - i
@@ -38,7 +38,7 @@ loop-again c = (omega arith, one-more _ _ (omega arith) (c .before .before .befo
 returns-2 : tie.Need-returns-2 Inv-loop μ-loop
 returns-2 c =
     let e : c .before .loop .i ≡ c .before .before .args .n = omega arith in
-    sym (ap (reached _) (sym e) ∙ c .before .loop .inv .1)
+    sym (ap (allReached _) (sym e) ∙ c .before .loop .inv .1)
 
 pub all-reached-spec : {M : Type 1} → statement M
 all-reached-spec =

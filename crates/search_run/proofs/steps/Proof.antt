@@ -5,7 +5,7 @@ use native.Mathlib.Omega.{arith}
 use lib.ListN.{length, length-replicate}
 use Rattle.tree_layout.specs.Decode.{junctionCount}
 use Rattle.tree.proofs.Fielding.{laid-header, laid-few}
-use Rattle.search_leaf.proofs.Landmarks.{sheet-crews}
+use Rattle.search_leaf.proofs.Landmarks.{table-crews}
 use Rattle.search_step.proofs.Taking.{picked}
 use Rattle.search_run.proofs.Running.{Steps, queue-part, least-of, going, ends-settled, ends-limit, steps-on}
 use Rattle.search_run.proofs.Starts.{queue-count, steps-start}
@@ -13,18 +13,18 @@ use Rattle.search_run.proofs.steps.Statement.{statement}
 use Rattle.search_run.proofs.steps.Tie as tie
 
 abbrev Inv-loop : tie.InvT-loop
-Inv-loop tree places ends sheet drives crews asked words₀ measured₀ queue progress₀ taken₀ words measured progress taken =
+Inv-loop tree places ends table drives crews asked words₀ measured₀ queue progress₀ taken₀ words measured progress taken =
     (queue ≡ length places + junctionCount tree)
-    × Steps tree (asked .aggregate) (asked .k) crews drives places sheet (asked .limit) (length measured₀) words measured progress taken
+    × Steps tree (asked .aggregate) (asked .k) crews drives places table (asked .limit) (length measured₀) words measured progress taken
 
 abbrev μ-loop : tie.MeasureT-loop
-μ-loop tree places ends sheet drives crews asked words₀ measured₀ queue progress₀ taken₀ words measured progress taken = asked .limit - taken
+μ-loop tree places ends table drives crews asked words₀ measured₀ queue progress₀ taken₀ words measured progress taken = asked .limit - taken
 
 queue-root-requires : tie.Need-queue-root-requires Inv-loop μ-loop
 queue-root-requires c κs =
     let s = c .before .before .before .before .before .before .before .before .before .pre in
     let ready = s .0 .ready in
-    (ready .laid, ready .sheeted .limits, sheet-crews _ _ _ _ _ _ _ _ ready, ap length (s .4) ∙ length-replicate _ _)
+    (ready .laid, ready .tableed .limits, table-crews _ _ _ _ _ _ _ _ ready, ap length (s .4) ∙ length-replicate _ _)
 
 header-requires : tie.Need-header-requires Inv-loop μ-loop
 header-requires c κs = laid-header _ _ (c .before .before .before .before .before .before .before .before .before .before .before .before .pre .0 .ready .laid)

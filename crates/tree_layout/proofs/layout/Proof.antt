@@ -7,7 +7,7 @@ use lib.ListN.{length}
 use Rattle.book.specs.Open.{openRefusal}
 use Rattle.book.proofs.Choosing.{true-T}
 use Rattle.book.proofs.Opening.{opened-body, opened-refused, opens}
-use Rattle.tree_layout.specs.Decode.{junctionCount, regionCount, yardCount, landmarkCount}
+use Rattle.tree_layout.specs.Decode.{junctionCount, regionCount, treeYardCount, landmarkCount}
 use Rattle.tree_layout.specs.Refusal.{between, recordsOk}
 use Rattle.tree_layout.proofs.Tests.{between-both}
 use Rattle.tree_layout.proofs.Refusing.{unopened, junctions-out, regions-out, yards-out, landmarks-out, records-out, values-out, laid-out, limit}
@@ -34,7 +34,7 @@ regions-in : (c : tie.Else2) → between 1 511 (regionCount (c .before .before .
 regions-in c = limit _ _ _ _ _ _ (c .before .within2 .ensures) (c .before .before .before .before .before .u16-at2 .ensures
     ∙ regions-read _) (not-false _ (c .if2 .left))
 
-yards-in : (c : tie.Else3) → between 1 256 (yardCount (c .before .before .before .before .before .before .before .before .before .before .before .before
+yards-in : (c : tie.Else3) → between 1 256 (treeYardCount (c .before .before .before .before .before .before .before .before .before .before .before .before
     .before .before .args .b .now)) ≡ true
 yards-in c = limit _ _ _ _ _ _ (c .before .within3 .ensures) (c .before .before .u16-at3 .ensures ∙ yards-read _) (not-false _ (c .if3 .left))
 

@@ -9,19 +9,19 @@ use Rattle.tree_layout.specs.Decode.{readLists}
 use Rattle.tree_layout.proofs.Turns.{room}
 use Rattle.tree_leaf.specs.Leaf.{firstList, agreeing}
 use Rattle.tree_leaf.proofs.Listing.{first-list, parts-agree, agree-stop, agree-next, agree-end}
-use Rattle.tree_leaf.proofs.Table.{part-room, part-fits, part-table}
+use Rattle.tree_leaf.proofs.Members.{part-room, part-fits, part-members}
 use Rattle.tree_leaf.proofs.all_agree.Statement.{statement}
 use Rattle.tree_leaf.proofs.all_agree.Tie as tie
 
 abbrev Inv-loop : tie.InvT-loop
-Inv-loop b start m f named table₀ n first at₀ k₀ table at k =
+Inv-loop b start m f named members₀ n first at₀ k₀ members at k =
     (k ≤ m) × (start ≤ at) × (at + (m - k) * (2 + 6 * f .yards) ≤ length b)
     × (agreeing (f .first) (f .after) (firstList (readLists b (f .yards) m start)) (readLists b (f .yards) (m - k) at)
     ≡ agreeing (f .first) (f .after) (firstList (readLists b (f .yards) m start)) (readLists b (f .yards) m start))
-    × (length table ≡ 1024)
+    × (length members ≡ 1024)
 
 abbrev μ-loop : tie.MeasureT-loop
-μ-loop b start m f named table₀ n first at₀ k₀ table at k = m - k
+μ-loop b start m f named members₀ n first at₀ k₀ members at k = m - k
 
 -- the first list lies in the book
 first-room : (c : tie.After-struct-known Inv-loop μ-loop) → c .before .before .before .before .args .start +
@@ -57,7 +57,7 @@ same-yards-requires c κs =
       s .pre .2,
       i .4,
       part-fits _ _ _ _ one _ _ (s .pre .4),
-      part-table _ _ _ _ one _ (s .pre .5),
+      part-members _ _ _ _ one _ (s .pre .5),
     )
 
 same-length : tie.Need-same-length Inv-loop μ-loop

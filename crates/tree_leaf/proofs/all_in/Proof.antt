@@ -7,18 +7,18 @@ use native.Mathlib.Omega.{arith}
 use Rattle.tree_layout.specs.Decode.{readList}
 use Rattle.tree_layout.specs.Refusal.{all}
 use Rattle.tree_layout.proofs.Accessing.{listed-yard}
-use Rattle.tree_leaf.specs.Table.{inTable}
+use Rattle.tree_leaf.specs.Members.{isMember}
 use Rattle.tree_leaf.proofs.Listing.{all-end}
-use Rattle.tree_leaf.proofs.Table.{in-beyond, in-absent, in-next}
+use Rattle.tree_leaf.proofs.Members.{in-beyond, in-absent, in-next}
 use Rattle.tree_leaf.proofs.all_in.Statement.{statement}
 use Rattle.tree_leaf.proofs.all_in.Tie as tie
 
 abbrev Inv-loop : tie.InvT-loop
-Inv-loop p n table k₀ k =
-    (k ≤ n) × (all (inTable table) (readList p (n - k) (6 * k)) ≡ all (inTable table) (readList p n 0))
+Inv-loop p n members k₀ k =
+    (k ≤ n) × (all (isMember members) (readList p (n - k) (6 * k)) ≡ all (isMember members) (readList p n 0))
 
 abbrev μ-loop : tie.MeasureT-loop
-μ-loop p n table k₀ k = n - k
+μ-loop p n members k₀ k = n - k
 
 loop-holds : tie.Need-loop-holds Inv-loop μ-loop
 loop-holds c = (omega arith, simp sub-zero)

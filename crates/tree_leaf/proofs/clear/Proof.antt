@@ -9,16 +9,16 @@ use Rattle.tree_leaf.proofs.clear.Statement.{statement}
 use Rattle.tree_leaf.proofs.clear.Tie as tie
 
 abbrev Inv-loop : tie.InvT-loop
-Inv-loop table₀ i₀ table i = (i ≤ 1024) × (length table₀ ≡ 1024) × (length table ≡ 1024) × (table ≡ filled i false table₀)
+Inv-loop members₀ i₀ members i = (i ≤ 1024) × (length members₀ ≡ 1024) × (length members ≡ 1024) × (members ≡ filled i false members₀)
 
 abbrev μ-loop : tie.MeasureT-loop
-μ-loop table₀ i₀ table i = 1024 - i
+μ-loop members₀ i₀ members i = 1024 - i
 
 loop-holds : tie.Need-loop-holds Inv-loop μ-loop
 loop-holds c = (omega arith, omega arith, omega arith, filled-none _ _)
 
-slice-write-table : tie.Need-slice-write-table Inv-loop μ-loop
-slice-write-table c = search needs
+slice-write-members : tie.Need-slice-write-members Inv-loop μ-loop
+slice-write-members c = search needs
 
 add-i : tie.Need-add-i Inv-loop μ-loop
 add-i c = search needs
@@ -46,7 +46,7 @@ clear-spec =
     Inv-loop
     μ-loop
     loop-holds
-    slice-write-table
+    slice-write-members
     add-i
     loop-less
     loop-again

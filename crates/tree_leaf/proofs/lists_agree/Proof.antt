@@ -5,7 +5,7 @@ use native.Mathlib.Nat.{sub-zero}
 use native.Mathlib.Omega.{arith}
 use lib.ListN.{length}
 use Rattle.tree_layout.proofs.Turns.{room}
-use Rattle.tree_leaf.proofs.Table.{none-agree, part-room, first-fails, first-fits}
+use Rattle.tree_leaf.proofs.Members.{none-agree, part-room, first-fails, first-fits}
 use borrow.Author.Needs.{needs}
 use Rattle.tree_leaf.proofs.lists_agree.Statement.{statement}
 use Rattle.tree_leaf.proofs.lists_agree.Tie as tie
@@ -29,18 +29,18 @@ cast-list c = search needs
 list-requires : tie.Need-list-requires
 list-requires c κs = first-room c
 
-slice-aggregate-fill-table : tie.Need-slice-aggregate-fill-table
-slice-aggregate-fill-table c = search needs
+slice-aggregate-fill-members : tie.Need-slice-aggregate-fill-members
+slice-aggregate-fill-members c = search needs
 
-fill-table-requires : tie.Need-fill-table-requires
-fill-table-requires c κs =
+fill-members-requires : tie.Need-fill-members-requires
+fill-members-requires c κs =
     (part-room _ _ _ _ (c .before .list .ensures) (first-room (c .before .before)), c .before .before .before .before .before .pre .1, search needs)
 
 returns-2 : tie.Need-returns-2
 returns-2 c =
     let t = c .before .before in
     sym (first-fails _ _ _ _ _ _ (some (c .before .before .before .before .before)) _ _ _ (c .before .before .before .before .list .ensures)
-    (t .fill-table .ensures .0) (t .fill-table .ensures .1) (not-true _ (c .if2 .taken)))
+    (t .fill-members .ensures .0) (t .fill-members .ensures .1) (not-true _ (c .if2 .taken)))
 
 slice-aggregate-all-agree : tie.Need-slice-aggregate-all-agree
 slice-aggregate-all-agree c = search needs
@@ -53,7 +53,7 @@ all-agree-requires c κs =
     let t = c .before .before .before .before in
     let s = c .before .before .before .before .before .before .before .before .before .before in
     let w = first-fits _ _ (s .args .m) _ _ _ (some (c .before .before .before .before .before .before .before)) _ _ _
-    (c .before .before .before .before .before .before .list .ensures) (t .fill-table .ensures .0) (t .fill-table .ensures .1) (not-false _
+    (c .before .before .before .before .before .before .list .ensures) (t .fill-members .ensures .0) (t .fill-members .ensures .1) (not-false _
     (c .before .before .if2 .left)) in
     (s .pre .0, some (c .before .before .before .before .before .before .before), s .pre .1, search needs, w .0, w .1)
 
@@ -67,8 +67,8 @@ lists-agree-spec =
     returns
     cast-list
     list-requires
-    slice-aggregate-fill-table
-    fill-table-requires
+    slice-aggregate-fill-members
+    fill-members-requires
     returns-2
     slice-aggregate-all-agree
     slice-aggregate-all-agree-2

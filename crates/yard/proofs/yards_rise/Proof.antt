@@ -3,14 +3,14 @@ use mathlib.Core.Path.{_≡_, sym, _∙_}
 use Prim.Native.Nat.{_-_, _≤_}
 use native.Mathlib.Nat.{sub-zero}
 use native.Mathlib.Omega.{arith}
-use Rattle.yard.specs.Yards.{yardsFrom, rises}
+use Rattle.yard.specs.Yards.{yardsFrom, yardsRise}
 use Rattle.yard.proofs.Rising.{goes-on, falls, high, ends}
 use Rattle.yard.proofs.yards_rise.Statement.{statement}
 use Rattle.yard.proofs.yards_rise.Tie as tie
 
 abbrev Inv-loop : tie.InvT-loop
 Inv-loop b count low₀ i₀ low i =
-    (i ≤ count) × (rises low (yardsFrom b (count - i) i) ≡ rises 0 (yardsFrom b count 0))
+    (i ≤ count) × (yardsRise low (yardsFrom b (count - i) i) ≡ yardsRise 0 (yardsFrom b count 0))
 
 abbrev μ-loop : tie.MeasureT-loop
 μ-loop b count low₀ i₀ low i = count - i

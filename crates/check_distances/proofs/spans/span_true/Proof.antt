@@ -6,7 +6,7 @@ use lib.ListN.{length, drop}
 use Rattle.road.specs.Dijkstra.{far, at}
 use Rattle.yard.specs.Yards.{yardsOf}
 use Rattle.yard.proofs.YardLayout.{yards-length}
-use Rattle.check_rules.specs.Truth.{leastFrom, greatestFrom, within}
+use Rattle.check_rules.specs.Truth.{leastDistanceFrom, greatestFrom, within}
 use Rattle.check_distances.proofs.Spanning.{least-turn, least-end, greatest-turn, greatest-end, least-other, greatest-decides}
 use Rattle.check_distances.proofs.spans.span_true.Statement.{statement}
 use Rattle.check_distances.proofs.spans.span_true.Tie as tie
@@ -14,7 +14,8 @@ use Rattle.check_distances.proofs.spans.span_true.Tie as tie
 abbrev Inv-loop : tie.InvT-loop
 Inv-loop ds yard f l n low₀ high₀ k₀ low high k =
     (k ≤ n)
-    × (leastFrom (at ds) low (within (f .first) (f .after) (drop k (yardsOf yard))) ≡ leastFrom (at ds) far (within (f .first) (f .after) (yardsOf yard)))
+    × (leastDistanceFrom (at ds) low (within (f .first) (f .after) (drop k (yardsOf yard)))
+    ≡ leastDistanceFrom (at ds) far (within (f .first) (f .after) (yardsOf yard)))
     × (greatestFrom (at ds) high (within (f .first) (f .after) (drop k (yardsOf yard))) ≡ greatestFrom (at ds) 0 (within (f .first) (f .after) (yardsOf yard)))
 
 abbrev μ-loop : tie.MeasureT-loop

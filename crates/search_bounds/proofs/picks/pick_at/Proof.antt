@@ -9,11 +9,11 @@ use Rattle.search_bounds.proofs.picks.pick_at.Statement.{statement}
 use Rattle.search_bounds.proofs.picks.pick_at.Tie as tie
 
 abbrev Inv-loop : tie.InvT-loop
-Inv-loop tree at sheet rows crews m best₀ p₀ j₀ best p j =
-    Picked (markWeight sheet rows crews (marksAt tree at)) m j p best
+Inv-loop tree at table rows crews m best₀ p₀ j₀ best p j =
+    Picked (markWeight table rows crews (marksAt tree at)) m j p best
 
 abbrev μ-loop : tie.MeasureT-loop
-μ-loop tree at sheet rows crews m best₀ p₀ j₀ best p j = m - j
+μ-loop tree at table rows crews m best₀ p₀ j₀ best p j = m - j
 
 header-requires : tie.Need-header-requires Inv-loop μ-loop
 header-requires c κs = omega (arith, c .before .before .before .pre .0 .header)

@@ -9,11 +9,11 @@ use Rattle.search_bounds.proofs.picks.weight.Statement.{statement}
 use Rattle.search_bounds.proofs.picks.weight.Tie as tie
 
 abbrev Inv-loop : tie.InvT-loop
-Inv-loop sheet rows crews l x₀ j₀ x j =
-    Summed 0 (rowsLower sheet rows l) crews j x
+Inv-loop table rows crews l x₀ j₀ x j =
+    Summed 0 (rowsLower table rows l) crews j x
 
 abbrev μ-loop : tie.MeasureT-loop
-μ-loop sheet rows crews l x₀ j₀ x j = length crews - j
+μ-loop table rows crews l x₀ j₀ x j = length crews - j
 
 loop-holds : tie.Need-loop-holds Inv-loop μ-loop
 loop-holds c = summed-none _ _ _

@@ -9,11 +9,11 @@ use Rattle.search_bounds.proofs.regions.crew_region.Statement.{statemen
 use Rattle.search_bounds.proofs.regions.crew_region.Tie as tie
 
 abbrev Inv-loop : tie.InvT-loop
-Inv-loop tree at sheet rows q m x₀ j₀ x j =
-    Greatest (rowsMark sheet rows q) (marksAt tree at) j x
+Inv-loop tree at table rows q m x₀ j₀ x j =
+    Greatest (rowsMark table rows q) (marksAt tree at) j x
 
 abbrev μ-loop : tie.MeasureT-loop
-μ-loop tree at sheet rows q m x₀ j₀ x j = m - j
+μ-loop tree at table rows q m x₀ j₀ x j = m - j
 
 header-requires : tie.Need-header-requires Inv-loop μ-loop
 header-requires c κs = omega (arith, c .before .before .pre .0 .header)

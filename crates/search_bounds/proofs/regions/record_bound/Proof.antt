@@ -10,11 +10,11 @@ use Rattle.search_bounds.proofs.regions.record_bound.Statement.{stateme
 use Rattle.search_bounds.proofs.regions.record_bound.Tie as tie
 
 abbrev Inv-loop : tie.InvT-loop
-Inv-loop tree at sheet rows code crews x₀ j₀ x j =
-    Summed code (rowsCrew sheet rows (marksAt tree at)) crews j x
+Inv-loop tree at table rows code crews x₀ j₀ x j =
+    Summed code (rowsCrew table rows (marksAt tree at)) crews j x
 
 abbrev μ-loop : tie.MeasureT-loop
-μ-loop tree at sheet rows code crews x₀ j₀ x j = length crews - j
+μ-loop tree at table rows code crews x₀ j₀ x j = length crews - j
 
 loop-holds : tie.Need-loop-holds Inv-loop μ-loop
 loop-holds c = summed-none _ _ _

@@ -8,17 +8,17 @@ use Rattle.search_bounds.proofs.rows.lower.Statement.{statement}
 use Rattle.search_bounds.proofs.rows.lower.Tie as tie
 
 abbrev Inv-loop : tie.InvT-loop
-Inv-loop sheet rows l q x₀ r₀ x r =
-    (r ≤ rows) × (x ≡ rowsLower sheet r l q)
+Inv-loop table rows l q x₀ r₀ x r =
+    (r ≤ rows) × (x ≡ rowsLower table r l q)
 
 abbrev μ-loop : tie.MeasureT-loop
-μ-loop sheet rows l q x₀ r₀ x r = rows - r
+μ-loop table rows l q x₀ r₀ x r = rows - r
 
 loop-holds : tie.Need-loop-holds Inv-loop μ-loop
 loop-holds c = (omega arith, sym (lower-none _ _ _))
 
-row-apart-requires : tie.Need-row-apart-requires Inv-loop μ-loop
-row-apart-requires c κs = search needs
+row-abs-diff-requires : tie.Need-row-abs-diff-requires Inv-loop μ-loop
+row-abs-diff-requires c κs = search needs
 
 greater-requires : tie.Need-greater-requires Inv-loop μ-loop
 greater-requires c κs = search needs
@@ -30,7 +30,7 @@ loop-less : tie.Need-loop-less Inv-loop μ-loop
 loop-less c = search needs
 
 loop-again : tie.Need-loop-again Inv-loop μ-loop
-loop-again c = (omega arith, lower-turn _ _ _ _ _ _ _ (c .before .before .before .loop .inv .1) (c .before .row-apart .ensures) (c .greater .ensures))
+loop-again c = (omega arith, lower-turn _ _ _ _ _ _ _ (c .before .before .before .loop .inv .1) (c .before .row-abs-diff .ensures) (c .greater .ensures))
 
 returns : tie.Need-returns Inv-loop μ-loop
 returns c = lower-end _ _ _ _ _ _ (c .before .loop .inv .0) (c .loop-test .left) (c .before .loop .inv .1)
@@ -42,7 +42,7 @@ lower-spec =
     Inv-loop
     μ-loop
     loop-holds
-    row-apart-requires
+    row-abs-diff-requires
     greater-requires
     add-r
     loop-less

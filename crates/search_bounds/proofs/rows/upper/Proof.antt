@@ -8,11 +8,11 @@ use Rattle.search_bounds.proofs.rows.upper.Statement.{statement}
 use Rattle.search_bounds.proofs.rows.upper.Tie as tie
 
 abbrev Inv-loop : tie.InvT-loop
-Inv-loop sheet rows l q x₀ r₀ x r =
-    (0 < r) × (r ≤ rows) × (x ≡ rowsUpper sheet r l q)
+Inv-loop table rows l q x₀ r₀ x r =
+    (0 < r) × (r ≤ rows) × (x ≡ rowsUpper table r l q)
 
 abbrev μ-loop : tie.MeasureT-loop
-μ-loop sheet rows l q x₀ r₀ x r = rows - r
+μ-loop table rows l q x₀ r₀ x r = rows - r
 
 row-sum-requires : tie.Need-row-sum-requires Inv-loop μ-loop
 row-sum-requires c κs = search needs

@@ -2,7 +2,7 @@ use mathlib.Core.Path.{_∙_}
 use Prim.Native.Nat.{_-_}
 use native.Mathlib.Omega.{arith}
 use lib.ListN.{length}
-use Rattle.search_rules.specs.Bounds.{apart}
+use Rattle.search_rules.specs.Bounds.{absDiff}
 use Rattle.search_bounds.proofs.Folds.{Summed, summed-none, summed-room, summed-turn, summed-all}
 use Rattle.search_bounds.proofs.Aggregating.{f-all}
 use borrow.Author.Needs.{needs}
@@ -10,7 +10,7 @@ use Rattle.search_bounds.proofs.yards.f_of.Statement.{statement}
 use Rattle.search_bounds.proofs.yards.f_of.Tie as tie
 
 abbrev Inv-loop : tie.InvT-loop
-Inv-loop out code distance total₀ j₀ total j = Summed code (λ x. apart x distance) out j total
+Inv-loop out code distance total₀ j₀ total j = Summed code (λ x. absDiff x distance) out j total
 
 abbrev μ-loop : tie.MeasureT-loop
 μ-loop out code distance total₀ j₀ total j = length out - j
@@ -18,14 +18,14 @@ abbrev μ-loop : tie.MeasureT-loop
 loop-holds : tie.Need-loop-holds Inv-loop μ-loop
 loop-holds c = summed-none _ _ _
 
-mul-apart : tie.Need-mul-apart Inv-loop μ-loop
-mul-apart c = search needs
+mul-abs-diff : tie.Need-mul-abs-diff Inv-loop μ-loop
+mul-abs-diff c = search needs
 
-shared-slice-read-apart : tie.Need-shared-slice-read-apart Inv-loop μ-loop
-shared-slice-read-apart c = search needs
+shared-slice-read-abs-diff : tie.Need-shared-slice-read-abs-diff Inv-loop μ-loop
+shared-slice-read-abs-diff c = search needs
 
-apart-requires : tie.Need-apart-requires Inv-loop μ-loop
-apart-requires c κs = search needs
+abs-diff-requires : tie.Need-abs-diff-requires Inv-loop μ-loop
+abs-diff-requires c κs = search needs
 
 wide-requires : tie.Need-wide-requires Inv-loop μ-loop
 wide-requires c κs = search needs
@@ -45,7 +45,7 @@ loop-less c = search needs
 
 loop-again : tie.Need-loop-again Inv-loop μ-loop
 loop-again c = summed-turn _ _ _ _ _ (c .before .before .before .before .before .loop .inv) (c .before .before .before .before .loop-test .taken) _ _ (c
-    .before .wide .ensures .1) (c .before .wide .ensures .0 ∙ c .before .before .apart .ensures) (c .combine .ensures)
+    .before .wide .ensures .1) (c .before .wide .ensures .0 ∙ c .before .before .abs-diff .ensures) (c .combine .ensures)
 
 returns : tie.Need-returns Inv-loop μ-loop
 returns c = f-all _ _ _ _ (summed-all _ _ _ _ _ (c .before .loop .inv) (c .loop-test .left))
@@ -57,9 +57,9 @@ f-of-spec =
     Inv-loop
     μ-loop
     loop-holds
-    mul-apart
-    shared-slice-read-apart
-    apart-requires
+    mul-abs-diff
+    shared-slice-read-abs-diff
+    abs-diff-requires
     wide-requires
     combine-requires
     add-j

@@ -7,16 +7,16 @@ use Rattle.search_bounds.proofs.yards.yard_bound.Statement.{statement}
 use Rattle.search_bounds.proofs.yards.yard_bound.Tie as tie
 
 abbrev Inv-loop : tie.InvT-loop
-Inv-loop sheet rows crews out code yard distance total₀ j₀ total j = Bounding code sheet rows crews out yard distance j total
+Inv-loop table rows crews out code yard distance total₀ j₀ total j = Bounding code table rows crews out yard distance j total
 
 abbrev μ-loop : tie.MeasureT-loop
-μ-loop sheet rows crews out code yard distance total₀ j₀ total j = length crews - j
+μ-loop table rows crews out code yard distance total₀ j₀ total j = length crews - j
 
 loop-holds : tie.Need-loop-holds Inv-loop μ-loop
 loop-holds c = bounding-none _ _ _ _ _ _ _
 
-crew-apart-requires : tie.Need-crew-apart-requires Inv-loop μ-loop
-crew-apart-requires c κs = search needs
+crew-abs-diff-requires : tie.Need-crew-abs-diff-requires Inv-loop μ-loop
+crew-abs-diff-requires c κs = search needs
 
 wide-requires : tie.Need-wide-requires Inv-loop μ-loop
 wide-requires c κs = search needs
@@ -39,7 +39,7 @@ loop-less c = search needs
 
 loop-again : tie.Need-loop-again Inv-loop μ-loop
 loop-again c = bounding-more _ _ _ _ _ _ _ _ _ (c .before .before .before .before .loop .inv) _ _ _ (c .before .before .before .loop-test .taken) (c .before
-    .before .crew-apart .ensures) (c .before .wide .ensures .0) (c .before .wide .ensures .1) (c .combine .ensures)
+    .before .crew-abs-diff .ensures) (c .before .wide .ensures .0) (c .before .wide .ensures .1) (c .combine .ensures)
 
 returns : tie.Need-returns Inv-loop μ-loop
 returns c = bounding-all _ _ _ _ _ _ _ _ _ (c .before .loop .inv) (c .loop-test .left)
@@ -51,7 +51,7 @@ yard-bound-spec =
     Inv-loop
     μ-loop
     loop-holds
-    crew-apart-requires
+    crew-abs-diff-requires
     wide-requires
     combine-requires
     add-j

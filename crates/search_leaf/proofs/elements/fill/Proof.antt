@@ -8,11 +8,11 @@ use Rattle.search_leaf.proofs.elements.fill.Statement.{statement}
 use Rattle.search_leaf.proofs.elements.fill.Tie as tie
 
 abbrev Inv-loop : tie.InvT-loop
-Inv-loop list yards sheet crews out code h words₀ rows k₀ words k =
-    Filled (h .regions) (h .junctions) (fIn code out) (boundIn code sheet (h .landmarks) crews out) list yards k words₀ words
+Inv-loop list yards table crews out code h words₀ rows k₀ words k =
+    Filled (h .regions) (h .junctions) (fIn code out) (boundIn code table (h .landmarks) crews out) list yards k words₀ words
 
 abbrev μ-loop : tie.MeasureT-loop
-μ-loop list yards sheet crews out code h words₀ rows k₀ words k = yards - k
+μ-loop list yards table crews out code h words₀ rows k₀ words k = yards - k
 
 cast-rows : tie.Need-cast-rows Inv-loop μ-loop
 cast-rows c = search needs

@@ -68,7 +68,7 @@ returns c =
     let at-junction = at-to-crews .before .before in
     let start = at-junction .before .before .before .before .before .before in
     λ road d n. opened-words _ (start .args .at) _ _ (at-header .before .list .ensures) _ (at-header .header .ensures) (start .args .code)
-    (start .args .sheet .now) (start .args .crews .now) (at-to-crews .to-crews .last .1 .1 .1 .0) _
+    (start .args .table .now) (start .args .crews .now) (at-to-crews .to-crews .last .1 .1 .1 .0) _
     (at-to-crews .to-crews .kept .1 .1 .1 .0 ∙ length-take-le _ _ (start .pre .0 .driven .few)) _ _
     (c .before .before .fill .ensures) road _ (at-junction .junction .ensures)
     (at-to-crews .to-crews .ensures road d (omega (arith, at-junction .junction .ensures)))

@@ -3,7 +3,7 @@ use native.Mathlib.Omega.{arith}
 use lib.ListN.{set, length-set}
 use Rattle.tree_layout.proofs.RecordFields.{fields-inside}
 use Rattle.search_leaf.proofs.ElementsOpening.{header-landmarks-are, header-rows}
-use Rattle.search_leaf.proofs.Landmarks.{yards-of, driven-of, sheet-crews, pick-of, words-are, pick-room, slot, record-here, pick-inside}
+use Rattle.search_leaf.proofs.Landmarks.{yards-of, driven-of, table-crews, pick-of, words-are, pick-room, slot, record-here, pick-inside}
 use Rattle.search_leaf.proofs.Landmarks.{list-room, place-near, list-near, driven-to, same-queue, open-leaf}
 use borrow.Author.Needs.{needs}
 use Rattle.search_leaf.proofs.opening.open.Statement.{statement}
@@ -25,8 +25,8 @@ choose-mark-requires c κs =
       ready .laid,
       slot _ _ _ _ _ _ _ _ ready _ (start .pre .1 _ ready .isLeaf),
       header-rows _ _ (c .before .header .ensures) _
-          (ready .sheeted .limits),
-      sheet-crews _ _ _ _ _ _ _ _ ready,
+          (ready .tableed .limits),
+      table-crews _ _ _ _ _ _ _ _ ready,
     )
 
 pick-at-requires : tie.Need-pick-at-requires
@@ -89,7 +89,7 @@ open-requires c κs =
     let n = yards-of _ _ _ (at-fields .fields .ensures) in
     let a = c .before .mark-place .ensures in (
       driven-to _ _ _ _ _ _ _ _ ready _ l _ refl _ _ _ pick n a,
-      ready .sheeted .limits,
+      ready .tableed .limits,
       record-here _ _ _ _ _ _ _ _ ready _ l _ refl .header,
       list-room _ _ _ _ _ _ _ _ ready _ l _ refl _ _ _ pick n a,
       ready .laid .layout .junctions .1,

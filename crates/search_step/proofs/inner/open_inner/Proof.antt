@@ -12,12 +12,12 @@ use Rattle.search_step.proofs.inner.open_inner.Statement.{statement}
 use Rattle.search_step.proofs.inner.open_inner.Tie as tie
 
 abbrev Inv-loop : tie.InvT-loop
-Inv-loop tree places ends sheet crews code words₀ a rows firsts i n c₀ k₀ words c k =
+Inv-loop tree places ends table crews code words₀ a rows firsts i n c₀ k₀ words c k =
     Counted tree places rows firsts
-    × Queueing (keyOf tree sheet (landmarkCount tree) code crews a) tree (length places) (junctionCount tree) i n k c words₀ words
+    × Queueing (keyOf tree table (landmarkCount tree) code crews a) tree (length places) (junctionCount tree) i n k c words₀ words
 
 abbrev μ-loop : tie.MeasureT-loop
-μ-loop tree places ends sheet crews code words₀ a rows firsts i n c₀ k₀ words c k = n - k
+μ-loop tree places ends table crews code words₀ a rows firsts i n c₀ k₀ words c k = n - k
 
 header-requires : tie.Need-header-requires Inv-loop μ-loop
 header-requires c κs = laid-header _ _ (c .before .before .before .before .before .before .pre .0)

@@ -1,5 +1,5 @@
 use borrow.Author.Needs.{needs}
-use Rattle.search_leaf.proofs.Landmarks.{sheet-crews}
+use Rattle.search_leaf.proofs.Landmarks.{table-crews}
 use Rattle.search_step.proofs.Opening.{leaf-yes, leaf-no, region-slot, leaf-ready, leaf-is-taken, inner-slots, inner-cached, inner-is-taken}
 use Rattle.search_step.proofs.regions.take.Statement.{statement}
 use Rattle.search_step.proofs.regions.take.Tie as tie
@@ -29,7 +29,7 @@ open-inner-requires : tie.Need-open-inner-requires
 open-inner-requires c κs =
     let s = c .before .before .before .before .before .before .before .before .before .before .before .pre in
     let ready = s .0 .ready in
-    (ready .laid, s .1, ready .sheeted .limits, sheet-crews _ _ _ _ _ _ _ _ ready, inner-slots ready _ _ (s .2 (s .0 .road) ready))
+    (ready .laid, s .1, ready .tableed .limits, table-crews _ _ _ _ _ _ _ _ ready, inner-slots ready _ _ (s .2 (s .0 .road) ready))
 
 same-length-2 : tie.Need-same-length-2
 same-length-2 c = search needs

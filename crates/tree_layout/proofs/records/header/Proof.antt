@@ -1,5 +1,5 @@
 use Rattle.tree_layout.specs.Reading.{headerOf}
-use Rattle.tree_layout.specs.Decode.{junctionCount, regionCount, yardCount, landmarkCount}
+use Rattle.tree_layout.specs.Decode.{junctionCount, regionCount, treeYardCount, landmarkCount}
 use borrow.Author.Needs.{needs}
 use Rattle.tree_layout.proofs.records.header.Statement.{statement}
 use Rattle.tree_layout.proofs.records.header.Tie as tie
@@ -17,7 +17,7 @@ u8-at-requires : tie.Need-u8-at-requires
 u8-at-requires c κs = search needs
 
 returns : tie.Need-returns
-unfolding headerOf junctionCount regionCount yardCount landmarkCount
+unfolding headerOf junctionCount regionCount treeYardCount landmarkCount
 returns c = cc
 
 pub header-spec : {M : Type 1} → statement M

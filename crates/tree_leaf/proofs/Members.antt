@@ -1,4 +1,4 @@
--- The table of a list's yards, and the tests by it. Assumes nothing.
+-- The members of a list's yards, and the tests by it. Assumes nothing.
 use mathlib.Core.Path.{_≡_, refl, sym, ap, _∙_}
 use mathlib.Core.Bool.{Bool, true, false, not, _&&_, _||_}
 use mathlib.Core.List.{List, [], _∷_}
@@ -17,15 +17,15 @@ use Rattle.tree_layout.specs.Refusal.{all}
 use Rattle.tree_layout.proofs.Accessing.{part-length}
 use Rattle.tree_layout.proofs.Reading.{all-none, all-next, list-turn, list-none}
 use Rattle.tree_leaf.specs.Leaf.{names, once, inRange, namedBy, firstList, sameYards, agreeing}
-use Rattle.tree_leaf.specs.Table.{tableOf, inTable, fits}
+use Rattle.tree_leaf.specs.Members.{membersOf, isMember, fits}
 use Rattle.tree_leaf.proofs.Listing.{once-stop, once-next, range-low, range-high, range-next, same-to, same-from, first-list, agree-stop, agree-end}
 
--- ---- what a table has
+-- ---- what a members has
 
-pub table-length : (es : List Element) → length (tableOf es) ≡ 1024
-unfolding tableOf
-table-length [] = length-replicate 1024 false
-table-length (e ∷ es) = length-set (tableOf es) (e .yard) true ∙ table-length es
+pub members-length : (es : List Element) → length (membersOf es) ≡ 1024
+unfolding membersOf
+members-length [] = length-replicate 1024 false
+members-length (e ∷ es) = length-set (membersOf es) (e .yard) true ∙ members-length es
 
 none-in : (n y : ℕ) → getD (replicate n false) y false ≡ false
 none-in zero y = refl
@@ -33,36 +33,37 @@ none-in (suc n) zero = refl
 none-in (suc n) (suc y) = none-in n y
 
 -- it has yard y exactly if the list names y
-pub table-names : (es : List Element) (y : ℕ) → y < 1024 → getD (tableOf es) y false ≡ names es y
-unfolding tableOf names
-table-names [] y h = none-in 1024 y
-table-names (e ∷ es) y h = go (ℕ-discrete y (e .yard)) (table-names es y h)
+pub members-names : (es : List Element) (y : ℕ) → y < 1024 → getD (membersOf es) y false ≡ names es y
+unfolding membersOf names
+members-names [] y h = none-in 1024 y
+members-names (e ∷ es) y h = go (ℕ-discrete y (e .yard)) (members-names es y h)
   where
-    go : Dec (y ≡ e .yard) → getD (tableOf es) y false ≡ names es y → getD (set (tableOf es) (e .yard) true) y false ≡ (eqb (e .yard) y || names es y)
-    go (yes q) rec = rw q (getD-set-same (tableOf es) (e .yard) true false (omega (arith, table-length es)) ∙ sym (simp (eq-eqb (e .yard) (e .yard) refl)))
-    go (no q) rec = getD-set-other (tableOf es) (e .yard) y true false q ∙ rec ∙ sym (simp (ne-eqb (e .yard) y (λ z. q (sym z))))
+    go : Dec (y ≡ e .yard) → getD (membersOf es) y false ≡ names es y → getD (set (membersOf es) (e .yard) true) y false ≡ (eqb (e .yard) y || names es y)
+    go (yes q) rec = rw q (getD-set-same (membersOf es) (e .yard) true false (omega (arith, members-length es)) ∙ sym (simp (eq-eqb (e .yard) (e .yard) refl)))
+    go (no q) rec = getD-set-other (membersOf es) (e .yard) y true false q ∙ rec ∙ sym (simp (ne-eqb (e .yard) y (λ z. q (sym z))))
 
-beyond : (table : List Bool) (i : ℕ) → length table ≤ i → getD table i false ≡ false
+beyond : (members : List Bool) (i : ℕ) → length members ≤ i → getD members i false ≡ false
 beyond [] i h = refl
 beyond (x ∷ xs) zero h = absurd (omega arith)
 beyond (x ∷ xs) (suc i) h = beyond xs i (omega arith)
 
--- ---- whether a table has a list's yards, with pair number k and the n - (k + 1) pairs after it
+-- ---- whether a members has a list's yards, with pair number k and the n - (k + 1) pairs after it
 
-module _ (table : List Bool) (p : List ℕ) (n k v : ℕ) (h : k < n) (e : v ≡ elementAt p (6 * k) .yard) where
-  in-here : all (inTable table) (readList p (n - k) (6 * k)) ≡ (getD table v false && all (inTable table) (readList p (n - (k + 1)) (6 * (k + 1))))
-  unfolding inTable
+module _ (members : List Bool) (p : List ℕ) (n k v : ℕ) (h : k < n) (e : v ≡ elementAt p (6 * k) .yard) where
+  in-here : all (isMember members) (readList p (n - k) (6 * k)) ≡ (getD members v false && all (isMember members) (readList p (n - (k + 1)) (6 * (k + 1))))
+  unfolding isMember
   in-here =
       let s : 6 * (k + 1) ≡ 6 * k + 6 = omega arith in
-      rw (list-turn p n k (6 * k) h, s) (all-next (inTable table) (elementAt p (6 * k)) (readList p (n - (k + 1)) (6 * k + 6)) ∙ rw e refl)
+      rw (list-turn p n k (6 * k) h, s) (all-next (isMember members) (elementAt p (6 * k)) (readList p (n - (k + 1)) (6 * k + 6)) ∙ rw e refl)
 
-  pub in-beyond : length table ≤ v → all (inTable table) (readList p (n - k) (6 * k)) ≡ false
-  in-beyond l = in-here ∙ rw (beyond table v l) refl
+  pub in-beyond : length members ≤ v → all (isMember members) (readList p (n - k) (6 * k)) ≡ false
+  in-beyond l = in-here ∙ rw (beyond members v l) refl
 
-  pub in-absent : getD table v false ≡ false → all (inTable table) (readList p (n - k) (6 * k)) ≡ false
+  pub in-absent : getD members v false ≡ false → all (isMember members) (readList p (n - k) (6 * k)) ≡ false
   in-absent t = in-here ∙ rw t refl
 
-  pub in-next : getD table v false ≡ true → all (inTable table) (readList p (n - (k + 1)) (6 * (k + 1))) ≡ all (inTable table) (readList p (n - k) (6 * k))
+  pub in-next : getD members v false ≡ true
+      → all (isMember members) (readList p (n - (k + 1)) (6 * (k + 1))) ≡ all (isMember members) (readList p (n - k) (6 * k))
   in-next t = sym (in-here ∙ rw t refl)
 
 -- ---- a list's own test, from its last pair on
@@ -95,22 +96,23 @@ module _ (p : List ℕ) (n low high : ℕ) where
           rw (← a, ← b) g
 
   -- no pair is done
-  pub none-done : (k : ℕ) (table : List Bool) → k ≡ n → table ≡ replicate 1024 false
-      → (table ≡ tableOf (readList p (n - k) (6 * k))) × (fits low high (readList p (n - k) (6 * k)) ≡ true)
-  unfolding tableOf fits once
-  none-done k table e f = rw (list-none p n k (6 * k) (omega arith)) (f, all-none (inRange low high))
+  pub none-done : (k : ℕ) (members : List Bool) → k ≡ n → members ≡ replicate 1024 false
+      → (members ≡ membersOf (readList p (n - k) (6 * k))) × (fits low high (readList p (n - k) (6 * k)) ≡ true)
+  unfolding membersOf fits once
+  none-done k members e f = rw (list-none p n k (6 * k) (omega arith)) (f, all-none (inRange low high))
 
   -- all are
-  pub all-done : (k : ℕ) (table : List Bool) → k ≡ 0 → (table ≡ tableOf (readList p (n - k) (6 * k))) × (fits low high (readList p (n - k) (6 * k)) ≡ true)
-      → (true ≡ fits low high (readList p n 0)) × (_≡_ {A = Bool} true true → table ≡ tableOf (readList p n 0))
-  all-done k table e d =
+  pub all-done : (k : ℕ) (members : List Bool) → k ≡ 0
+      → (members ≡ membersOf (readList p (n - k) (6 * k))) × (fits low high (readList p (n - k) (6 * k)) ≡ true)
+      → (true ≡ fits low high (readList p n 0)) × (_≡_ {A = Bool} true true → members ≡ membersOf (readList p n 0))
+  all-done k members e d =
       let q : readList p (n - k) (6 * k) ≡ readList p n 0 = rw e (simp sub-zero) in
       (sym (rw (← q) (d .1)), λ z. rw (← q) (d .0))
 
   -- a failure, as the loop answers it
-  pub failed : (table : List Bool) → fits low high (readList p n 0) ≡ false → (false ≡ fits low high (readList p n 0)) × (false ≡ true
-      → table ≡ tableOf (readList p n 0))
-  failed table f = (sym f, λ z. let y : _≡_ {A = ℕ} 0 1 = cc in absurd (omega arith))
+  pub failed : (members : List Bool) → fits low high (readList p n 0) ≡ false → (false ≡ fits low high (readList p n 0)) × (false ≡ true
+      → members ≡ membersOf (readList p n 0))
+  failed members f = (sym f, λ z. let y : _≡_ {A = ℕ} 0 1 = cc in absurd (omega arith))
 
   -- the pair before the k of which those after are done
   module _ (k v : ℕ) (z : 1 ≤ k) (h : k ≤ n) (e : v ≡ elementAt p (6 * (k - 1)) .yard) where
@@ -134,17 +136,18 @@ module _ (p : List ℕ) (n low high : ℕ) where
     unfolding fits
     fails-high q s = whole-fails (and-no (once (readList p (n - (k - 1)) (6 * (k - 1)))) _ (range-high p n (k - 1) (6 * (k - 1)) low high v earlier e q s))
 
-    module _ (table : List Bool) (d : (table ≡ tableOf (readList p (n - k) (6 * k))) × (fits low high (readList p (n - k) (6 * k)) ≡ true)) (w : v < 1024) where
-      named : getD table v false ≡ names (readList p (n - (k - 1 + 1)) (6 * (k - 1) + 6)) v
-      named = rw (d .0, rest-is) (table-names (readList p (n - k) (6 * k)) v w)
+    module _ (members : List Bool) (d : (members ≡ membersOf (readList p (n - k) (6 * k)))
+        × (fits low high (readList p (n - k) (6 * k)) ≡ true)) (w : v < 1024) where
+      named : getD members v false ≡ names (readList p (n - (k - 1 + 1)) (6 * (k - 1) + 6)) v
+      named = rw (d .0, rest-is) (members-names (readList p (n - k) (6 * k)) v w)
 
-      pub fails-twice : getD table v false ≡ true → fits low high (readList p n 0) ≡ false
+      pub fails-twice : getD members v false ≡ true → fits low high (readList p n 0) ≡ false
       unfolding fits
       fails-twice t = whole-fails (rw (once-stop p n (k - 1) (6 * (k - 1)) v (n - (k - 1 + 1)) earlier e refl (sym named ∙ t)) refl)
 
-      pub one-more : getD table v false ≡ false → low ≤ v → v < high
-          → (set table v true ≡ tableOf (readList p (n - (k - 1)) (6 * (k - 1)))) × (fits low high (readList p (n - (k - 1)) (6 * (k - 1))) ≡ true)
-      unfolding fits tableOf
+      pub one-more : getD members v false ≡ false → low ≤ v → v < high
+          → (set members v true ≡ membersOf (readList p (n - (k - 1)) (6 * (k - 1)))) × (fits low high (readList p (n - (k - 1)) (6 * (k - 1))) ≡ true)
+      unfolding fits membersOf
       one-more t q s = (
         rw (list-turn p n (k - 1) (6 * (k - 1)) earlier, ← e, rest-is, d .0) refl,
         rw (
@@ -155,7 +158,7 @@ module _ (p : List ℕ) (n low high : ℕ) where
         ) (d .1),
       )
 
--- ---- two lists by their tables
+-- ---- two lists by their sets
 
 range-below : (low high : ℕ) (e : Element) → T (inRange low high e) → e .yard < high
 unfolding inRange
@@ -163,14 +166,14 @@ range-below low high e t = ltb→lt (e .yard) high (and-right (leb low (e .yard)
 
 -- a list's yards are below 1,024
 small : (low high : ℕ) (es : List Element) → high ≤ 1024 → all (inRange low high) es ≡ true → (other : List Element)
-    → all (inTable (tableOf other)) es ≡ namedBy other es
-unfolding inTable namedBy
-small low high [] h a other = all-none (inTable (tableOf other)) ∙ sym (all-none (λ (x : Element). names other (x .yard)))
+    → all (isMember (membersOf other)) es ≡ namedBy other es
+unfolding isMember namedBy
+small low high [] h a other = all-none (isMember (membersOf other)) ∙ sym (all-none (λ (x : Element). names other (x .yard)))
 small low high (e ∷ es) h a other =
     let b : T (inRange low high e && all (inRange low high) es) = true-T (sym (all-next (inRange low high) e es) ∙ a) in
-    let c : getD (tableOf other) (e .yard) false ≡ names other (e .yard) = table-names other (e .yard) (within (and-left (inRange low high e) _ b)) in
-    let d : all (inTable (tableOf other)) es ≡ namedBy other es = small low high es h (T-eq (and-right (inRange low high e) _ b)) other in
-    all-next (inTable (tableOf other)) e es ∙ joined c d ∙ sym (all-next (λ (x : Element). names other (x .yard)) e es)
+    let c : getD (membersOf other) (e .yard) false ≡ names other (e .yard) = members-names other (e .yard) (within (and-left (inRange low high e) _ b)) in
+    let d : all (isMember (membersOf other)) es ≡ namedBy other es = small low high es h (T-eq (and-right (inRange low high e) _ b)) other in
+    all-next (isMember (membersOf other)) e es ∙ joined c d ∙ sym (all-next (λ (x : Element). names other (x .yard)) e es)
   where
     within : T (inRange low high e) → e .yard < 1024
     within t = omega (arith, range-below low high e t)
@@ -205,19 +208,19 @@ module _ (low high : ℕ) (ref es : List Element) (h : high ≤ 1024) (f : fits 
     unfolding fits
     es-range = T-true _ (and-right (once es) _ (true-T g))
 
-    pub same-not-named : (named : List Bool) → named ≡ tableOf ref → all (inTable named) es ≡ false → sameYards low high ref es ≡ false
+    pub same-not-named : (named : List Bool) → named ≡ membersOf ref → all (isMember named) es ≡ false → sameYards low high ref es ≡ false
     same-not-named named e q = same-to low high ref es es-once es-range (sym (small low high es h es-range ref) ∙ rw (← e) q)
 
-    pub same-by-table : (named table : List Bool) → named ≡ tableOf ref → all (inTable named) es ≡ true → table ≡ tableOf es
-        → sameYards low high ref es ≡ all (inTable table) ref
-    same-by-table named table e q t =
+    pub same-by-members : (named members : List Bool) → named ≡ membersOf ref → all (isMember named) es ≡ true → members ≡ membersOf es
+        → sameYards low high ref es ≡ all (isMember members) ref
+    same-by-members named members e q t =
         same-from low high ref es es-once es-range (sym (small low high es h es-range ref) ∙ rw (← e) q) ∙ rw t (sym (small low high ref h ref-range es))
 
 -- ---- the first of a leaf's lists
 
 -- its test, and what it leaves
 module _ (b : List ℕ) (n m start low high : ℕ) (some : 0 < m) (r : Bool) (named : List Bool) (p : List ℕ) (part : p ≡ listPart b n (start + 2))
-    (t : r ≡ fits low high (readList p n 0)) (w : r ≡ true → named ≡ tableOf (readList p n 0)) where
+    (t : r ≡ fits low high (readList p n 0)) (w : r ≡ true → named ≡ membersOf (readList p n 0)) where
   pub first-fails : r ≡ false → agreeing low high (firstList (readLists b n m start)) (readLists b n m start) ≡ false
   first-fails q =
       let g : fits low high (readList (listPart b n (start + 2)) n 0) ≡ false = rw (← part) (sym t ∙ q) in
@@ -225,7 +228,7 @@ module _ (b : List ℕ) (n m start low high : ℕ) (some : 0 < m) (r : Bool) (na
       rw (← z) (agree-stop b n m 0 start low high (firstList (readLists b n (m - 0) start)) (readList (listPart b n (start + 2)) n 0) (rw z (first-list b n m
       start some)) some (list-fails low high (readList (listPart b n (start + 2)) n 0) (readList (listPart b n (start + 2)) n 0) g))
 
-  pub first-fits : r ≡ true → (fits low high (readList (listPart b n (start + 2)) n 0) ≡ true) × (named ≡ tableOf (readList (listPart b n (start + 2)) n 0))
+  pub first-fits : r ≡ true → (fits low high (readList (listPart b n (start + 2)) n 0) ≡ true) × (named ≡ membersOf (readList (listPart b n (start + 2)) n 0))
   first-fits q = (rw (← part) (sym t ∙ q), rw (← part) (w q))
 
 -- what is known of a list as a part of its own
@@ -236,8 +239,8 @@ module _ (b : List ℕ) (n start : ℕ) (p : List ℕ) (part : p ≡ listPart b 
   pub part-fits : (low high : ℕ) → fits low high (readList (listPart b n (start + 2)) n 0) ≡ true → fits low high (readList p n 0) ≡ true
   part-fits low high f = rw part f
 
-  pub part-table : (named : List Bool) → named ≡ tableOf (readList (listPart b n (start + 2)) n 0) → named ≡ tableOf (readList p n 0)
-  part-table named e = rw part e
+  pub part-members : (named : List Bool) → named ≡ membersOf (readList (listPart b n (start + 2)) n 0) → named ≡ membersOf (readList p n 0)
+  part-members named e = rw part e
 
 -- no list
 pub none-agree : (b : List ℕ) (n m start low high : ℕ) → m ≡ 0 → agreeing low high (firstList (readLists b n m start)) (readLists b n m start) ≡ true

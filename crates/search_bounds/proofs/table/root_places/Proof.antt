@@ -5,8 +5,8 @@ use lib.ListN.{length, length-set}
 use Rattle.tree.specs.Arrays.{overwrite}
 use Rattle.search_bounds.proofs.Places.{rootPlace, read-none, read-next, read-all}
 use borrow.Author.Needs.{needs}
-use Rattle.search_bounds.proofs.sheet.root_places.Statement.{statement}
-use Rattle.search_bounds.proofs.sheet.root_places.Tie as tie
+use Rattle.search_bounds.proofs.table.root_places.Statement.{statement}
+use Rattle.search_bounds.proofs.table.root_places.Tie as tie
 
 abbrev Inv-loop : tie.InvT-loop
 Inv-loop tree places₀ r₀ places r = (r ≤ length places₀) × (length places ≡ length places₀) × (places ≡ overwrite (rootPlace tree) r places₀)

@@ -1,11 +1,11 @@
--- The sheet of a search, and its sources. Assumes nothing: these are definitions.
+-- The landmark table of a search, and its sources. Assumes nothing: these are definitions.
 use mathlib.Core.Path.{_≡_}
 use mathlib.Core.List.{List, [], _∷_}
 use Prim.Native.Nat.{ℕ, _<_}
 use lib.ListN.{length, getD}
 use Rattle.road.specs.Rows.{cell}
 use Rattle.search_rules.specs.Instance.{Instance, marks}
-use Rattle.search_rules.specs.Bounds.{sheetAt}
+use Rattle.search_rules.specs.Bounds.{tableAt}
 use Rattle.tree_layout.specs.Values.{Mark, noMark}
 use Rattle.tree_layout.specs.Marks.{marksAt}
 use Rattle.search_bounds.specs.Rows.{Rows}
@@ -21,7 +21,7 @@ rootPlaces tree = placesOf (marksAt tree 12)
 
 -- "The sheet holds d from the root's landmarks r to every junction.": a row for each of the root's landmarks, in their
 -- order
-pub record Sheet (i : Instance) (rows : ℕ) (sheet : List ℕ) : Type 0 where
-  pub limits : Rows sheet rows
+pub record LandmarkTable (i : Instance) (rows : ℕ) (table : List ℕ) : Type 0 where
+  pub limits : Rows table rows
   pub count : rows ≡ length (marks i 0)
-  pub filled : (r v : ℕ) → r < rows → v < i .tree .junctions → cell sheet r v ≡ sheetAt i (getD (marks i 0) r noMark) v
+  pub filled : (r v : ℕ) → r < rows → v < i .tree .junctions → cell table r v ≡ tableAt i (getD (marks i 0) r noMark) v

@@ -1,4 +1,4 @@
-// The sheet and the crews' rows: "The sheet holds d from the root's landmarks r to every junction."
+// The landmark table and the crews' rows: "The sheet holds d from the root's landmarks r to every junction."
 use tree_layout::landmarks;
 use tree_layout::records;
 ghost use mathlib.Core.Path.{_≡_};
@@ -10,10 +10,10 @@ ghost use Rattle.road.specs.Rows.{Within, Rowed};
 ghost use Rattle.tree_layout.specs.Decode.{junctionCount, landmarkCount};
 ghost use Rattle.tree_layout.specs.Facts.{TreeLayout};
 ghost use Rattle.tree_layout.specs.Marks.{RecordAt};
-ghost use Rattle.search_bounds.specs.Rows.{sheetWords};
-ghost use Rattle.search_bounds.specs.Sheet.{rootPlaces};
+ghost use Rattle.search_bounds.specs.Rows.{tableWords};
+ghost use Rattle.search_bounds.specs.Tables.{rootPlaces};
 
-// The words of a sheet: four rows of 1,024.
+// The words of a landmark table: four rows of 1,024.
 pub const WORDS: usize = 4096;
 
 // The junctions of the root's landmarks.
@@ -29,13 +29,13 @@ fn root_places(tree: &[u8], places: &mut [u16])
     }
 }
 
-// Fills in the sheet and a row for each crew, by walks over the roads.
-pub fn prepare(adj: &[u16], tree: &[u8], crews: &[u16], sheet: &mut [u32], drives: &mut [u32])
+// Fills in the landmark table and a row for each crew, by walks over the roads.
+pub fn prepare(adj: &[u16], tree: &[u8], crews: &[u16], table: &mut [u32], drives: &mut [u32])
     requires { ⌜ IsAdjacency (now adj) × TreeLayout (now tree) × (junctionCount (now tree) ≡ countIn (now adj))
-        × Within (countIn (now adj)) (now crews) × (length (now sheet) ≡ sheetWords)
+        × Within (countIn (now adj)) (now crews) × (length (now table) ≡ tableWords)
         × (1024 * length (now crews) ≤ length (now drives)) ⌝ }
-    ensures sheet { λ _. ⌜ ((road : List ℕ) → Adjacency road (now (adj .entry))
-        → Rowed road (rootPlaces (now (tree .entry))) (now (sheet .exit))) ⌝ }
+    ensures table { λ _. ⌜ ((road : List ℕ) → Adjacency road (now (adj .entry))
+        → Rowed road (rootPlaces (now (tree .entry))) (now (table .exit))) ⌝ }
     ensures drives { λ _. ⌜ ((road : List ℕ) → Adjacency road (now (adj .entry))
         → Rowed road (now (crews .entry)) (now (drives .exit))) ⌝ }
 {
@@ -43,6 +43,6 @@ pub fn prepare(adj: &[u16], tree: &[u8], crews: &[u16], sheet: &mut [u32], drive
     let h = records::header(tree);
     let m = h.landmarks as usize;
     root_places(tree, &mut places[..m]);
-    road::rows::fill(adj, &places[..m], sheet);
+    road::rows::fill(adj, &places[..m], table);
     road::rows::fill(adj, crews, drives);
 }

@@ -6,18 +6,18 @@ use native.Mathlib.Omega.{arith}
 use lib.ListN.{length, length-set, length-replicate}
 use Rattle.tree_layout.specs.Decode.{readList}
 use Rattle.tree_layout.proofs.Accessing.{listed-yard}
-use Rattle.tree_leaf.specs.Table.{tableOf, fits}
-use Rattle.tree_leaf.proofs.Table.{none-done, all-done, failed, fails-low, fails-high, fails-twice, one-more}
-use Rattle.tree_leaf.proofs.fill_table.Statement.{statement}
-use Rattle.tree_leaf.proofs.fill_table.Tie as tie
+use Rattle.tree_leaf.specs.Members.{membersOf, fits}
+use Rattle.tree_leaf.proofs.Members.{none-done, all-done, failed, fails-low, fails-high, fails-twice, one-more}
+use Rattle.tree_leaf.proofs.fill_members.Statement.{statement}
+use Rattle.tree_leaf.proofs.fill_members.Tie as tie
 
 abbrev Inv-loop : tie.InvT-loop
-Inv-loop p f table₀ k₀ table k =
-    (k ≤ f .yards) × (length table ≡ 1024) × ((table ≡ tableOf (readList p (f .yards - k) (6 * k))) × (fits (f .first) (f .after) (readList p
+Inv-loop p f members₀ k₀ members k =
+    (k ≤ f .yards) × (length members ≡ 1024) × ((members ≡ membersOf (readList p (f .yards - k) (6 * k))) × (fits (f .first) (f .after) (readList p
     (f .yards - k) (6 * k)) ≡ true))
 
 abbrev μ-loop : tie.MeasureT-loop
-μ-loop p f table₀ k₀ table k = k
+μ-loop p f members₀ k₀ members k = k
 
 clear-requires : tie.Need-clear-requires Inv-loop μ-loop
 clear-requires c κs = search needs
@@ -77,8 +77,8 @@ returns-3 c =
     failed _ _ _ _ _ (fails-twice _ _ _ _ _ _ z (l .before .loop .inv .0) (listed-yard _ _ _ (w .element .ensures)) _ (l .before .loop .inv .2) v
     (c .if3 .taken))
 
-slice-write-table : tie.Need-slice-write-table Inv-loop μ-loop
-slice-write-table c = search needs
+slice-write-members : tie.Need-slice-write-members Inv-loop μ-loop
+slice-write-members c = search needs
 
 loop-less : tie.Need-loop-less Inv-loop μ-loop
 loop-less c = search needs
@@ -104,8 +104,8 @@ same-length-4 c = search needs
 returns-4 : tie.Need-returns-4 Inv-loop μ-loop
 returns-4 c = all-done _ _ _ _ _ _ (c .loop-test .left) (c .before .loop .inv .2)
 
-pub fill-table-spec : {M : Type 1} → statement M
-fill-table-spec =
+pub fill-members-spec : {M : Type 1} → statement M
+fill-members-spec =
     tie.close
     (tie.spec
     Inv-loop
@@ -123,7 +123,7 @@ fill-table-spec =
     slice-read-if3
     same-length-3
     returns-3
-    slice-write-table
+    slice-write-members
     loop-less
     loop-again
     same-length-4

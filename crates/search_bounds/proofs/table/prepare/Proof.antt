@@ -2,8 +2,8 @@ use mathlib.Core.Path.{refl}
 use Rattle.search_bounds.proofs.Filled.{header-room, root-record, root-few, root-part, root-size, root-inside, root-taken}
 use Rattle.search_bounds.proofs.Filled.{taken-within, taken-room, taken-rowed}
 use borrow.Author.Needs.{needs}
-use Rattle.search_bounds.proofs.sheet.prepare.Statement.{statement}
-use Rattle.search_bounds.proofs.sheet.prepare.Tie as tie
+use Rattle.search_bounds.proofs.table.prepare.Statement.{statement}
+use Rattle.search_bounds.proofs.table.prepare.Tie as tie
 
 header-requires : tie.Need-header-requires
 header-requires c κs = header-room _ (c .before .before .before .before .before .pre .1)
@@ -61,14 +61,14 @@ same-length-2 c = search needs
 returns : tie.Need-returns
 returns c =
     let drives = c .before .before in
-    let sheet = drives .before .before .before .before in
-    let found = sheet .before .before .before .before in
+    let table = drives .before .before .before .before in
+    let found = table .before .before .before .before in
     let headed = found .before .before .before in
     let start = headed .before .before .before .before .before .before in
     let l = start .pre .1 in
     let h = headed .header .ensures in
     let read = found .root-places .ensures in
-    (λ road a. taken-rowed _ l _ h _ refl _ refl _ read road _ (sheet .fill .ensures road a), drives .fill2 .ensures)
+    (λ road a. taken-rowed _ l _ h _ refl _ refl _ read road _ (table .fill .ensures road a), drives .fill2 .ensures)
 
 pub prepare-spec : {M : Type 1} → statement M
 prepare-spec =
