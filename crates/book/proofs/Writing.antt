@@ -21,6 +21,11 @@ u32-length x = refl
 
 -- ---- every number of a list is a byte
 
+-- a lent book is of bytes: what is known of each of its numbers
+pub lent-bytes : (l : List ℕ) → ((i : ℕ) → getD l i 0 < 256) → Bytes l
+unfolding Bytes
+lent-bytes l f = f
+
 pub bytes-none : Bytes []
 unfolding Bytes
 bytes-none i = omega arith

@@ -4,6 +4,7 @@ use build_tree::Built;
 use search_tree::Found;
 ghost use mathlib.Core.Path.{_≡_};
 ghost use lib.ListN.{length};
+ghost use Rattle.book.specs.Bytes.{Bytes};
 ghost use Rattle.work_area.specs.Work.{workAfter};
 ghost use Rattle.check_tree.specs.Check.{checkAnswer};
 ghost use Rattle.build_tree.specs.Build.{buildAnswer, builtLength, treeAfter};
@@ -19,6 +20,7 @@ pub extern "C" fn finder_check(road: &[u8], yard: &[u8], tree: &[u8], work: &mut
     ensures work { λ _. ⌜ now (work .exit)
         ≡ workAfter (checkAnswer (now (road .entry)) (now (yard .entry)) (now (tree .entry)) (length (now (work
         .entry)))) (now (work .entry)) ⌝ }
+    ensures bytes { λ _. ⌜ Bytes (now (road .entry)) × Bytes (now (yard .entry)) × Bytes (now (tree .entry)) ⌝ }
 {
     check_tree::check(road, yard, tree, work) as u32
 }
@@ -43,6 +45,7 @@ pub extern "C" fn finder_build(
         (length (now (work .entry))) (length (now (tree .entry)))) (now (work .entry)) ⌝ }
     ensures tree { λ _. ⌜ now (tree .exit) ≡ treeAfter (now (road .entry)) (now (yard .entry)) m limit
         (length (now (work .entry))) (now (tree .entry)) ⌝ }
+    ensures bytes { λ _. ⌜ Bytes (now (road .entry)) × Bytes (now (yard .entry)) ⌝ }
 {
     build_tree::build(road, yard, m, limit, work, tree)
 }
@@ -66,6 +69,7 @@ pub extern "C" fn finder_search(
     ensures results { λ _. ⌜ now (results .exit)
         ≡ resultsAfter (now (road .entry)) (now (tree .entry)) (now (query .entry))
         (length (now (work .entry))) (now (results .entry)) ⌝ }
+    ensures bytes { λ _. ⌜ Bytes (now (road .entry)) × Bytes (now (tree .entry)) × Bytes (now (query .entry)) ⌝ }
 {
     search_tree::search(road, tree, query, work, results)
 }
