@@ -1,5 +1,5 @@
-//! The command `calls`: how long the proved calls take beside the plain ones, on the grid district with 256 yards; searches also beside brute force, in Rust and,
-//! where LEMON is installed, with its Dijkstra in C++.
+//! The command `calls`: how long the proved calls take beside the plain ones, on the grid district with 256 yards, and on full books, which take longest; searches
+//! also beside brute force, in Rust and, where LEMON is installed, with its Dijkstra in C++.
 #![forbid(unsafe_code)]
 
 use std::fs;
@@ -22,6 +22,8 @@ const LANDMARKS: u32 = 4;
 const LEAF_LIMITS: [u32; 3] = [1, 16, 256];
 /// Of the tree that is searched.
 const LEAF_LIMIT: u32 = 16;
+/// Of the full tree: every yard a leaf, so that as many walks are made as a tree can ask for.
+const FULL_LIMIT: u32 = 1;
 const CREWS: [usize; 4] = [2, 4, 8, 16];
 const KS: [u8; 3] = [1, 10, 64];
 const AGGREGATES: [&str; 2] = ["sum", "maximum"];
@@ -37,10 +39,7 @@ struct District {
 /// Prints a row for each call: the proved call's time, the plain one's, and the ratio. The argument, if any, is the LEMON peer.
 fn main() {
     let peer = std::env::args().nth(1);
-    let district = District {
-        road: standard::road_book("grid", SEED).expect("the kind is known"),
-        yard: standard::yard_book(YARDS, SEED).expect("a book may have so many"),
-    };
+    let district = district("grid");
     println!("call   leaf limit   proved ms   plain ms   ratio   wanted");
     for leaf_limit in LEAF_LIMITS {
         check_row(&district, leaf_limit);
@@ -56,6 +55,24 @@ fn main() {
                 search_row(&district, &tree, (crews, k, aggregate), peer.as_deref());
             }
         }
+    }
+    full_rows(peer.as_deref());
+}
+
+/// The longest calls: 4,096 roads, 256 yards, every yard a leaf, 16 crews and k 64.
+fn full_rows(peer: Option<&str>) {
+    println!("full books: 4,096 random roads, 256 yards, leaf limit {FULL_LIMIT}");
+    let district = district("random");
+    check_row(&district, FULL_LIMIT);
+    build_row(&district, FULL_LIMIT);
+    search_row(&district, &built(&district, FULL_LIMIT), (16, 64, 0), peer);
+}
+
+/// A district of a kind, with its yards.
+fn district(kind: &str) -> District {
+    District {
+        road: standard::road_book(kind, SEED).expect("the kind is known"),
+        yard: standard::yard_book(YARDS, SEED).expect("a book may have so many"),
     }
 }
 
