@@ -13,7 +13,7 @@ use Rattle.book.proofs.Lists.{map-mem}
 use Rattle.book.proofs.Writing.{write-is}
 use Rattle.road.specs.Dijkstra.{dist}
 use Rattle.tree_layout.specs.Values.{Element}
-use Rattle.tree_layout.specs.Facts.{Before}
+use Rattle.search_rules.specs.Order.{YardBefore}
 use Rattle.tree_layout.specs.Decode.{decode}
 use Rattle.check_rules.specs.Facts.{TrueNumbers}
 use Rattle.check_rules.proofs.Theorems.{tested}
@@ -46,8 +46,8 @@ yards-distinct [] s d = tt
 yards-distinct (h ∷ l) s d = (
   (λ m.
       let (g, j, e) = map-mem (λ (x : Element). x .yard) l (h .yard) m in
-      let b : Before h g = s .0 g j in
-      let c : Before h h = rw (← d h g (head refl) (tail j) e) at b in
+      let b : YardBefore h g = s .0 g j in
+      let c : YardBefore h h = rw (← d h g (head refl) (tail j) e) at b in
       before-not c c),
   yards-distinct l (s .1) (λ x g a b. d x g (tail a) (tail b)),
 )

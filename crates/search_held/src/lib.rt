@@ -5,6 +5,7 @@ ghost use Prim.Native.Nat.{ℕ, _+_, _*_, _≤_, _<_};
 ghost use lib.ListN.{length};
 ghost use Rattle.book.specs.Writing.{write};
 ghost use Rattle.tree_layout.specs.Reading.{element};
+ghost use Rattle.search_rules.specs.Order.{yardFirst};
 ghost use Rattle.search_rules.specs.Held.{hold, greatestHeld};
 ghost use Rattle.search_rules.specs.Run.{words};
 ghost use Rattle.search_held.specs.Pairs.{placeIn, pairs, heldOf};
@@ -27,6 +28,19 @@ pub fn none() -> Held
     }
 }
 
+// Whether one yard with its distance comes before another, in yard order.
+fn comes_first(distance: u32, yard: u16, d: u32, y: u16) -> bool
+    ensures { λ r. ⌜ r ≡ yardFirst (element distance yard) (element d y) ⌝ }
+{
+    if distance < d {
+        return true;
+    }
+    if distance != d {
+        return false;
+    }
+    yard < y
+}
+
 // The place of the first of n pairs that a yard with its distance comes before, or n.
 fn place(yards: &[u16], distances: &[u32], n: usize, yard: u16, distance: u32) -> usize
     requires { ⌜ (n ≤ length (now yards)) × (n ≤ length (now distances)) ⌝ }
@@ -34,7 +48,7 @@ fn place(yards: &[u16], distances: &[u32], n: usize, yard: u16, distance: u32) -
 {
     let mut j: usize = 0;
     while j < n {
-        if tree_layout::after(distance, yard, distances[j], yards[j]) {
+        if comes_first(distance, yard, distances[j], yards[j]) {
             return j;
         }
         j += 1;

@@ -9,6 +9,7 @@ use Rattle.tree_layout.specs.Values.{Element}
 use Rattle.search_rules.specs.Instance.{Instance, leaf}
 use Rattle.search_rules.specs.Bounds.{chosen}
 use Rattle.search_rules.specs.Queue.{queued, wordAt}
+use Rattle.search_rules.specs.Keeping.{keep}
 use Rattle.search_rules.specs.Held.{insert, hold, entry}
 use Rattle.search_rules.specs.Step.{SearchState, nextF, openInner, queueNext, closeLeaf, openLeaf, takeRegion, takeYard, nextRegion, nextYard, step}
 use Rattle.search_rules.specs.Step.{settled}
@@ -25,7 +26,7 @@ module _ (i : Instance) where
   region-few st r a h = choose-case Few (leaf i r) (λ l. choose-case Few (queued (nextF i (st .gone) (chosen i r))) (λ t. h) (λ t. h)) (λ l. h)
 
   yard-few : (st : SearchState) (y : ℕ) → Few (takeYard i st y)
-  unfolding Few takeYard hold
+  unfolding Few takeYard keep hold
   yard-few st y = omega (arith, length-take (i .k) (insert (entry i y) (st .held)))
 
   step-few : (st : SearchState) → Few st → Few (step i st)

@@ -12,7 +12,7 @@ use lib.ListN.{length, take, length-take}
 use lib.Dec.{T}
 use Rattle.book.specs.Lists.{Distinct}
 use Rattle.tree_layout.specs.Values.{Element}
-use Rattle.tree_layout.specs.Facts.{Before}
+use Rattle.search_rules.specs.Order.{YardBefore}
 use Rattle.search_rules.specs.Instance.{Instance}
 use Rattle.search_rules.specs.Bounds.{total}
 use Rattle.search_rules.specs.Held.{greatestHeld, entry, ranked}
@@ -76,11 +76,11 @@ sorted-same (x ∷ l) (y ∷ m) s t f g = cc (
     same = one (cases-cons (f x (head refl))) (cases-cons (g y (head refl)))
 
     there : (h : Element) → Mem h l → (h ≡ y) ⊎ Mem h m → Mem h m
-    there h k (inl p) = let c : Before x x = rw (p ∙ sym same) at (s .0 h k) in absurd (before-not c c)
+    there h k (inl p) = let c : YardBefore x x = rw (p ∙ sym same) at (s .0 h k) in absurd (before-not c c)
     there h k (inr j) = j
 
     back : (h : Element) → Mem h m → (h ≡ x) ⊎ Mem h l → Mem h l
-    back h k (inl p) = let c : Before y y = rw (p ∙ same) at (t .0 h k) in absurd (before-not c c)
+    back h k (inl p) = let c : YardBefore y y = rw (p ∙ same) at (t .0 h k) in absurd (before-not c c)
     back h k (inr j) = j
 
 -- l has the first k, in yard order, of the elements that P holds of.

@@ -16,6 +16,7 @@ use Rattle.tree_layout.specs.Values.{Element, Mark}
 use Rattle.search_rules.specs.Instance.{Instance, size, children, marks, leaf}
 use Rattle.search_rules.specs.Bounds.{bound, chosen, f, yardBound}
 use Rattle.search_rules.specs.Queue.{unqueued, queued, wordAt}
+use Rattle.search_rules.specs.Keeping.{keep}
 use Rattle.search_rules.specs.Held.{insert, hold, entry, ranked}
 use Rattle.search_rules.specs.Step.{SearchState, left, noElement, againKey, nextPlace, nextF, queueChildren, openInner, queueNext, closeLeaf, openLeaf}
 use Rattle.search_rules.specs.Step.{takeRegion, takeYard, step, settled, startSearch}
@@ -322,7 +323,7 @@ module _ (i : Instance) (well : WellFormed i) (st : SearchState) (was : Kept i s
     taken-yard-key P v = key-drop P (st .yardKeys) y (rw (was .sizes .yards) (yard-range y at)) v
 
     pub yard-kept : Kept i (takeYard i st y)
-    unfolding takeYard ranked hold
+    unfolding takeYard keep ranked hold
     yard-kept = record {
       sizes = record {
         regions = was .sizes .regions;

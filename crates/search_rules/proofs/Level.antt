@@ -12,10 +12,11 @@ use lib.Seq.{take-all}
 use lib.Dec.{T}
 use Rattle.book.proofs.Choosing.{choose-case}
 use Rattle.tree_layout.specs.Values.{Element, Mark}
-use Rattle.tree_layout.specs.Refusal.{comes}
+use Rattle.search_rules.specs.Order.{yardFirst}
 use Rattle.search_rules.specs.Instance.{Instance, size, children, marks, leaf}
 use Rattle.search_rules.specs.Bounds.{bound, chosen, f, yardBound}
 use Rattle.search_rules.specs.Queue.{unqueued, wordAt}
+use Rattle.search_rules.specs.Keeping.{keep}
 use Rattle.search_rules.specs.Held.{insert, hold, greatestHeld, entry, ranked}
 use Rattle.search_rules.specs.Step.{SearchState, left, againKey, nextF, openInner, queueNext, takeYard, step, settled, startSearch}
 use Rattle.search_rules.specs.Run.{Outcome, advance, run}
@@ -68,7 +69,7 @@ unfolding insert
 insert-front zero e l = inr refl
 insert-front (suc j) e [] = inl (head refl)
 insert-front (suc j) e (g ∷ l) = choose-case (λ s. Mem e (take (suc j) s) ⊎ (take (suc j) s
-    ≡ g ∷ take j l)) (comes e g) (λ t. inl (head refl)) (λ t. go (insert-front j e l))
+    ≡ g ∷ take j l)) (yardFirst e g) (λ t. inl (head refl)) (λ t. go (insert-front j e l))
   where
     go : Mem e (take j (insert e l)) ⊎ (take j (insert e l) ≡ take j l) → Mem e (g ∷ take j (insert e l)) ⊎ (g ∷ take j (insert e l) ≡ g ∷ take j l)
     go (inl k) = inl (tail k)
@@ -202,7 +203,7 @@ module _ (i : Instance) (well : WellFormed i) where
     -- ---- a yard
 
     yard-level : Low i st → (y b : ℕ) → key (st .yardKeys) y ≡ some b → Due i st b → Level i (takeYard i st y)
-    unfolding takeYard entry hold
+    unfolding takeYard keep entry hold
     yard-level low y b at due = record {
       queued-key = λ v c. yard-key (λ o. o ≡ some c → KeyOf i (st .firsts) v c) v (λ p q. absurd (no-key q)) (λ p q. level .queued-key v c q);
       leaf-level = level .leaf-level;

@@ -1,6 +1,7 @@
 pub mod Choices
 pub mod Bounds
 pub mod Limits
+pub mod Order
 pub mod Held
 pub mod Queue
 pub mod Stepping

@@ -13,6 +13,7 @@ use Rattle.book.proofs.Choosing.{choose-case, and-left, and-right, and-both}
 use Rattle.book.proofs.Lists.{or-left, or-right, or-cases, eq→eqb}
 use Rattle.search_rules.specs.Instance.{Instance, size}
 use Rattle.search_rules.specs.Queue.{unqueued, queued, wordAt, pick}
+use Rattle.search_rules.specs.Keeping.{enough}
 use Rattle.search_rules.specs.Held.{greatestHeld}
 use Rattle.search_rules.specs.Step.{SearchState, takeRegion, takeYard, nextRegion, nextYard, leastKey, step, settled}
 use Rattle.search_rules.proofs.Queue.{key, key-word, key-small, word-key, key-range, queued-small, not-queued, pick-least}
@@ -50,7 +51,7 @@ module _ (i : Instance) (st : SearchState) (sizes : Sizes i st) where
 
   -- settled: if a key is not below the least one, k are held and it is above the greatest held distance
   settled-past : T (settled i st) → (b : ℕ) → b < unqueued → leastKey i st ≤ b → Past i st b
-  unfolding settled
+  unfolding settled enough
   settled-past t b s h = go (or-cases (not (queued (leastKey i st))) _ t)
     where
       go : T (not (queued (leastKey i st))) ⊎ T (eqb (length (st .held)) (i .k) && ltb (greatestHeld (st .held)) (leastKey i st)) → Past i st b
@@ -70,7 +71,7 @@ module _ (i : Instance) (st : SearchState) (sizes : Sizes i st) where
 
   -- not settled: the least key is queued, and not above the greatest held distance if k are held
   unsettled-queued : T (not (settled i st)) → leastKey i st < unqueued
-  unfolding settled
+  unfolding settled enough
   unsettled-queued t = go (queued (leastKey i st)) _ (queued-small (leastKey i st)) t
     where
       go : (a b : Bool) → (T a → leastKey i st < unqueued) → T (not (not a || b)) → leastKey i st < unqueued
@@ -78,7 +79,7 @@ module _ (i : Instance) (st : SearchState) (sizes : Sizes i st) where
       go false b h t = absurd t
 
   unsettled-low : T (not (settled i st)) → length (st .held) ≡ i .k → leastKey i st ≤ greatestHeld (st .held)
-  unfolding settled
+  unfolding settled enough
   unsettled-low t e = nltb→le (greatestHeld (st .held)) (leastKey i st) (not-T (ltb (greatestHeld (st .held)) (leastKey i st))
       (λ s. T-not (settled i st) t (or-right (not (queued (leastKey i st))) _ (and-both (eqb (length (st .held)) (i .k)) _ (eq→eqb (length (st .held)) (i .k)
       e) s))))

@@ -13,6 +13,7 @@ use Rattle.tree.specs.Yards.{childrenOf}
 use Rattle.search_rules.specs.Instance.{Instance, size, children, leaf}
 use Rattle.search_rules.specs.Bounds.{bound, chosen, total, yardBound, f}
 use Rattle.search_rules.specs.Queue.{unqueued, queued, wordAt, pick}
+use Rattle.search_rules.specs.Keeping.{keep, enough}
 use Rattle.search_rules.specs.Held.{hold, greatestHeld, entry}
 use Rattle.search_rules.specs.Step.{SearchState, left, noElement, againKey, waiting, nextPlace, nextF, queueChildren, openInner, queueNext, closeLeaf}
 use Rattle.search_rules.specs.Step.{openLeaf}
@@ -66,7 +67,7 @@ module _ (i : Instance) where
 
   pub settled-is : (st : SearchState) → settled i st
       ≡ (not (queued (leastKey i st)) || (eqb (length (st .held)) (i .k) && ltb (greatestHeld (st .held)) (leastKey i st)))
-  unfolding settled
+  unfolding settled enough
   settled-is st = refl
 
   -- ---- a step that takes a yard, or a region
@@ -110,7 +111,7 @@ module _ (i : Instance) where
     held = hold (i .k) (entry i y) (st .held);
     measured = y ∷ st .measured;
   }
-  unfolding takeYard
+  unfolding takeYard keep
   take-yard-is st y = refl
 
   pub queue-none : (parent : ℕ) (ws : List ℕ) → queueChildren i parent [] ws ≡ ws

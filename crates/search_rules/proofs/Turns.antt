@@ -10,7 +10,7 @@ use lib.Dec.{T, ltb, ltb→lt}
 use Rattle.book.specs.Choose.{choose}
 use Rattle.book.proofs.Choosing.{choose-case, choose-yes, choose-no}
 use Rattle.tree_layout.specs.Values.{Element, Mark, lastFrom}
-use Rattle.tree_layout.specs.Refusal.{comes}
+use Rattle.search_rules.specs.Order.{yardFirst}
 use Rattle.search_rules.specs.Instance.{Instance}
 use Rattle.search_rules.specs.Bounds.{combine, aggregate, greatestOf, leastFrom, leastOf, weight, best, bestOf}
 use Rattle.tree_layout.specs.Values.{noMark}
@@ -92,7 +92,7 @@ pub insert-none : (e : Element) → insert e [] ≡ e ∷ []
 unfolding insert
 insert-none e = refl
 
-pub insert-more : (e h : Element) (hs : List Element) → insert e (h ∷ hs) ≡ choose (comes e h) (e ∷ h ∷ hs) (h ∷ insert e hs)
+pub insert-more : (e h : Element) (hs : List Element) → insert e (h ∷ hs) ≡ choose (yardFirst e h) (e ∷ h ∷ hs) (h ∷ insert e hs)
 unfolding insert
 insert-more e h hs = refl
 
@@ -107,7 +107,7 @@ greatest-is held = refl
 -- an insertion as one pass that carries an element: from where it belongs on, each place takes what is carried and its own is carried on
 unfoldable pub carried : Bool → Element → List Element → List Element
 carried placed c [] = c ∷ []
-carried placed c (h ∷ hs) = choose (placed || comes c h) (c ∷ carried true h hs) (h ∷ carried false c hs)
+carried placed c (h ∷ hs) = choose (placed || yardFirst c h) (c ∷ carried true h hs) (h ∷ carried false c hs)
 
 carried-placed : (c : Element) (l : List Element) → carried true c l ≡ c ∷ l
 unfolding carried
@@ -118,7 +118,7 @@ pub carried-insert : (e : Element) (l : List Element) → carried false e l ≡ 
 unfolding carried insert
 carried-insert e [] = refl
 carried-insert e (h ∷ hs) = let p = carried-placed h hs in let q = carried-insert e hs in
-    choose-two (λ (x y : List Element). x ≡ y) (comes e h) (λ t. ap (λ l. e ∷ l) p) (λ t. ap (λ l. h ∷ l) q)
+    choose-two (λ (x y : List Element). x ≡ y) (yardFirst e h) (λ t. ap (λ l. e ∷ l) p) (λ t. ap (λ l. h ∷ l) q)
 
 -- ---- the queue's least
 

@@ -6,7 +6,9 @@ use Prim.Native.Nat.{ℕ, _+_, min, max}
 use lib.ListN.{length, getD, take}
 use Rattle.book.specs.Choose.{choose}
 use Rattle.tree_layout.specs.Values.{Element, Mark, Region, Tree, leafMark, innerMark, firstDistance, lastFrom, noRegion, regionAt}
-use Rattle.tree_layout.specs.Refusal.{all, comes}
+use Rattle.tree_layout.specs.Refusal.{all}
+use Rattle.search_rules.specs.Order.{yardFirst}
+use Rattle.search_rules.specs.Keeping.{keep, enough}
 use Rattle.tree_leaf.specs.Leaf.{names, once, inRange, namedBy, firstList, agreeing, sameYards, leafOk}
 use Rattle.tree.specs.Shape.{childFits, siblings, subtree}
 use Rattle.tree.specs.Yards.{endOf, starts, childrenOf}
@@ -84,7 +86,7 @@ pub starred : row (netN 0 2 (0 ∷ 2 ∷ [])) 4 ∷ row (netN 0 2 (0 ∷ 2 ∷ [
     ≡ (1 ∷ 4 ∷ 2 ∷ 1 ∷ 5 ∷ 3 ∷ 13 ∷ []) ∷ (0 ∷ 3 ∷ 1 ∷ [])
     ∷ (1 ∷ 2 ∷ 1 ∷ 1 ∷ 3 ∷ []) ∷ (1 ∷ 2 ∷ 1 ∷ 1 ∷ 4 ∷ []) ∷ (1 ∷ 6 ∷ 3 ∷ 1 ∷ 5 ∷ 3 ∷ 13 ∷ 4 ∷ 15 ∷ [])
     ∷ (1 ∷ 2 ∷ 1 ∷ 0 ∷ 0 ∷ []) ∷ (1 ∷ 4 ∷ 2 ∷ 0 ∷ 1 ∷ []) ∷ []
-unfolding row onChain at leafOf netN oneJunction three from0 from2 twoLeaves eight choose leafMark innerMark firstDistance lastFrom noRegion regionAt all comes
+unfolding row onChain at leafOf netN oneJunction three from0 from2 twoLeaves eight choose leafMark innerMark firstDistance lastFrom noRegion regionAt all yardFirst keep enough
     names once inRange namedBy firstList agreeing sameYards leafOk siblings subtree endOf starts childrenOf size children marks leaf absDiff combine aggregate
     greatestOf leastFrom leastOf crewBound noMark tableAt lower upper over total markBound bound weight best bestOf chosen listAbsDiff f yardBound queued wordAt
     pick insert hold greatestHeld entry left noElement againKey waiting nextPlace nextF queueChildren openInner queueNext closeLeaf openLeaf takeRegion
@@ -94,7 +96,7 @@ starred = refl
 -- limit 0 is spent with no step taken; a tree of two leaves, where three yards tie at 12 and the lower numbers are held
 pub limits : row (netN 0 2 (0 ∷ 2 ∷ [])) 0 ∷ row twoLeaves 9 ∷ row twoLeaves 7 ∷ []
     ≡ (0 ∷ 0 ∷ 0 ∷ []) ∷ (1 ∷ 8 ∷ 3 ∷ 1 ∷ 12 ∷ 2 ∷ 12 ∷ []) ∷ (0 ∷ 7 ∷ 2 ∷ []) ∷ []
-unfolding row onChain at leafOf netN oneJunction three from0 from2 twoLeaves eight choose leafMark innerMark firstDistance lastFrom noRegion regionAt all comes
+unfolding row onChain at leafOf netN oneJunction three from0 from2 twoLeaves eight choose leafMark innerMark firstDistance lastFrom noRegion regionAt all yardFirst keep enough
     names once inRange namedBy firstList agreeing sameYards leafOk siblings subtree endOf starts childrenOf size children marks leaf absDiff combine aggregate
     greatestOf leastFrom leastOf crewBound noMark tableAt lower upper over total markBound bound weight best bestOf chosen listAbsDiff f yardBound queued wordAt
     pick insert hold greatestHeld entry left noElement againKey waiting nextPlace nextF queueChildren openInner queueNext closeLeaf openLeaf takeRegion
@@ -137,7 +139,7 @@ both-sides = refl
 -- queued at 12 the lowest number is measured first.
 pub ties : run (three (from0 ∷ [])) 1 .state .gone ∷ run (three (from2 ∷ from0 ∷ [])) 1 .state .gone ∷ []
     ≡ (true ∷ false ∷ false ∷ []) ∷ (false ∷ false ∷ true ∷ []) ∷ []
-unfolding onChain at leafOf three from0 from2 choose leafMark innerMark firstDistance lastFrom noRegion regionAt all comes names once inRange namedBy firstList
+unfolding onChain at leafOf three from0 from2 choose leafMark innerMark firstDistance lastFrom noRegion regionAt all yardFirst keep enough names once inRange namedBy firstList
     agreeing sameYards leafOk siblings subtree endOf starts childrenOf size children marks leaf absDiff combine aggregate greatestOf leastFrom leastOf crewBound
     noMark tableAt lower upper over total markBound bound weight best bestOf chosen listAbsDiff f yardBound queued wordAt pick insert hold greatestHeld entry
     left noElement againKey waiting nextPlace nextF queueChildren openInner queueNext closeLeaf openLeaf takeRegion takeYard nextRegion nextYard leastKey step
@@ -145,7 +147,7 @@ unfolding onChain at leafOf three from0 from2 choose leafMark innerMark firstDis
 ties = refl
 
 pub orders : run (three (from0 ∷ [])) 2 .state .measured ∷ run twoLeaves 6 .state .measured ∷ [] ≡ [] ∷ (1 ∷ []) ∷ []
-unfolding onChain at leafOf three from0 from2 twoLeaves eight choose leafMark innerMark firstDistance lastFrom noRegion regionAt all comes names once inRange
+unfolding onChain at leafOf three from0 from2 twoLeaves eight choose leafMark innerMark firstDistance lastFrom noRegion regionAt all yardFirst keep enough names once inRange
     namedBy firstList agreeing sameYards leafOk siblings subtree endOf starts childrenOf size children marks leaf absDiff combine aggregate greatestOf leastFrom
     leastOf crewBound noMark tableAt lower upper over total markBound bound weight best bestOf chosen listAbsDiff f yardBound queued wordAt pick insert hold
     greatestHeld entry left noElement againKey waiting nextPlace nextF queueChildren openInner queueNext closeLeaf openLeaf takeRegion takeYard nextRegion

@@ -2,7 +2,9 @@ pub mod Instance
 pub mod Books
 pub mod Bounds
 pub mod Queue
+pub mod Order
 pub mod Held
+pub mod Keeping
 pub mod Step
 pub mod Run
 pub mod Facts

@@ -1,16 +1,16 @@
 -- "Bounds and steps", its steps: a search's state, one step, and when it is settled. Assumes nothing: these are
 -- definitions.
-use mathlib.Core.Bool.{Bool, true, false, not, _&&_, _||_}
+use mathlib.Core.Bool.{Bool, true, false, not, _||_}
 use mathlib.Core.List.{List, [], _∷_}
 use Prim.Native.Nat.{ℕ, min, max}
 use lib.ListN.{length, getD, set, replicate}
-use lib.Dec.{ltb, eqb}
+use lib.Dec.{ltb}
 use Rattle.book.specs.Choose.{choose}
 use Rattle.tree_layout.specs.Values.{Element, Mark}
 use Rattle.search_rules.specs.Instance.{Instance, size, children, leaf}
 use Rattle.search_rules.specs.Bounds.{bound, chosen, f, yardBound}
 use Rattle.search_rules.specs.Queue.{unqueued, queued, wordAt, pick}
-use Rattle.search_rules.specs.Held.{hold, greatestHeld, entry}
+use Rattle.search_rules.specs.Keeping.{keep, enough}
 
 -- For each region and for each junction its word in the queue; for each region its first key (or `unqueued` before it
 -- has one); for each junction whether
@@ -116,7 +116,7 @@ module _ (i : Instance) where
     yardKeys = set (st .yardKeys) y unqueued;
     firsts = st .firsts;
     gone = st .gone;
-    held = hold (i .k) (entry i y) (st .held);
+    held = keep i y (st .held);
     measured = y ∷ st .measured;
   }
 
@@ -148,8 +148,7 @@ module _ (i : Instance) where
   -- "The search is settled when the queue is empty, or k are held and every queued key is above the greatest held
   -- distance."
   unfoldable pub settled : SearchState → Bool
-  settled st = not (queued (leastKey st)) || (eqb (length (st .held)) (i .k)
-      && ltb (greatestHeld (st .held)) (leastKey st))
+  settled st = not (queued (leastKey st)) || enough i (st .held) (leastKey st)
 
   -- "The queue starts with the root."
   unfoldable pub startSearch : SearchState

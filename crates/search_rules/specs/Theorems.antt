@@ -8,11 +8,11 @@ use lib.ListN.{length, take}
 use lib.Dec.{T}
 use Rattle.book.specs.Lists.{Distinct}
 use Rattle.tree_layout.specs.Values.{Element, Mark}
-use Rattle.tree_layout.specs.Facts.{Before}
 use Rattle.tree.specs.Yards.{inners}
 use Rattle.search_rules.specs.Instance.{Instance, size, marks, leaf}
 use Rattle.search_rules.specs.Bounds.{lower, upper, bound, total, weight, chosen, f, yardBound}
 use Rattle.search_rules.specs.Queue.{unqueued, wordAt}
+use Rattle.search_rules.specs.Order.{YardBefore}
 use Rattle.search_rules.specs.Held.{greatestHeld, entry, ranked}
 use Rattle.search_rules.specs.Step.{SearchState, settled}
 use Rattle.search_rules.specs.Run.{run, answer}
@@ -23,12 +23,12 @@ use Rattle.search_rules.specs.Facts.{Below}
 -- "Yard order": each element comes before all that follow it
 abbrev pub Sorted : List Element → Type 0
 Sorted [] = Unit {0}
-Sorted (h ∷ hs) = ((g : Element) → Mem g hs → Before h g) × Sorted hs
+Sorted (h ∷ hs) = ((g : Element) → Mem g hs → YardBefore h g) × Sorted hs
 
 -- a yard is left out of the first k: they are k, and it comes after every one of them
 pub record Out (k : ℕ) (first : List Element) (h : Element) : Type 0 where
   pub full : length first ≡ k
-  pub after : (g : Element) → Mem g first → Before g h
+  pub after : (g : Element) → Mem g first → YardBefore g h
 
 -- ys are the tree's yards, each once
 pub record TreeYards (i : Instance) (ys : List ℕ) : Type 0 where

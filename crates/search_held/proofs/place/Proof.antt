@@ -17,24 +17,24 @@ abbrev μ-loop : tie.MeasureT-loop
 loop-holds : tie.Need-loop-holds Inv-loop μ-loop
 loop-holds c = (omega arith, seen-none _ _ _ _)
 
-mul-after : tie.Need-mul-after Inv-loop μ-loop
-mul-after c = search needs
+mul-comes-first : tie.Need-mul-comes-first Inv-loop μ-loop
+mul-comes-first c = search needs
 
-shared-slice-read-after : tie.Need-shared-slice-read-after Inv-loop μ-loop
-shared-slice-read-after c = search needs
+shared-slice-read-comes-first : tie.Need-shared-slice-read-comes-first Inv-loop μ-loop
+shared-slice-read-comes-first c = search needs
 
-mul-after-2 : tie.Need-mul-after-2 Inv-loop μ-loop
-mul-after-2 c = search needs
+mul-comes-first-2 : tie.Need-mul-comes-first-2 Inv-loop μ-loop
+mul-comes-first-2 c = search needs
 
-shared-slice-read-after-2 : tie.Need-shared-slice-read-after-2 Inv-loop μ-loop
-shared-slice-read-after-2 c = search needs
+shared-slice-read-comes-first-2 : tie.Need-shared-slice-read-comes-first-2 Inv-loop μ-loop
+shared-slice-read-comes-first-2 c = search needs
 
-after-requires : tie.Need-after-requires Inv-loop μ-loop
+after-requires : tie.Need-comes-first-requires Inv-loop μ-loop
 after-requires c κs = search needs
 
 returns : tie.Need-returns Inv-loop μ-loop
 returns c = seen-here _ _ _ _ (c .before .before .before .before .before .loop .j) (omega arith) (c .before .before .before .before .before .loop .inv .1) (sym
-    (c .before .after .ensures) ∙ c .if1 .taken)
+    (c .before .comes-first .ensures) ∙ c .if1 .taken)
 
 add-j : tie.Need-add-j Inv-loop μ-loop
 add-j c = search needs
@@ -46,7 +46,7 @@ loop-again : tie.Need-loop-again Inv-loop μ-loop
 loop-again c = (
   omega arith,
   seen-on _ _ _ _ (c .before .before .before .before .before .loop .j) (omega arith) (c .before .before .before .before .before
-      .loop .inv .1) (sym (c .before .after .ensures) ∙ c .if1 .left),
+      .loop .inv .1) (sym (c .before .comes-first .ensures) ∙ c .if1 .left),
 )
 
 returns-2 : tie.Need-returns-2 Inv-loop μ-loop
@@ -59,10 +59,10 @@ place-spec =
     Inv-loop
     μ-loop
     loop-holds
-    mul-after
-    shared-slice-read-after
-    mul-after-2
-    shared-slice-read-after-2
+    mul-comes-first
+    shared-slice-read-comes-first
+    mul-comes-first-2
+    shared-slice-read-comes-first-2
     after-requires
     returns
     add-j
