@@ -6,6 +6,7 @@ use compare::{road, yard};
 use super::calls;
 use super::district::District;
 use super::fault::Fault;
+use super::lines::shown;
 use super::refusal;
 
 /// All four books.
@@ -40,18 +41,21 @@ fn missing(what: &str) -> Fault {
 /// The road book, which the proved call passes.
 pub fn road_book(district: &District) -> Result<Vec<u8>, Fault> {
     let road = road::write(district.junctions.count(), &district.roads);
-    let told = |junction| district.junctions.told(junction);
+    let told = |junction| match junction {
+        0 => format!("junction {}", shown(&district.junctions.label(0))),
+        _ => district.junctions.told(junction),
+    };
     match calls::road_passes(&road) {
         Ok(()) => Ok(road),
         Err(number) => Err(Fault::bad_input(refusal::of_road(number, &road, &told))),
     }
 }
 
+/// A yard book and its tree book.
+pub type YardAndTree = (Vec<u8>, Vec<u8>);
+
 /// The yard book and the tree book, if the district has a yard.
-pub fn yard_and_tree(
-    district: &District,
-    road: &[u8],
-) -> Result<Option<(Vec<u8>, Vec<u8>)>, Fault> {
+pub fn yard_and_tree(district: &District, road: &[u8]) -> Result<Option<YardAndTree>, Fault> {
     if district.yards.is_empty() {
         return Ok(None);
     }

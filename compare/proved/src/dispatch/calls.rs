@@ -14,6 +14,14 @@ pub struct Searched {
     pub list: Vec<(u16, u32)>,
 }
 
+impl Searched {
+    /// A yard's place on the list, counted from 1.
+    pub fn place(&self, yard: u16) -> Option<usize> {
+        let place = self.list.iter().position(|&(listed, _)| listed == yard);
+        place.map(|place| place + 1)
+    }
+}
+
 /// The tree that the proved build makes, after the proved check has passed it.
 pub fn build(road: &[u8], yard: &[u8], landmarks: u32, leaf: u32) -> Result<Vec<u8>, u32> {
     let mut work = vec![0; WORK_WORDS];

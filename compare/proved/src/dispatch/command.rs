@@ -7,12 +7,14 @@ use std::path::Path;
 
 use super::district::District;
 use super::fault::Fault;
+use super::lines::BadLine;
 use super::output::Output;
 use super::parse::parse;
 use super::{bookfiles, draw, list, text, why};
 
 /// How the program is called.
-pub const USAGE: &str = "usage: dispatch list FILE           the yards with the least drive, each crew's seconds beside them
+pub const USAGE: &str = "\
+usage: dispatch list FILE           the yards with the least drive, each crew's seconds beside them
        dispatch why FILE [YARD]     each step of the search, and who beat the yards that were left out
        dispatch draw FILE           the district for Graphviz
        dispatch books FILE FOLDER   writes road.book, yard.book, tree.book and query.book
@@ -37,8 +39,12 @@ pub fn answer(arguments: &[OsString]) -> Result<Output, Fault> {
         (Some("books"), [file, folder]) => about(file, |district| {
             bookfiles::books(district, Path::new(folder))
         }),
-        (Some("text"), [road]) => text::text(&bytes(road)?, None),
-        (Some("text"), [road, yard]) => text::text(&bytes(road)?, Some(&bytes(yard)?)),
+        (Some("text"), [road]) => text::text(&bytes(road)?, None).map_err(|fault| of(road, fault)),
+        (Some("text"), [road, yard]) => {
+            let (road_book, yard_book) = (bytes(road)?, bytes(yard)?);
+            text::text(&road_book, None).map_err(|fault| of(road, fault))?;
+            text::text(&road_book, Some(&yard_book)).map_err(|fault| of(yard, fault))
+        }
         (Some("help" | "--help" | "-h"), []) => Ok(Output::text(USAGE.to_string())),
         _ => Err(usage("expected a command with its arguments")),
     }
@@ -49,14 +55,15 @@ fn about(
     file: &OsString,
     make: impl FnOnce(&District) -> Result<Output, Fault>,
 ) -> Result<Output, Fault> {
-    let bytes = bytes(file)?;
-    let name = file.display();
-    let district = parse(&bytes)
-        .map_err(|bad| Fault::bad_input(format!("{name}:{}: {}", bad.line, bad.message)))?;
-    make(&district).map_err(|fault| Fault {
-        message: format!("{name}: {}", fault.message),
-        ..fault
-    })
+    let line = |bad: BadLine| format!("{}:{}: {}", file.display(), bad.line, bad.message);
+    let district = parse(&bytes(file)?).map_err(|bad| Fault::bad_input(line(bad)))?;
+    make(&district).map_err(|fault| of(file, fault))
+}
+
+/// The same fault, of this file.
+fn of(file: &OsString, fault: Fault) -> Fault {
+    let message = format!("{}: {}", file.display(), fault.message);
+    Fault { message, ..fault }
 }
 
 /// A whole file, or standard input.

@@ -20,12 +20,19 @@ const COLOURS: [&str; 16] = [
     "#800000", "#000080", "#006400", "#4b0082", "#b8860b", "#c71585", "#2f4f4f", "#ff4500",
 ];
 
-/// What all drawings share.
-const STYLE: &str =
-    "  graph [layout=neato, overlap=false, splines=true, fontname=\"sans-serif\", labelloc=b];
-  node [shape=circle, fontname=\"sans-serif\", fontsize=11, color=\"#777777\", margin=0.05];
+/// How junctions and roads are drawn that have no mark.
+const UNMARKED: &str =
+    "  node [shape=circle, fontname=\"sans-serif\", fontsize=11, color=\"#777777\", margin=0.05];
   edge [fontname=\"sans-serif\", fontsize=10, color=\"#999999\"];
 ";
+
+/// The marks of yards.
+const LISTED: &str = ", shape=box, style=filled, fillcolor=\"#9bdc9b\"";
+const MEASURED: &str = ", shape=box, style=filled, fillcolor=\"#ffe79a\"";
+const NEVER_MEASURED: &str = ", shape=box, style=dashed";
+
+/// The most roads that are bent around junctions; more would take Graphviz minutes.
+const MOST_BENT: usize = 200;
 
 /// What is drawn.
 struct Drawing<'a> {
@@ -93,8 +100,8 @@ impl Drawing<'_> {
     /// The whole text.
     fn graph(&self) -> String {
         let mut text = String::from("graph district {\n");
-        text.push_str(STYLE);
-        let _ = writeln!(text, "  label={};", quoted(&self.caption()));
+        let _ = writeln!(text, "  graph [{}];", self.style());
+        text.push_str(UNMARKED);
         for junction in 0..self.district.junctions.count() {
             let _ = writeln!(text, "  j{junction} [{}];", self.junction(junction));
         }
@@ -109,6 +116,14 @@ impl Drawing<'_> {
         }
         text.push_str("}\n");
         text
+    }
+
+    /// The attributes of the whole drawing.
+    fn style(&self) -> String {
+        let bent = self.district.roads.len() <= MOST_BENT;
+        let splines = if bent { "true" } else { "line" };
+        let caption = quoted(&self.caption());
+        format!("layout=neato, overlap=false, splines={splines}, fontname=\"sans-serif\", fontsize=11, label={caption}")
     }
 
     /// What was asked, the counts, and what the marks mean.
@@ -156,23 +171,13 @@ double circle or frame: crews; coloured roads: each crew's way to the first yard
 
     /// What a yard's label says, and how it is marked.
     fn yard(&self, yard: u16) -> (String, &'static str) {
-        let place = self
-            .answer
-            .searched
-            .list
-            .iter()
-            .position(|&(listed, _)| listed == yard);
         let seconds = aggregate(self.district, &self.seconds[&yard]);
+        let told = format!("yard: {seconds} s");
+        let place = self.answer.searched.place(yard);
         match (place, self.trace.measured_in(yard)) {
-            (Some(place), _) => (
-                format!("{}. yard: {seconds} s", place + 1),
-                ", shape=box, style=filled, fillcolor=\"#9bdc9b\"",
-            ),
-            (None, Some(_)) => (
-                format!("yard: {seconds} s"),
-                ", shape=box, style=filled, fillcolor=\"#ffe79a\"",
-            ),
-            (None, None) => (format!("yard: {seconds} s"), ", shape=box, style=dashed"),
+            (Some(place), _) => (format!("{place}. {told}"), LISTED),
+            (None, Some(_)) => (told, MEASURED),
+            (None, None) => (told, NEVER_MEASURED),
         }
     }
 

@@ -120,6 +120,9 @@ impl Junctions {
     }
 }
 
+/// What a junction is written as.
+const FORM: &str = "a number, or a letter and then letters, digits, - _ . ' (at most 64)";
+
 /// A name begins with a letter, and has letters, digits and `-`, `_`, `.`, `'`.
 fn test_name(word: &str, line: &Line) -> Result<(), BadLine> {
     let fits = |c: char| c.is_alphanumeric() || "-_.'".contains(c);
@@ -127,8 +130,5 @@ fn test_name(word: &str, line: &Line) -> Result<(), BadLine> {
     if begins && word.chars().all(fits) && word.chars().count() <= MOST_NAME {
         return Ok(());
     }
-    Err(line.bad(format!(
-        "expected a junction, which is a number or a name (a letter, then letters, digits, - _ . ', at most {MOST_NAME}), not {}",
-        shown(word)
-    )))
+    Err(line.bad(format!("expected a junction: {FORM}, not {}", shown(word))))
 }

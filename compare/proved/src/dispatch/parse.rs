@@ -6,7 +6,7 @@ use compare::query::Aggregate;
 use compare::road::{Road, MOST_ROADS};
 use compare::yard::MOST_YARDS;
 
-use super::district::{District, Settings};
+use super::district::{counted, District, Settings};
 use super::junctions::Junctions;
 use super::lines::{bad, lines, shown, BadLine, Line};
 use super::number::Kind;
@@ -63,7 +63,7 @@ struct Reading {
     yards: BTreeMap<u16, usize>,
     crews: Vec<u16>,
     settings: Settings,
-    said: BTreeMap<&'static str, usize>,
+    said: BTreeMap<String, usize>,
 }
 
 impl Reading {
@@ -161,32 +161,21 @@ impl Reading {
 
     /// `first N`, `limit N`, `landmarks N` or `leaf N`.
     fn setting(&mut self, line: &Line) -> Result<(), BadLine> {
-        let [word] = after(line, &format!("{} NUMBER", line.words[0]))?;
+        let name = line.words[0];
+        let [word] = after(line, &format!("{name} NUMBER"))?;
         let settings = &mut self.settings;
-        let name = match line.words[0] {
-            "first" => {
-                settings.first = FIRST.read(word, line)? as u8;
-                "first"
-            }
-            "limit" => {
-                settings.limit = LIMIT.read(word, line)?;
-                "limit"
-            }
-            "landmarks" => {
-                settings.landmarks = LANDMARKS.read(word, line)?;
-                "landmarks"
-            }
-            _ => {
-                settings.leaf = LEAF.read(word, line)?;
-                "leaf"
-            }
-        };
+        match name {
+            "first" => settings.first = FIRST.read(word, line)? as u8,
+            "limit" => settings.limit = LIMIT.read(word, line)?,
+            "landmarks" => settings.landmarks = LANDMARKS.read(word, line)?,
+            _ => settings.leaf = LEAF.read(word, line)?,
+        }
         self.once(name, line)
     }
 
     /// What may be said once is said here.
-    fn once(&mut self, what: &'static str, line: &Line) -> Result<(), BadLine> {
-        match self.said.insert(what, line.number) {
+    fn once(&mut self, what: &str, line: &Line) -> Result<(), BadLine> {
+        match self.said.insert(what.to_string(), line.number) {
             None => Ok(()),
             Some(before) => {
                 Err(line.bad(format!("expected {what} once: line {before} says it too")))
@@ -213,13 +202,15 @@ impl Reading {
 
 /// The words after the first, as many as the form has.
 fn after<'a, const N: usize>(line: &Line<'a>, form: &str) -> Result<[&'a str; N], BadLine> {
-    let words = line.words[1..].try_into();
-    words.map_err(|_| {
+    let words = &line.words[1..];
+    let found = counted(words.len(), "word");
+    let wrong = |_| {
         line.bad(format!(
-            "expected `{form}`, not {} words after the first",
-            line.words.len() - 1
+            "expected `{form}`, not {found} after `{}`",
+            line.words[0]
         ))
-    })
+    };
+    words.try_into().map_err(wrong)
 }
 
 /// A count that a book can hold.

@@ -1,7 +1,9 @@
 //! The text form: what is read, and what each fault is told as.
 
+use compare::generate::Numbers;
 use compare::query::Aggregate;
-use compare::road::Road;
+use compare::road::{self, Road};
+use compare::yard;
 
 use super::district::{District, Settings};
 use super::parse::parse;
@@ -134,7 +136,7 @@ fn long_lines() {
     assert_fault(
         format!("road 0 1 5 {long}"),
         1,
-        "expected `road END END SECONDS`, not 4 words",
+        "expected `road END END SECONDS`, not 4 words after `road`",
     );
     assert_eq!(read(&format!("yard 0 # {long}")).yards, [0]);
 }
@@ -252,12 +254,16 @@ fn lines_of_another_form() {
     assert_fault(
         "road 0 1",
         1,
-        "expected `road END END SECONDS`, not 2 words",
+        "expected `road END END SECONDS`, not 2 words after `road`",
     );
-    assert_fault("road", 1, "expected `road END END SECONDS`, not 0 words");
+    assert_fault(
+        "road",
+        1,
+        "expected `road END END SECONDS`, not 0 words after `road`",
+    );
     assert_fault("yard", 1, "expected `yard JUNCTION ...`");
     assert_fault("crew # none", 1, "expected `crew JUNCTION ...`");
-    assert_fault("sum 3", 1, "expected `sum`, not 1 words");
+    assert_fault("sum 3", 1, "expected `sum`, not 1 word after `sum`");
     assert_fault("first", 1, "expected `first NUMBER`");
     assert_fault("yards 3", 1, "expected road, yard, crew, sum");
     assert_fault("Road 0 1 5", 1, "expected road, yard, crew, sum");
@@ -304,7 +310,7 @@ fn names_of_another_form() {
         assert_fault(
             format!("yard {name}"),
             1,
-            "expected a junction, which is a number or a name",
+            "expected a junction: a number, or a letter",
         );
     }
     let longest = "n".repeat(64);
@@ -315,4 +321,35 @@ fn names_of_another_form() {
             .len(),
         2
     );
+}
+
+/// Whatever is read makes books that only the test of what can be reached may refuse.
+#[test]
+fn changed_texts() {
+    const TEXT: &str =
+        "road 0 1 120\nroad 1 2 60 # lane\nyard 2\ncrew 0 1\nsum\nfirst 3\nlimit 9\njunctions 4\n";
+    const BYTES: &[u8] = b"0123459 \n\n#rdaycewumx-\t\r\0\xff\xc3\xa4";
+    let mut numbers = Numbers::new(1);
+    let mut read = 0;
+    for _ in 0..20_000 {
+        let mut text = TEXT.as_bytes().to_vec();
+        for _ in 0..numbers.between(1, 4) {
+            let place = numbers.between(0, text.len() as u64 - 1) as usize;
+            let byte = BYTES[numbers.between(0, BYTES.len() as u64 - 1) as usize];
+            match numbers.between(0, 2) {
+                0 => text[place] = byte,
+                1 => text.insert(place, byte),
+                _ => drop(text.remove(place)),
+            }
+        }
+        if let Ok(district) = parse(&text) {
+            let junctions = district.junctions.count();
+            assert!(road::read_layout(&road::write(junctions, &district.roads)).is_ok());
+            let yards = yard::write(&district.yards);
+            assert!(district.yards.is_empty() || yard::read(&yards, junctions).is_ok());
+            assert!(district.crews.iter().all(|&crew| crew < junctions));
+            read += 1;
+        }
+    }
+    assert!(read > 1_000, "{read}");
 }

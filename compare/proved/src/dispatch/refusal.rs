@@ -5,6 +5,8 @@ use compare::refusal::{DISAGREE, HEADER, LENGTH, RECORD, UNREACHED, VALUE, VERSI
 use compare::road::{self, MOST_JUNCTIONS, MOST_ROADS};
 use compare::yard::MOST_YARDS;
 
+use super::district::counted;
+
 /// Where the fields of every book begin: after the count and the version.
 const FIELDS: usize = 5;
 
@@ -71,7 +73,9 @@ fn worded(number: u32, book: &str, part: Option<String>) -> String {
 fn opening(number: u32, book: &[u8]) -> Option<String> {
     let length = book.len();
     Some(match number {
-        LENGTH if length < FIELDS => format!(": {length} bytes, expected at least {FIELDS}"),
+        LENGTH if length < FIELDS => {
+            format!(": {}, expected at least {FIELDS}", counted(length, "byte"))
+        }
         LENGTH => format!(
             ": its first four bytes count {} bytes after them, not {}",
             u32_at(book, 0),

@@ -12,13 +12,19 @@ use super::books::Books;
 use super::fault::Fault;
 use super::refusal::by_rule;
 
-/// One step: what left the queue with which key, what it queued, what it measured, and the held yards after it.
+/// One step: what left the queue with which key, what it queued, and for a yard how it was measured.
 pub struct Step {
     pub key: u64,
     pub item: Item,
     pub queued: Vec<(u64, Item)>,
-    pub measured: Option<u64>,
-    pub held: Vec<(u64, u16)>,
+    pub measured: Option<Measured>,
+}
+
+/// A measured yard's seconds, its place among the held yards, counted from 0, and the yard that it put off them.
+pub struct Measured {
+    pub seconds: u64,
+    pub place: Option<usize>,
+    pub put_off: Option<u16>,
 }
 
 /// A search with all of its steps.
@@ -131,7 +137,7 @@ fn step(search: &Search, before: &Seen, after: &Seen) -> Option<Step> {
     let mut waiting = before.queue.clone();
     waiting.pop_first();
     let measured = match item {
-        Item::Yard(yard) => Some(true_distance(search, yard)),
+        Item::Yard(yard) => Some(measured(search, yard, before, after)),
         Item::Region(_) => None,
     };
     Some(Step {
@@ -139,6 +145,15 @@ fn step(search: &Search, before: &Seen, after: &Seen) -> Option<Step> {
         item,
         queued: after.queue.difference(&waiting).copied().collect(),
         measured,
-        held: after.held.clone(),
     })
+}
+
+/// How a yard was measured between two states.
+fn measured(search: &Search, yard: u16, before: &Seen, after: &Seen) -> Measured {
+    let put_off = before.held.iter().find(|held| !after.held.contains(held));
+    Measured {
+        seconds: true_distance(search, yard),
+        place: after.held.iter().position(|&(_, held)| held == yard),
+        put_off: put_off.map(|&(_, yard)| yard),
+    }
 }

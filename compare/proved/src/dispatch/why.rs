@@ -9,7 +9,7 @@ use super::lines::shown;
 use super::list::counts;
 use super::output::Output;
 use super::table::{table, Side};
-use super::trace::{Step, Trace};
+use super::trace::{Measured, Step, Trace};
 
 /// All that the story is told from.
 struct Story<'a> {
@@ -58,12 +58,15 @@ fn yard_of(district: &District, label: &str) -> Result<u16, Fault> {
 impl Story<'_> {
     /// A row for each step.
     fn steps(&self) -> String {
-        let mut rows = vec![["step", "key", "what left the queue"]
-            .map(String::from)
-            .to_vec()];
+        let heading = [
+            "step",
+            "key",
+            "what left the queue, and what it queued (with its key)",
+        ];
+        let mut rows = vec![heading.map(String::from).to_vec()];
         for (place, step) in self.trace.steps.iter().enumerate() {
-            let what = match step.measured {
-                Some(seconds) => self.measuring(step, place, seconds),
+            let what = match &step.measured {
+                Some(measured) => self.measuring(step.item, measured),
                 None => self.opening(step),
             };
             rows.push(vec![(place + 1).to_string(), step.key.to_string(), what]);
@@ -73,62 +76,40 @@ impl Story<'_> {
 
     /// A region that left the queue, and what it queued.
     fn opening(&self, step: &Step) -> String {
-        let queued = step
-            .queued
-            .iter()
-            .map(|&(key, item)| format!("{} with key {key}", self.item(item)));
-        let queued: Vec<String> = queued.collect();
+        let told = |&(key, item): &(u64, Item)| format!("{} ({key})", self.item(item));
+        let queued: Vec<String> = step.queued.iter().map(told).collect();
         format!("{}: queues {}", self.region(step.item), queued.join(", "))
     }
 
     /// A yard that left the queue: its seconds, its place so far, and the yard that it put off the list.
-    fn measuring(&self, step: &Step, place: usize, seconds: u64) -> String {
-        let is_held = |step: &Step| {
-            step.held
-                .iter()
-                .position(|&(_, yard)| step.item == Item::Yard(yard))
-        };
-        let standing = match is_held(step) {
+    fn measuring(&self, item: Item, measured: &Measured) -> String {
+        let standing = match measured.place {
             Some(place) => format!("place {} so far", place + 1),
             None => format!("not among the first {}", self.district.settings.first),
         };
-        let before: &[(u64, u16)] = match place {
-            0 => &[],
-            _ => &self.trace.steps[place - 1].held,
-        };
-        let off = before.iter().find(|held| !step.held.contains(held));
-        let off = off.filter(|_| is_held(step).is_some());
-        let off = off.map_or(String::new(), |&(_, yard)| {
-            format!(", {} falls off", self.yard(yard))
-        });
+        let off = measured
+            .put_off
+            .map(|yard| format!(", {} falls off", self.yard(yard)));
+        let (seconds, off) = (measured.seconds, off.unwrap_or_default());
         format!(
             "{}: measured, {seconds} seconds, {standing}{off}",
-            self.item(step.item)
+            self.item(item)
         )
     }
 
     /// Why the search ended.
     fn end(&self) -> String {
-        let counts = counts(self.district, &self.answer);
-        let limit = self.district.settings.limit;
-        let last = self.trace.outcome.state.held.last();
-        let why = match last {
-            _ if !self.trace.outcome.settled => format!(
-                "spent: no list, the limit is {}",
-                counted(limit as usize, "step")
-            ),
-            _ if self.trace.outcome.state.queue.is_empty() => {
-                "settled: the queue is empty".to_string()
+        let outcome = &self.trace.outcome;
+        let limit = counted(self.district.settings.limit as usize, "step");
+        let why = match outcome.state.held.last() {
+            _ if !outcome.settled => format!("spent: no list, the limit is {limit}"),
+            Some((seconds, yard)) if !outcome.state.queue.is_empty() => {
+                let last = self.yard(*yard);
+                format!("settled: every key left is above {seconds}, the seconds of {last}")
             }
-            Some((seconds, yard)) => {
-                format!(
-                    "settled: every key left is above {seconds}, the seconds of {}",
-                    self.yard(*yard)
-                )
-            }
-            None => "settled".to_string(),
+            _ => "settled: the queue is empty".to_string(),
         };
-        format!("{why}; {counts}\n")
+        format!("{why}; {}\n", counts(self.district, &self.answer))
     }
 
     /// What was left in the queue: the yards, and the least seconds that they can take.
@@ -155,7 +136,7 @@ impl Story<'_> {
         if let Some(yard) = asked_of {
             return self.one_yard(yard);
         }
-        let listed = |yard: &u16| self.place(*yard).is_some();
+        let listed = |yard: &u16| self.answer.searched.place(*yard).is_some();
         let left_out = self
             .district
             .yards
@@ -175,7 +156,7 @@ impl Story<'_> {
 
     /// Where a yard stands on the list or who beat it, and when it was measured.
     fn one_yard(&self, yard: u16) -> String {
-        let standing = match self.place(yard) {
+        let standing = match self.answer.searched.place(yard) {
             Some(place) => format!("{}: place {place}", self.drives(yard)),
             None => self
                 .beaten(yard)
@@ -201,17 +182,6 @@ impl Story<'_> {
             self.drives(yard),
             self.yard(by)
         ))
-    }
-
-    /// A yard's place on the list, counted from 1.
-    fn place(&self, yard: u16) -> Option<usize> {
-        let place = self
-            .answer
-            .searched
-            .list
-            .iter()
-            .position(|&(listed, _)| listed == yard);
-        place.map(|place| place + 1)
     }
 
     /// A yard with its seconds and each crew's.
