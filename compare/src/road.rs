@@ -34,7 +34,7 @@ pub struct RoadBook {
 /// The road book's own tests, in order.
 pub fn read(book: &[u8]) -> Result<RoadBook, u32> {
     let book = read_layout(book)?;
-    refuse_unless(book.unreached().is_none(), UNREACHED)?;
+    refuse_unless(book.unreached().is_empty(), UNREACHED)?;
     Ok(book)
 }
 
@@ -93,11 +93,11 @@ fn neighbours(junctions: u16, roads: &[Road]) -> Vec<Vec<(u16, u16)>> {
 }
 
 impl RoadBook {
-    /// Test 6: "Some junction can't be reached from junction 0": the first such junction.
-    pub fn unreached(&self) -> Option<u16> {
+    /// Test 6: "Some junction can't be reached from junction 0": all such junctions.
+    pub fn unreached(&self) -> Vec<u16> {
         let distances = self.least_distances(0);
-        let place = distances.iter().position(|&d| d == NO_WALK);
-        place.map(|place| place as u16)
+        let far = |junction: &u16| distances[usize::from(*junction)] == NO_WALK;
+        (0..self.junctions).filter(far).collect()
     }
 
     /// "Distance d(u, v) is the least total of seconds over all walks from u to v, 0 from u to u."

@@ -449,7 +449,15 @@ fn bad_text_is_told_with_its_line_and_nothing_is_written() {
         ("", ":1: expected a road, a yard or a crew"),
         (
             "yard 7\ncrew 0\nroad 0 1 5",
+            ": refused 6: road book: junction `7` (line 1) can't be reached from junction `0`\n",
+        ),
+        (
+            "road 0 1 5\nroad 1 3 5\nyard 3\ncrew 0",
             ": refused 6: road book: junction `2`, which no line names, can't be reached",
+        ),
+        (
+            "road depot bridge 120\nyard brigde\ncrew depot",
+            ": refused 6: road book: junction `brigde` (line 2) can't be reached from junction `depot`",
         ),
     ];
     for (text, message) in cases {

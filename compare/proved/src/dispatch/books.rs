@@ -6,7 +6,6 @@ use compare::{road, yard};
 use super::calls;
 use super::district::District;
 use super::fault::Fault;
-use super::lines::shown;
 use super::refusal;
 
 /// All four books.
@@ -41,13 +40,10 @@ fn missing(what: &str) -> Fault {
 /// The road book, which the proved call passes.
 pub fn road_book(district: &District) -> Result<Vec<u8>, Fault> {
     let road = road::write(district.junctions.count(), &district.roads);
-    let told = |junction| match junction {
-        0 => format!("junction {}", shown(&district.junctions.label(0))),
-        _ => district.junctions.told(junction),
-    };
+    let cut_off = |unreached: &[u16]| district.junctions.cut_off(unreached);
     match calls::road_passes(&road) {
         Ok(()) => Ok(road),
-        Err(number) => Err(Fault::bad_input(refusal::of_road(number, &road, &told))),
+        Err(number) => Err(Fault::bad_input(refusal::of_road(number, &road, &cut_off))),
     }
 }
 

@@ -5,7 +5,7 @@ use compare::refusal::WORK_WORDS;
 use compare::{yard, Found};
 
 /// The words of a result area for the greatest k.
-const RESULT_WORDS: usize = 128;
+pub const RESULT_WORDS: usize = 128;
 
 /// A settled or spent search; the list has a yard and its seconds, and is empty if spent.
 #[derive(Clone, Debug, PartialEq, Eq)]

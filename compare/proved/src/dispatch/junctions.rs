@@ -110,13 +110,19 @@ impl Junctions {
         }
     }
 
-    /// A junction as messages tell it, with the line that names it first.
-    pub fn told(&self, junction: u16) -> String {
-        let label = shown(&self.label(junction));
-        match self.lines.get(&junction) {
-            Some(line) => format!("junction {label} (line {line})"),
-            None => format!("junction {label}, which no line names,"),
-        }
+    /// That some junctions can't be reached: the first that a line names is told, or else the first.
+    pub fn cut_off(&self, unreached: &[u16]) -> String {
+        let named = unreached
+            .iter()
+            .find(|junction| self.lines.contains_key(junction));
+        let junction = *named.unwrap_or(&unreached[0]);
+        let label = |junction| shown(&self.label(junction));
+        let place = match self.lines.get(&junction) {
+            Some(line) => format!(" (line {line})"),
+            None => ", which no line names,".to_string(),
+        };
+        let (cut_off, first) = (label(junction), label(0));
+        format!("junction {cut_off}{place} can't be reached from junction {first}")
     }
 }
 

@@ -26,17 +26,17 @@ const RULES: [&str; 12] = [
     "a lent area is too short",
 ];
 
-/// How junctions are told.
-pub type Told<'a> = &'a dyn Fn(u16) -> String;
+/// How it is told that some junctions, at least one, can't be reached.
+pub type CutOff<'a> = &'a dyn Fn(&[u16]) -> String;
 
 /// A road book's refusal.
-pub fn of_road(number: u32, book: &[u8], told: Told) -> String {
+pub fn of_road(number: u32, book: &[u8], cut_off: CutOff) -> String {
     let part = match number {
         LENGTH | VERSION => opening(number, book),
         HEADER => road_header(book),
         RECORD => records(book, 4, u16_at(book, FIELDS + 2), 6, "road"),
         VALUE => road_value(book),
-        UNREACHED => unreached(book, told),
+        UNREACHED => unreached(book, cut_off),
         _ => None,
     };
     worded(number, "road book", part)
@@ -203,12 +203,8 @@ fn yards(book: &[u8]) -> impl Iterator<Item = u16> + '_ {
         .map(|record| u16_at(record, 0))
 }
 
-/// Test 6: the first junction that can't be reached.
-fn unreached(book: &[u8], told: Told) -> Option<String> {
-    let junction = road::read_layout(book).ok()?.unreached()?;
-    Some(format!(
-        ": {} can't be reached from {}",
-        told(junction),
-        told(0)
-    ))
+/// Test 6: the junctions that can't be reached.
+fn unreached(book: &[u8], cut_off: CutOff) -> Option<String> {
+    let unreached = road::read_layout(book).ok()?.unreached();
+    (!unreached.is_empty()).then(|| format!(": {}", cut_off(&unreached)))
 }

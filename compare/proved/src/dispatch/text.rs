@@ -12,12 +12,12 @@ use super::refusal;
 
 /// The text of a road book, and of a yard book beside it.
 pub fn text(road_book: &[u8], yard_book: Option<&[u8]>) -> Result<Output, Fault> {
-    let told = |junction| format!("junction {junction}");
-    let number = |junction: u16| junction.to_string();
+    let cut_off =
+        |junctions: &[u16]| format!("junction {} can't be reached from junction 0", junctions[0]);
     calls::road_passes(road_book)
-        .map_err(|n| Fault::bad_input(refusal::of_road(n, road_book, &told)))?;
+        .map_err(|n| Fault::bad_input(refusal::of_road(n, road_book, &cut_off)))?;
     let road = road::read(road_book).map_err(differs)?;
-    let mut text = format!("junctions {}\n", number(road.junctions));
+    let mut text = format!("junctions {}\n", road.junctions);
     for road in &road.roads {
         let _ = writeln!(text, "road {} {} {}", road.low, road.high, road.seconds);
     }

@@ -9,6 +9,7 @@ use compare::{brute, road};
 
 use super::answer::Answer;
 use super::books::Books;
+use super::calls::RESULT_WORDS;
 use super::fault::Fault;
 use super::refusal::by_rule;
 
@@ -54,9 +55,14 @@ impl Trace {
     /// The plain finder's search of the same books; its answer has to be the proved one, and brute force's.
     pub fn new(answer: &Answer) -> Result<Self, Fault> {
         let books = &answer.books;
-        let results = 2 * answer.searched.list.len().max(64);
-        let search = tested(&books.road, &books.tree, &books.query, WORK_WORDS, results)
-            .map_err(|number| Fault::failed(by_rule(number, "the plain finder, of sound books")))?;
+        let search = tested(
+            &books.road,
+            &books.tree,
+            &books.query,
+            WORK_WORDS,
+            RESULT_WORDS,
+        )
+        .map_err(|number| Fault::failed(by_rule(number, "the plain finder, of sound books")))?;
         let mut seen = Vec::new();
         let outcome = run_seen(&search, |state| seen.push(Seen::new(state)));
         seen.push(Seen::new(&outcome.state));
