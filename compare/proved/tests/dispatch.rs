@@ -147,7 +147,7 @@ fn one_yard_is_explained() {
          measured in step 6"
     );
     let file = example("net-n");
-    for yard in ["2", "5", "depot", "-1", ""] {
+    for yard in ["2", "5", "depot", "-1", "+3", ""] {
         let fault = refused(&["why", told(&file), yard], 2);
         assert!(
             fault.contains("expected a yard of the file, not `"),
@@ -190,7 +190,11 @@ fn the_drawing_tells_yards_apart() {
 #[test]
 fn drawings_are_rendered() {
     if Command::new("dot").arg("-V").output().is_err() {
-        println!("skipped: Graphviz (dot) is not installed");
+        // Straight to standard error, since the output of a test that passes is not shown.
+        let _ = writeln!(
+            std::io::stderr(),
+            "drawings are not rendered: Graphviz (dot) is not installed"
+        );
         return;
     }
     for file in examples()

@@ -28,19 +28,20 @@ impl Answer {
         Ok(Answer { books, searched })
     }
 
-    /// Each crew's seconds to the listed yards; the aggregate of a yard's has to be what the list says.
-    pub fn listed_seconds(&self, district: &District) -> Result<Seconds, Fault> {
-        let yards: Vec<u16> = self.searched.list.iter().map(|&(yard, _)| yard).collect();
-        let seconds = seconds(district, &self.books.road, &yards)?;
-        for &(yard, listed) in &self.searched.list {
-            if aggregate(district, &seconds[&yard]) != u64::from(listed) {
-                let label = district.junctions.label(yard);
-                return Err(Fault::failed(format!(
-                    "the crews' seconds to yard {label} do not make {listed}"
-                )));
-            }
+    /// Each crew's seconds to some yards; the aggregate of a listed yard's has to be what the list says.
+    pub fn seconds(&self, district: &District, yards: &[u16]) -> Result<Seconds, Fault> {
+        let seconds = seconds(district, &self.books.road, yards)?;
+        let differs = |&&(yard, listed): &&(u16, u32)| {
+            let crews = seconds.get(&yard);
+            crews.is_some_and(|crews| aggregate(district, crews) != u64::from(listed))
+        };
+        match self.searched.list.iter().find(differs) {
+            None => Ok(seconds),
+            Some(&(yard, listed)) => Err(Fault::failed(format!(
+                "the crews' seconds to yard {} do not make {listed}",
+                district.junctions.label(yard)
+            ))),
         }
-        Ok(seconds)
     }
 }
 
@@ -54,7 +55,7 @@ pub fn aggregate(district: &District, seconds: &[u32]) -> u64 {
 }
 
 /// Each crew's seconds to some yards: proved searches for one crew at a time, in a tree of these yards, list them all.
-pub fn seconds(district: &District, road: &[u8], yards: &[u16]) -> Result<Seconds, Fault> {
+fn seconds(district: &District, road: &[u8], yards: &[u16]) -> Result<Seconds, Fault> {
     let mut all = Seconds::new();
     for yards in yards.chunks(MOST_LISTED) {
         let mut yards = yards.to_vec();

@@ -5,7 +5,7 @@ use std::fmt::Write;
 
 use compare::road::{self, Road, RoadBook};
 
-use super::answer::{aggregate, seconds, Answer, Seconds};
+use super::answer::{aggregate, Answer, Seconds};
 use super::district::{counted, District};
 use super::fault::{Fault, SPENT};
 use super::list::counts;
@@ -49,7 +49,7 @@ type Ways = BTreeMap<(u16, u16), Vec<usize>>;
 /// The district as an undirected graph.
 pub fn draw(district: &District) -> Result<Output, Fault> {
     let answer = Answer::new(district)?;
-    let seconds = seconds(district, &answer.books.road, &district.yards)?;
+    let seconds = answer.seconds(district, &district.yards)?;
     let trace = Trace::new(&answer)?;
     let ways = ways(district, &answer, &seconds)?;
     let drawing = Drawing {

@@ -104,10 +104,11 @@ impl Junctions {
 
     /// The junction with this label, if the district has it.
     pub fn find(&self, label: &str) -> Option<u16> {
-        match self.names.is_empty() {
-            true => label.parse().ok().filter(|&number| number < self.count()),
-            false => self.numbers.get(label).copied(),
+        if !self.names.is_empty() {
+            return self.numbers.get(label).copied();
         }
+        let number = is_number(label).then(|| label.parse().ok()).flatten();
+        number.filter(|&number| number < self.count())
     }
 
     /// That some junctions can't be reached: the first that a line names is told, or else the first.

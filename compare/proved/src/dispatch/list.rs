@@ -29,7 +29,8 @@ pub fn counts(district: &District, answer: &Answer) -> String {
 
 /// A row for each listed yard: place, yard, seconds, and the seconds of each crew from where it stands.
 fn rows(district: &District, answer: &Answer) -> Result<String, Fault> {
-    let seconds = answer.listed_seconds(district)?;
+    let yards: Vec<u16> = answer.searched.list.iter().map(|&(yard, _)| yard).collect();
+    let seconds = answer.seconds(district, &yards)?;
     let from = |label: String| format!("from {label}");
     let mut rows = vec![["place", "yard", "seconds"].map(String::from).to_vec()];
     rows[0].extend(district.labels(&district.crews).into_iter().map(from));

@@ -81,22 +81,17 @@ impl Trace {
 
     /// List and counts are those of the proved call; a settled list is brute force's too.
     fn is_proved(&self, answer: &Answer) -> Result<(), Fault> {
-        let proved = &answer.searched;
-        let same = found(&self.outcome) == proved.found;
-        let listed: Vec<(u64, u16)> = proved
-            .list
-            .iter()
-            .map(|&(yard, seconds)| (u64::from(seconds), yard))
-            .collect();
-        if !same
-            || self.outcome.settled
-                && (self.outcome.state.held != listed || self.brute(&answer.books)? != listed)
-        {
-            return Err(Fault::failed(
-                "the plain finder's answer differs from the proved call's",
-            ));
+        let list = answer.searched.list.iter();
+        let list: Vec<(u64, u16)> = list.map(|&(yard, d)| (u64::from(d), yard)).collect();
+        let counts = found(&self.outcome) == answer.searched.found;
+        let settled = self.outcome.settled;
+        let plain = !settled || self.outcome.state.held == list;
+        let brute = !settled || self.brute(&answer.books)? == list;
+        match (counts && plain, brute) {
+            (true, true) => Ok(()),
+            (false, _) => Err(differs("the plain finder's")),
+            (true, false) => Err(differs("brute force's")),
         }
-        Ok(())
     }
 
     /// Brute force's list.
@@ -135,6 +130,11 @@ impl Trace {
         };
         queue.iter().map(left).collect()
     }
+}
+
+/// Another answer than the proved one.
+fn differs(whose: &str) -> Fault {
+    Fault::failed(format!("{whose} answer differs from the proved call's"))
 }
 
 /// The step between two states: the first of the queue left it.

@@ -2,7 +2,7 @@
 
 use compare::search::state::Item;
 
-use super::answer::{aggregate, seconds, Answer, Seconds};
+use super::answer::{aggregate, Answer, Seconds};
 use super::district::{counted, District};
 use super::fault::{Fault, SPENT};
 use super::lines::shown;
@@ -25,7 +25,7 @@ pub fn why(district: &District, yard: Option<&str>) -> Result<Output, Fault> {
     let answer = Answer::new(district)?;
     let story = Story {
         district,
-        seconds: seconds(district, &answer.books.road, &district.yards)?,
+        seconds: answer.seconds(district, &district.yards)?,
         trace: Trace::new(&answer)?,
         answer,
     };
