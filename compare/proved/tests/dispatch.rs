@@ -437,57 +437,55 @@ fn brute_rows(road_book: &[u8], yard_book: &[u8], query: &Query) -> Vec<Vec<u64>
     listed.map(row).collect()
 }
 
+/// Texts that are not as they have to be, and how their faults begin after the file's name.
+const BAD: [(&str, &str); 6] = [
+    (
+        "road 0 1 5\nroad 1 2 0",
+        ":2: expected seconds from 1 to 65535, not `0`\n",
+    ),
+    (
+        "road 0 1 5\n\nroad 1 0 7",
+        ":3: expected each road once: line 1 has `1` and `0` too\n",
+    ),
+    ("", ":1: expected a road, a yard or a crew"),
+    (
+        "yard 7\ncrew 0\nroad 0 1 5",
+        ": refused 6: road book: junction `7` (line 1) can't be reached from junction `0`\n",
+    ),
+    (
+        "road 0 1 5\nroad 1 3 5\nyard 3\ncrew 0",
+        ": refused 6: road book: junction `2`, which no line names, can't be reached",
+    ),
+    (
+        "road depot bridge 120\nyard brigde\ncrew depot",
+        ": refused 6: road book: junction `brigde` (line 2) can't be reached from junction `depot`\n",
+    ),
+];
+
 #[test]
 fn bad_text_is_told_with_its_line_and_nothing_is_written() {
     let folder = folder("bad");
-    let file = folder.join("bad.district");
-    let cases = [
-        (
-            "road 0 1 5\nroad 1 2 0",
-            ":2: expected seconds from 1 to 65535, not `0`",
-        ),
-        (
-            "road 0 1 5\n\nroad 1 0 7",
-            ":3: expected each road once: line 1 has `1` and `0` too",
-        ),
-        ("", ":1: expected a road, a yard or a crew"),
-        (
-            "yard 7\ncrew 0\nroad 0 1 5",
-            ": refused 6: road book: junction `7` (line 1) can't be reached from junction `0`\n",
-        ),
-        (
-            "road 0 1 5\nroad 1 3 5\nyard 3\ncrew 0",
-            ": refused 6: road book: junction `2`, which no line names, can't be reached",
-        ),
-        (
-            "road depot bridge 120\nyard brigde\ncrew depot",
-            ": refused 6: road book: junction `brigde` (line 2) can't be reached from junction `depot`",
-        ),
-    ];
-    for (text, message) in cases {
+    let (file, out) = (folder.join("bad.district"), folder.join("out"));
+    for (text, message) in BAD {
         fs::write(&file, text).unwrap();
-        for arguments in [
-            &["list", told(&file)][..],
-            &["why", told(&file)],
-            &["draw", told(&file)],
-        ] {
-            let fault = refused(arguments, 2);
-            assert!(
-                fault.starts_with(&format!("dispatch: {}{message}", told(&file))),
-                "{fault}"
-            );
+        for command in ["list", "why", "draw"] {
+            let fault = refused(&[command, told(&file)], 2);
+            let start = format!("dispatch: {}{message}", told(&file));
+            assert!(fault.starts_with(&start), "{fault}");
         }
-        let out = folder.join("out");
         refused(&["books", told(&file), told(&out)], 2);
         assert!(!out.exists());
     }
+}
+
+#[test]
+fn a_search_wants_a_yard_and_a_crew() {
+    let file = folder("wants").join("half.district");
     for (text, missing) in [("yard 0", "crew"), ("crew 0", "yard")] {
         fs::write(&file, text).unwrap();
         let fault = refused(&["list", told(&file)], 2);
-        assert!(
-            fault.contains(&format!("expected a `{missing}` line")),
-            "{fault}"
-        );
+        let message = format!("expected a `{missing}` line");
+        assert!(fault.contains(&message), "{fault}");
     }
 }
 
