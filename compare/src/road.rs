@@ -33,18 +33,23 @@ pub struct RoadBook {
 ///
 /// The road book's own tests, in order.
 pub fn read(book: &[u8]) -> Result<RoadBook, u32> {
+    let book = read_layout(book)?;
+    refuse_unless(book.unreached().is_empty(), UNREACHED)?;
+    Ok(book)
+}
+
+/// Tests 1 to 5: the book may have junctions that can't be reached.
+pub fn read_layout(book: &[u8]) -> Result<RoadBook, u32> {
     let fields = open(book)?;
     let (junctions, count) = header(fields)?;
     let roads = records(&fields[4..], count)?;
     values(junctions, &roads)?;
     let neighbours = neighbours(junctions, &roads);
-    let book = RoadBook {
+    Ok(RoadBook {
         junctions,
         roads,
         neighbours,
-    };
-    reached(&book)?;
-    Ok(book)
+    })
 }
 
 /// Test 3: "junctions u16 (1 to 1,024), roads u16 (0 to 4,096)".
@@ -87,13 +92,14 @@ fn neighbours(junctions: u16, roads: &[Road]) -> Vec<Vec<(u16, u16)>> {
     neighbours
 }
 
-/// Test 6: "Some junction can't be reached from junction 0."
-fn reached(book: &RoadBook) -> Result<(), u32> {
-    let distances = book.least_distances(0);
-    refuse_unless(distances.iter().all(|&d| d != NO_WALK), UNREACHED)
-}
-
 impl RoadBook {
+    /// Test 6: "Some junction can't be reached from junction 0": all such junctions.
+    pub fn unreached(&self) -> Vec<u16> {
+        let distances = self.least_distances(0);
+        let far = |junction: &u16| distances[usize::from(*junction)] == NO_WALK;
+        (0..self.junctions).filter(far).collect()
+    }
+
     /// "Distance d(u, v) is the least total of seconds over all walks from u to v, 0 from u to u."
     ///
     /// From one junction to all, by Dijkstra.

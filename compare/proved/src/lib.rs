@@ -1,6 +1,7 @@
 //! The proved finder's calls, as `include/finder.h` declares them, on slices.
 
 pub mod alike;
+pub mod dispatch;
 pub mod lent;
 pub mod turns;
 

@@ -81,9 +81,15 @@ pub fn tested(
 
 /// "It is spent exactly if the limit's number of steps was taken and it isn't settled."
 pub fn run(search: &Search) -> Outcome {
+    run_seen(search, |_| ())
+}
+
+/// The same run, with each state shown before its step is taken.
+pub fn run_seen(search: &Search, mut see: impl FnMut(&State)) -> Outcome {
     let mut state = State::start(search);
     let mut taken = 0;
     while !state.settled(search) && taken < search.query.limit {
+        see(&state);
         state = state::step(search, state);
         taken += 1;
     }
@@ -104,7 +110,7 @@ fn refused(refusal: u32) -> Found {
 }
 
 /// "Both return taken and measured, and settled also the number of yards listed."
-fn found(outcome: &Outcome) -> Found {
+pub fn found(outcome: &Outcome) -> Found {
     let listed = match outcome.settled {
         true => outcome.state.held.len() as u32,
         false => 0,

@@ -118,11 +118,15 @@ fn first_taken(search: &Search, key: u64, number: usize) -> Leaf {
 
 /// "A yard is measured by true distances; the k least so far in yard order are held."
 fn take_yard(search: &Search, state: &mut State, yard: u16) {
-    let to_yard = |row: &Vec<u32>| u64::from(row[usize::from(yard)]);
-    let distances = search.crew_distances.iter().map(to_yard);
-    let distance = search.query.aggregate.over(distances);
     state.measured.push(yard);
-    state.held.push((distance, yard));
+    state.held.push((true_distance(search, yard), yard));
     state.held.sort_unstable();
     state.held.truncate(search.query.k);
+}
+
+/// The aggregate of a yard's true distances to the crews.
+pub fn true_distance(search: &Search, yard: u16) -> u64 {
+    let to_yard = |row: &Vec<u32>| u64::from(row[usize::from(yard)]);
+    let distances = search.crew_distances.iter().map(to_yard);
+    search.query.aggregate.over(distances)
 }

@@ -1,0 +1,141 @@
+//! The junctions of a file: written as numbers, or as names that are numbered in order of first appearance.
+
+use std::collections::{BTreeMap, HashMap};
+
+use compare::road::MOST_JUNCTIONS;
+
+use super::lines::{shown, BadLine, Line};
+use super::number::{is_number, Kind};
+
+/// The most characters of a name.
+const MOST_NAME: usize = 64;
+
+/// A junction written as its number.
+const JUNCTION: Kind = Kind {
+    name: "a junction",
+    range: 0..=MOST_JUNCTIONS as u32 - 1,
+};
+
+/// How a file writes its junctions.
+#[derive(Clone, Copy, Debug, PartialEq, Eq)]
+enum Manner {
+    Numbers,
+    Names,
+}
+
+/// The junctions seen so far.
+#[derive(Clone, Debug, Default)]
+pub struct Junctions {
+    manner: Option<(Manner, usize)>,
+    names: Vec<String>,
+    numbers: HashMap<String, u16>,
+    lines: BTreeMap<u16, usize>,
+    least: u16,
+}
+
+impl Junctions {
+    /// The junction that a word writes.
+    pub fn read(&mut self, word: &str, line: &Line) -> Result<u16, BadLine> {
+        let junction = if is_number(word) {
+            self.keep(Manner::Numbers, line)?;
+            JUNCTION.read(word, line)? as u16
+        } else {
+            test_name(word, line)?;
+            self.keep(Manner::Names, line)?;
+            self.named(word, line)?
+        };
+        self.lines.entry(junction).or_insert(line.number);
+        Ok(junction)
+    }
+
+    /// A line says that there are at least so many; only numbered junctions are counted so.
+    pub fn at_least(&mut self, count: u16, line: &Line) -> Result<(), BadLine> {
+        self.keep(Manner::Numbers, line)?;
+        self.least = count;
+        Ok(())
+    }
+
+    /// A file numbers its junctions or names them, and does not mix the two.
+    fn keep(&mut self, manner: Manner, line: &Line) -> Result<(), BadLine> {
+        let (first, at) = *self.manner.get_or_insert((manner, line.number));
+        let wanted = match first {
+            _ if first == manner => return Ok(()),
+            Manner::Numbers => "numbers",
+            Manner::Names => "names",
+        };
+        let message = format!("expected junctions as {wanted}, as in line {at}: a file does not mix names and numbers");
+        Err(line.bad(message))
+    }
+
+    /// The number of a name; a new name gets the next number.
+    fn named(&mut self, name: &str, line: &Line) -> Result<u16, BadLine> {
+        if let Some(&junction) = self.numbers.get(name) {
+            return Ok(junction);
+        }
+        let junction = self.names.len() as u16;
+        if junction == MOST_JUNCTIONS {
+            let name = shown(name);
+            return Err(line.bad(format!(
+                "expected at most {MOST_JUNCTIONS} junctions: {name} is one more"
+            )));
+        }
+        self.names.push(name.to_string());
+        self.numbers.insert(name.to_string(), junction);
+        Ok(junction)
+    }
+
+    /// How many there are: one more than the greatest number, or what a line says if that is more.
+    pub fn count(&self) -> u16 {
+        let used = self.lines.last_key_value();
+        used.map_or(0, |(&greatest, _)| greatest + 1)
+            .max(self.least)
+    }
+
+    /// The names by number; none in a file of numbers.
+    pub fn names(&self) -> &[String] {
+        &self.names
+    }
+
+    /// What a junction is called: its name, or its number.
+    pub fn label(&self, junction: u16) -> String {
+        let name = self.names.get(usize::from(junction));
+        name.cloned().unwrap_or_else(|| junction.to_string())
+    }
+
+    /// The junction with this label, if the district has it.
+    pub fn find(&self, label: &str) -> Option<u16> {
+        if !self.names.is_empty() {
+            return self.numbers.get(label).copied();
+        }
+        let number = is_number(label).then(|| label.parse().ok()).flatten();
+        number.filter(|&number| number < self.count())
+    }
+
+    /// That some junctions can't be reached: the first that a line names is told, or else the first.
+    pub fn cut_off(&self, unreached: &[u16]) -> String {
+        let named = unreached
+            .iter()
+            .find(|junction| self.lines.contains_key(junction));
+        let junction = *named.unwrap_or(&unreached[0]);
+        let label = |junction| shown(&self.label(junction));
+        let place = match self.lines.get(&junction) {
+            Some(line) => format!(" (line {line})"),
+            None => ", which no line names,".to_string(),
+        };
+        let (cut_off, first) = (label(junction), label(0));
+        format!("junction {cut_off}{place} can't be reached from junction {first}")
+    }
+}
+
+/// What a junction is written as.
+const FORM: &str = "a number, or a letter and then letters, digits, - _ . ' (at most 64)";
+
+/// A name begins with a letter, and has letters, digits and `-`, `_`, `.`, `'`.
+fn test_name(word: &str, line: &Line) -> Result<(), BadLine> {
+    let fits = |c: char| c.is_alphanumeric() || "-_.'".contains(c);
+    let begins = word.starts_with(char::is_alphabetic);
+    if begins && word.chars().all(fits) && word.chars().count() <= MOST_NAME {
+        return Ok(());
+    }
+    Err(line.bad(format!("expected a junction: {FORM}, not {}", shown(word))))
+}

@@ -1,0 +1,239 @@
+//! What `dispatch why` prints: each step, what was never measured, and who beat the yards that were left out.
+
+use compare::search::state::Item;
+
+use super::answer::{aggregate, Answer, Seconds};
+use super::district::{counted, District};
+use super::fault::{Fault, SPENT};
+use super::lines::shown;
+use super::list::counts;
+use super::output::Output;
+use super::table::{table, Side};
+use super::trace::{Measured, Step, Trace};
+
+/// All that the story is told from.
+struct Story<'a> {
+    district: &'a District,
+    answer: Answer,
+    trace: Trace,
+    seconds: Seconds,
+}
+
+/// Every step, and the story of one yard or of all that were left out.
+pub fn why(district: &District, yard: Option<&str>) -> Result<Output, Fault> {
+    let asked_of = yard.map(|label| yard_of(district, label)).transpose()?;
+    let answer = Answer::new(district)?;
+    let story = Story {
+        district,
+        seconds: answer.seconds(district, &district.yards)?,
+        trace: Trace::new(&answer)?,
+        answer,
+    };
+    let parts = [
+        district.asked(),
+        story.steps(),
+        story.end(),
+        story.never_measured(),
+        story.yards(asked_of),
+    ];
+    let status = if story.trace.outcome.settled {
+        0
+    } else {
+        SPENT
+    };
+    Ok(Output::text(parts.join("\n")).with_status(status))
+}
+
+/// The yard with this label.
+fn yard_of(district: &District, label: &str) -> Result<u16, Fault> {
+    let found = district
+        .junctions
+        .find(label)
+        .filter(|junction| district.yards.contains(junction));
+    found.ok_or_else(|| {
+        Fault::bad_input(format!("expected a yard of the file, not {}", shown(label)))
+    })
+}
+
+impl Story<'_> {
+    /// A row for each step.
+    fn steps(&self) -> String {
+        let heading = [
+            "step",
+            "key",
+            "what left the queue, and what it queued (with its key)",
+        ];
+        let mut rows = vec![heading.map(String::from).to_vec()];
+        for (place, step) in self.trace.steps.iter().enumerate() {
+            let what = match &step.measured {
+                Some(measured) => self.measuring(step.item, measured),
+                None => self.opening(step),
+            };
+            rows.push(vec![(place + 1).to_string(), step.key.to_string(), what]);
+        }
+        table(&[Side::Right, Side::Right, Side::Left], &rows)
+    }
+
+    /// A region that left the queue, and what it queued.
+    fn opening(&self, step: &Step) -> String {
+        let told = |&(key, item): &(u64, Item)| format!("{} ({key})", self.item(item));
+        let queued: Vec<String> = step.queued.iter().map(told).collect();
+        format!("{}: queues {}", self.region(step.item), queued.join(", "))
+    }
+
+    /// A yard that left the queue: its seconds, its place so far, and the yard that it put off the list.
+    fn measuring(&self, item: Item, measured: &Measured) -> String {
+        let standing = match measured.place {
+            Some(place) => format!("place {} so far", place + 1),
+            None => format!("not among the first {}", self.district.settings.first),
+        };
+        let off = measured
+            .put_off
+            .map(|yard| format!(", {} falls off", self.yard(yard)));
+        let (seconds, off) = (measured.seconds, off.unwrap_or_default());
+        format!(
+            "{}: measured, {seconds} seconds, {standing}{off}",
+            self.item(item)
+        )
+    }
+
+    /// Why the search ended.
+    fn end(&self) -> String {
+        let outcome = &self.trace.outcome;
+        let limit = counted(self.district.settings.limit as usize, "step");
+        let why = match outcome.state.held.last() {
+            _ if !outcome.settled => format!("spent: no list, the limit is {limit}"),
+            Some((seconds, yard)) if !outcome.state.queue.is_empty() => {
+                let last = self.yard(*yard);
+                format!("settled: every key left is above {seconds}, the seconds of {last}")
+            }
+            _ => "settled: the queue is empty".to_string(),
+        };
+        format!("{why}; {}\n", counts(self.district, &self.answer))
+    }
+
+    /// What was left in the queue: the yards, and the least seconds that they can take.
+    fn never_measured(&self) -> String {
+        let mut text = String::new();
+        for (key, item, yards) in self.trace.never_measured() {
+            let by = match item {
+                Item::Yard(_) => "its own key".to_string(),
+                Item::Region(_) => format!("the key of {}", self.region(item)),
+            };
+            text.push_str(&format!(
+                "  {}: at least {key} seconds, {by}\n",
+                self.yards_named(&yards)
+            ));
+        }
+        match text.is_empty() {
+            true => "every yard was measured\n".to_string(),
+            false => format!("never measured:\n{text}"),
+        }
+    }
+
+    /// The story of one yard, or of all yards that were left out.
+    fn yards(&self, asked_of: Option<u16>) -> String {
+        if let Some(yard) = asked_of {
+            return self.one_yard(yard);
+        }
+        let listed = |yard: &u16| self.answer.searched.place(*yard).is_some();
+        let left_out = self
+            .district
+            .yards
+            .iter()
+            .copied()
+            .filter(|yard| !listed(yard));
+        let lines: String = left_out
+            .filter_map(|yard| self.beaten(yard))
+            .map(|line| format!("  {line}\n"))
+            .collect();
+        match lines.is_empty() {
+            true if self.trace.outcome.settled => "every yard is on the list\n".to_string(),
+            true => "spent: no yard is on a list\n".to_string(),
+            false => format!("left out:\n{lines}"),
+        }
+    }
+
+    /// Where a yard stands on the list or who beat it, and when it was measured.
+    fn one_yard(&self, yard: u16) -> String {
+        let standing = match self.answer.searched.place(yard) {
+            Some(place) => format!("{}: place {place}", self.drives(yard)),
+            None => self
+                .beaten(yard)
+                .unwrap_or_else(|| format!("{}: no list", self.drives(yard))),
+        };
+        let measured = match self.trace.measured_in(yard) {
+            Some(step) => format!("measured in step {step}"),
+            None => "never measured".to_string(),
+        };
+        format!("{standing}; {measured}\n")
+    }
+
+    /// Who beat a yard that was left out, and by how much; nobody if there is no list.
+    fn beaten(&self, yard: u16) -> Option<String> {
+        let &(by, best) = self.answer.searched.list.last()?;
+        let behind = aggregate(self.district, &self.seconds[&yard]) - u64::from(best);
+        let ahead = match behind {
+            0 => format!("the same {best} and the lower number"),
+            _ => format!("{best}, {behind} less"),
+        };
+        Some(format!(
+            "{}: beaten by {} with {ahead}",
+            self.drives(yard),
+            self.yard(by)
+        ))
+    }
+
+    /// A yard with its seconds and each crew's.
+    fn drives(&self, yard: u16) -> String {
+        let seconds = &self.seconds[&yard];
+        let crews = self.district.labels(&self.district.crews);
+        let each = crews
+            .iter()
+            .zip(seconds)
+            .map(|(crew, seconds)| format!("{seconds} from {crew}"));
+        let each: Vec<String> = each.collect();
+        let total = aggregate(self.district, seconds);
+        format!("{}, {total} seconds ({})", self.yard(yard), each.join(", "))
+    }
+
+    /// An item in a few words.
+    fn item(&self, item: Item) -> String {
+        match item {
+            Item::Region(number) => format!("region {number}"),
+            Item::Yard(yard) => self.yard(yard),
+        }
+    }
+
+    /// A region with its junctions and yards.
+    fn region(&self, item: Item) -> String {
+        let Item::Region(number) = item else {
+            return self.item(item);
+        };
+        let region = &self.trace.search.tree.regions[number];
+        let label = |junction| self.district.junctions.label(junction);
+        let junctions = match region.after - region.first {
+            1 => format!("junction {}", label(region.first)),
+            _ => format!(
+                "junctions {} to {}",
+                label(region.first),
+                label(region.after - 1)
+            ),
+        };
+        format!(
+            "region {number} ({junctions}, {})",
+            counted(usize::from(region.yards), "yard")
+        )
+    }
+
+    /// A yard by its label.
+    fn yard(&self, yard: u16) -> String {
+        format!("yard {}", self.district.junctions.label(yard))
+    }
+
+    /// Some yards by their labels.
+    fn yards_named(&self, yards: &[u16]) -> String {
+        let noun = if yards.len() == 1 { "yard" } else { "yards" };
+        format!("{noun} {}", self.district.labels(yards).join(", "))
+    }
+}

@@ -1,0 +1,123 @@
+//! Books of a district, and back to text.
+
+use std::fs;
+use std::path::Path;
+
+use compare::road;
+
+use crate::command::{example, examples, expected, folder, grid, printed, refused, told, BOOKS};
+
+/// Makes a file's books and turns them into text; that text has to give the same road, yard and tree books.
+fn round_trip(file: &Path, name: &str) -> String {
+    let (first, second) = (
+        folder(&format!("{name}-first")),
+        folder(&format!("{name}-second")),
+    );
+    printed(&["books", told(file), told(&first)], 0);
+    let text = printed(
+        &[
+            "text",
+            told(&first.join("road.book")),
+            told(&first.join("yard.book")),
+        ],
+        0,
+    );
+    let again = second.join("again.district");
+    fs::write(&again, &text).unwrap();
+    printed(&["books", told(&again), told(&second)], 0);
+    for book in ["road.book", "yard.book"] {
+        assert_eq!(
+            fs::read(first.join(book)).unwrap(),
+            fs::read(second.join(book)).unwrap(),
+            "{file:?} {book}"
+        );
+    }
+    assert!(second.join("tree.book").is_file() && !second.join("query.book").exists());
+    text
+}
+
+#[test]
+fn books_and_back() {
+    for file in examples()
+        .iter()
+        .filter(|file| expected(file, "refused").is_none())
+    {
+        round_trip(file, told(Path::new(file.file_stem().unwrap())));
+    }
+    let file = folder("grid").join("grid.district");
+    fs::write(&file, grid("grid-standard")).unwrap();
+    assert_eq!(
+        round_trip(&file, "grid-books").lines().count(),
+        2 + 1_984 + 256
+    );
+}
+
+#[test]
+fn roads_alone() {
+    let folder = folder("roads-alone");
+    fs::write(folder.join("one"), road::write(1, &[])).unwrap();
+    let text = printed(&["text", told(&folder.join("one"))], 0);
+    assert_eq!(text, "# 0 roads\njunctions 1\n");
+    let file = folder.join("one.district");
+    fs::write(&file, text).unwrap();
+    assert_eq!(
+        printed(&["books", told(&file), told(&folder)], 0),
+        "road.book  9 bytes  1 junction, 0 roads\n"
+    );
+    assert_eq!(
+        fs::read(folder.join("road.book")).unwrap(),
+        road::write(1, &[])
+    );
+    assert!(!folder.join("yard.book").exists());
+}
+
+#[test]
+fn books_of_net_n() {
+    let folder = folder("net-n").join("made/by/the/command");
+    let text = printed(&["books", told(&example("net-n")), told(&folder)], 0);
+    let wanted = "road.book   33 bytes  5 junctions, 4 roads
+yard.book   13 bytes  3 yards
+tree.book   39 bytes  1 region, 1 landmark each, leaves of at most 3
+query.book  16 bytes  sum over 2 crews, first 2 of 3 yards, at most 4 steps
+";
+    assert_eq!(text, wanted);
+    let tree = fs::read(folder.join("tree.book")).unwrap();
+    let hexadecimal: String = tree.iter().map(|byte| format!("{byte:02x}")).collect();
+    let papers = "00000023 01 0005 0001 0003 01 0000 0005 00 0003 0000 00000002 0001 00000009 0003 0000000a 0004";
+    assert_eq!(hexadecimal, papers.replace(' ', ""));
+    let query = [0, 0, 0, 12, 1, 0, 2, 0, 0, 0, 4, 2, 0, 0, 0, 2];
+    assert_eq!(fs::read(folder.join("query.book")).unwrap(), query);
+    let left: Vec<_> = fs::read_dir(&folder).unwrap().collect();
+    assert_eq!(left.len(), BOOKS.len());
+}
+
+#[test]
+fn names_are_told_with_their_numbers() {
+    let text = printed(
+        &[
+            "books",
+            told(&example("two-crews")),
+            told(&folder("two-crews")),
+        ],
+        0,
+    );
+    assert!(
+        text.ends_with("\njunctions by number:\n0 depot\n1 mill\n2 quarry\n"),
+        "{text}"
+    );
+}
+
+#[test]
+fn books_of_another_district_are_not_mixed_in() {
+    let folder = folder("stale");
+    printed(&["books", told(&example("net-n")), told(&folder)], 0);
+    let before = fs::read(folder.join("road.book")).unwrap();
+    let file = folder.join("roads.district");
+    fs::write(&file, "road 0 1 5").unwrap();
+    let fault = refused(&["books", told(&file), told(&folder)], 2);
+    assert!(
+        fault.contains("yard.book, which the district does not give"),
+        "{fault}"
+    );
+    assert_eq!(fs::read(folder.join("road.book")).unwrap(), before);
+}

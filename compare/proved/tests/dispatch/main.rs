@@ -1,0 +1,10 @@
+//! The command `dispatch`: a person's own district.
+
+mod command;
+
+mod books;
+mod brute_force;
+mod drawing;
+mod explaining;
+mod faults;
+mod page;
