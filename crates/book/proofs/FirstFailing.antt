@@ -74,13 +74,10 @@ first-split (t ∷ ts) us n (inr x) = go (first-split ts us n (x .1))
     go (inl f) = inl (inr (x .0, f))
     go (inr f) = inr (inr (x .0, f .0), f .1)
 
-pub first-early : (ts us : List Test) (n : ℕ) → T (lacks 0 ts) → 1 ≤ n → FirstFailing ts n → FirstFailing (ts ++ us) n
-first-early ts us n l h f = rw (first-earlier n 0 h) at (first-join ts us n 0 l f (λ e. absurd (omega arith)))
-
 pub first-late : (ts us : List Test) (n : ℕ) → T (lacks 0 ts) → FirstFailing ts 0 → FirstFailing us n → FirstFailing (ts ++ us) n
 first-late ts us n l f g = rw (first-later 0 n refl) at (first-join ts us 0 n l f (λ e. g))
 
--- none of two lists fails
+-- no test of two lists fails
 pub first-none-split : (ts us : List Test) → T (lacks 0 ts) → FirstFailing (ts ++ us) 0 → FirstFailing ts 0 × FirstFailing us 0
 unfolding FirstFailing
 first-none-split [] us l f = (refl, f)

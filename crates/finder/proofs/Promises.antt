@@ -2,7 +2,7 @@
 use mathlib.Core.Path.{_≡_, refl, _∙_}
 use mathlib.Core.Logic.{_↔_}
 use mathlib.Core.List.{List, [], _∷_, _++_}
-use Prim.Native.Nat.{ℕ, _≤_, _<_}
+use Prim.Native.Nat.{ℕ, _≤_}
 use native.Mathlib.Omega.{arith}
 use lib.ListN.{length}
 use lib.Dec.{T}
@@ -13,10 +13,9 @@ use Rattle.work_area.proofs.Zeroing.{accepted-zeroed, refused-kept}
 use Rattle.road_layout.specs.Road.{junctions}
 use Rattle.road_layout.specs.Facts.{RoadLayout}
 use Rattle.road_layout.specs.Tests.{roadLayoutTests}
-use Rattle.adjacency.specs.Arcs.{net}
-use Rattle.road.specs.Facts.{Joined, Passing}
+use Rattle.road.specs.Facts.{Passing}
 use Rattle.road.specs.Refusal.{roadRefusal}
-use Rattle.road.specs.Tests.{roadTests, CutOff}
+use Rattle.road.specs.Tests.{roadTests, Connected, CutOff}
 use Rattle.road.proofs.Theorems.{passing-exact, road-tests, cut-off-exact}
 use Rattle.yard.specs.Yards.{yardRefusalIn}
 use Rattle.yard.specs.Tests.{yardTestsIn}
@@ -76,21 +75,18 @@ module _ (road : List ℕ) where
       → (answer ≡ 6) ↔ (RoadLayout road × CutOff road)
   six-exact later answer f l =
       let x = first-exact (roadTests road ++ later) answer f 6 in
-      let y = first-at (roadLayoutTests road) later 6 connected (omega arith) tt tt l in
-      let z = first-at (roadLayoutTests road) [] 6 connected (omega arith) tt tt tt in
+      let y = first-at (roadLayoutTests road) later 6 (Connected road) (omega arith) tt tt l in
+      let z = first-at (roadLayoutTests road) [] 6 (Connected road) (omega arith) tt tt tt in
       let r = first-exact (roadTests road) (roadRefusal road) (road-tests road) 6 in
       let c = cut-off-exact road in
       ((λ e. c .0 (r .1 (z .1 (y .0 (x .0 e))))), (λ h. x .1 (y .1 (z .0 (r .0 (c .1 h))))))
-    where
-      abbrev connected : Type 0
-      connected = (v : ℕ) → v < junctions road → Joined (net road) 0 v
 
 books-none : (road yard : List ℕ) → FirstFailing (roadTests road ++ yardTestsIn yard (junctions road)) 0 ↔ SoundBooks road yard
 books-none road yard =
     let n = junctions road in
     let y = first-exact (yardTestsIn yard n) (yardRefusalIn yard n) (yard-tests-in yard n) 0 in (
       (λ f. let x = first-none-split (roadTests road) (yardTestsIn yard n) tt f in
-      books-sound road yard (passing-exact road .1 (roads-none road .0 (x .0))) (y .1 (x .1))),
+          books-sound road yard (passing-exact road .1 (roads-none road .0 (x .0))) (y .1 (x .1))),
       (λ s. first-late (roadTests road) (yardTestsIn yard n) 0 tt (roads-none road .1 (s .roads)) (y .0 (sound-yards road yard s))),
     )
 
@@ -104,8 +100,8 @@ seven-exact tree earlier later answer sound f z zt st sl =
     let x = first-exact (before ++ (test 7 (TreeShape (decode tree)) ∷ later)) answer f 7 in
     let y = first-at before later 7 (TreeShape (decode tree)) (omega arith) zt st sl in (
       (λ e. let w = y .0 (x .0 e) in
-      let v = first-none-split earlier (treeLayoutTests tree) z (w .0) in
-      (sound .0 (v .0), layout-none tree .0 (v .1), w .1)),
+          let v = first-none-split earlier (treeLayoutTests tree) z (w .0) in
+          (sound .0 (v .0), layout-none tree .0 (v .1), w .1)),
       (λ w. x .1 (y .1 (first-late earlier (treeLayoutTests tree) 0 z (sound .1 (w .0)) (layout-none tree .1 (w .1)), w .2))),
     )
 
