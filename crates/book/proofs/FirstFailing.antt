@@ -1,6 +1,6 @@
 -- The number of the first test that fails: of computed tests, of two lists, and of one test among others. Assumes nothing.
 use mathlib.Core.Path.{_≡_, refl, sym, _∙_}
-use mathlib.Core.Logic.{_↔_, _⊎_, inl, inr}
+use mathlib.Core.Logic.{_↔_, _≢_, _⊎_, inl, inr}
 use mathlib.Core.Bool.{Bool, true, not, _&&_}
 use mathlib.Core.List.{List, [], _∷_, _++_}
 use Prim.Native.Nat.{ℕ, _+_, _≤_}
@@ -55,13 +55,18 @@ abbrev pub lacks : ℕ → List Test → Bool
 lacks n [] = true
 lacks n (t ∷ ts) = not (eqb n (t .number)) && lacks n ts
 
+module _ (n : ℕ) (t : Test) (ts : List Test) (l : T (lacks n (t ∷ ts))) where
+  other : n ≢ t .number
+  other = neqb→ne n (t .number) (and-left (not (eqb n (t .number))) (lacks n ts) l)
+
+  others : T (lacks n ts)
+  others = and-right (not (eqb n (t .number))) (lacks n ts) l
+
 pub first-join : (ts us : List Test) (a b : ℕ) → T (lacks 0 ts) → FirstFailing ts a → (a ≡ 0 → FirstFailing us b) → FirstFailing (ts ++ us) (firstOf a b)
 unfolding FirstFailing
 first-join [] us a b l f rest = rw (first-later a b f) (rest f)
-first-join (t ∷ ts) us a b l (inl x) rest =
-    let z = neqb→ne 0 (t .number) (and-left (not (eqb 0 (t .number))) (lacks 0 ts) l) in
-    inl (x .0, first-earlier a b (omega (arith, x .1)) ∙ x .1)
-first-join (t ∷ ts) us a b l (inr x) rest = inr (x .0, first-join ts us a b (and-right (not (eqb 0 (t .number))) (lacks 0 ts) l) (x .1) rest)
+first-join (t ∷ ts) us a b l (inl x) rest = inl (x .0, first-earlier a b (omega (arith, x .1, other 0 t ts l)) ∙ x .1)
+first-join (t ∷ ts) us a b l (inr x) rest = inr (x .0, first-join ts us a b (others 0 t ts l) (x .1) rest)
 
 -- and back: the earlier list gives the number, or all of its facts hold and the later list gives it
 pub first-split : (ts us : List Test) (n : ℕ) → FirstFailing (ts ++ us) n → FirstFailing ts n ⊎ (FirstFailing ts 0 × FirstFailing us n)
@@ -81,25 +86,23 @@ first-late ts us n l f g = rw (first-later 0 n refl) at (first-join ts us 0 n l 
 pub first-none-split : (ts us : List Test) → T (lacks 0 ts) → FirstFailing (ts ++ us) 0 → FirstFailing ts 0 × FirstFailing us 0
 unfolding FirstFailing
 first-none-split [] us l f = (refl, f)
-first-none-split (t ∷ ts) us l (inl x) =
-    absurd (neqb→ne 0 (t .number) (and-left (not (eqb 0 (t .number))) (lacks 0 ts) l) (x .1))
-first-none-split (t ∷ ts) us l (inr x) =
-    let y = first-none-split ts us (and-right (not (eqb 0 (t .number))) (lacks 0 ts) l) (x .1) in
-    (inr (x .0, y .0), y .1)
+first-none-split (t ∷ ts) us l (inl x) = absurd (other 0 t ts l (x .1))
+first-none-split (t ∷ ts) us l (inr x) = let y = first-none-split ts us (others 0 t ts l) (x .1) in (inr (x .0, y .0), y .1)
 
 -- ---- a test whose number no other has
 
 first-lacks : (ts : List Test) (n : ℕ) → T (lacks n ts) → 1 ≤ n → FirstFailing ts n → ⊥
 unfolding FirstFailing
 first-lacks [] n l h f = omega arith
-first-lacks (t ∷ ts) n l h (inl x) = neqb→ne n (t .number) (and-left (not (eqb n (t .number))) (lacks n ts) l) (x .1)
-first-lacks (t ∷ ts) n l h (inr x) = first-lacks ts n (and-right (not (eqb n (t .number))) (lacks n ts) l) h (x .1)
+first-lacks (t ∷ ts) n l h (inl x) = other n t ts l (x .1)
+first-lacks (t ∷ ts) n l h (inr x) = first-lacks ts n (others n t ts l) h (x .1)
 
 -- its number is given exactly if all earlier facts hold and its own does not
 pub first-at : (ts us : List Test) (n : ℕ) (fact : Type 0) → 1 ≤ n → T (lacks 0 ts) → T (lacks n ts) → T (lacks n us)
     → FirstFailing (ts ++ (test n fact ∷ us)) n ↔ (FirstFailing ts 0 × (fact → ⊥))
 unfolding FirstFailing
-first-at ts us n fact h z before after = ((λ f. go (first-split ts (test n fact ∷ us) n f)), (λ x. first-late ts (test n fact ∷ us) n z (x .0) (inl (x .1, refl))))
+first-at ts us n fact h z before after =
+    ((λ f. go (first-split ts (test n fact ∷ us) n f)), (λ x. first-late ts (test n fact ∷ us) n z (x .0) (inl (x .1, refl))))
   where
     go : FirstFailing ts n ⊎ (FirstFailing ts 0 × FirstFailing (test n fact ∷ us) n) → FirstFailing ts 0 × (fact → ⊥)
     go (inl f) = absurd (first-lacks ts n before h f)

@@ -45,7 +45,8 @@ use Rattle.search_call.proofs.Demand.{demand-3, any-tree}
 use Rattle.search_call.proofs.Lists.{work-unread}
 use Rattle.finder.specs.Promises.{SoundBooks, SoundTreeBook, FirstRefusal, AcceptedCheck, CheckSafe, CheckTrue, FirstBuildRefusal, BuildAccepted}
 use Rattle.finder.specs.Promises.{BuildSafe}
-use Rattle.finder.specs.Promises.{BuildTrue, FirstSearchRefusal, checkTests, buildTests, searchTests, SearchAccepted, SearchSafe, SearchesTrue, SearchesDecided}
+use Rattle.finder.specs.Promises.{BuildTrue, FirstSearchRefusal, SearchAccepted, SearchSafe, SearchesTrue, SearchesDecided}
+use Rattle.finder.specs.Promises.{checkTests, buildTests, searchTests}
 
 -- ---- sound books are those that no test turns back
 
@@ -123,7 +124,8 @@ module _ (road yard tree : List ℕ) (words : ℕ) where
       record {
         first = first-exact (checkTests road yard tree words) (checkAnswer road yard tree words) f;
         six = six-exact road _ (checkAnswer road yard tree words) f tt;
-        seven = seven-exact tree (roadTests road ++ yardTestsIn yard (junctions road)) _ (checkAnswer road yard tree words) (books-none road yard) f tt tt tt tt;
+        seven = seven-exact tree (roadTests road ++ yardTestsIn yard (junctions road)) _ (checkAnswer road yard tree words) (books-none road yard) f
+            tt tt tt tt;
       }
 
   accepted-exact : (checkAnswer road yard tree words ≡ 0) ↔ AcceptedCheck road yard tree words

@@ -74,8 +74,8 @@ NumbersTrue road tree = TrueTotals (net road) (decode tree .regions)
 --
 -- The rest of the demand: "input outside the layouts gets exactly the refusal listed", and the areas.
 
--- "Turned back, in this order": a check's tests, each number with the fact that it asks for. Those of a book alone stand
--- in specs/Tests.antt of its crate (road, yard, tree, query), and those of every opening in crates/book.
+-- "Turned back, in this order": a check's tests, each number with the fact that it asks for. Those of a book alone
+-- stand in specs/Tests.antt of its crate (road, yard, tree, query), and those of every opening in crates/book.
 abbrev pub checkTests : (road yard tree : List ℕ) (words : ℕ) → List Test
 checkTests road yard tree words =
     -- "Books are tested in the order road, yard, tree": the road book's 1 to 6
