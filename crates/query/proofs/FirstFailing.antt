@@ -18,8 +18,8 @@ query-tests b n =
     first-le 1 (crewCount b) 10 _ _ (λ _.
     first-le (crewCount b) 16 10 _ _ (λ _.
     first-test (inside n (crewsOf b)) 10 _ _
-    (λ t i h. each-inside b n (crewCount b) 0 t i (omega arith) (omega arith))
-    (λ f. inside-all b n (crewCount b) 0 (λ i p q. f i (omega arith))) (λ _.
+    (λ t i h. omega (arith, each-inside b n (crewCount b) 0 t i (omega arith) (omega arith)))
+    (λ f. inside-all b n (crewCount b) 0 (λ i p q. omega (arith, f i (omega arith)))) (λ _.
     first-le (aggregateOf b) 1 11 _ _ (λ _.
     first-le 1 (kOf b) 11 _ _ (λ _.
     first-le (kOf b) 64 11 0 _ (λ _. first-end))))))))

@@ -1,6 +1,7 @@
 -- The refusal of a yard book is the number of the first of its tests that fails. Assumes nothing.
 use mathlib.Core.List.{List}
 use Prim.Native.Nat.{ℕ, _+_, _*_}
+use native.Mathlib.Omega.{arith}
 use lib.ListN.{length}
 use Rattle.book.specs.Open.{openRefusal}
 use Rattle.book.specs.Tests.{FirstFailing, openTests}
@@ -23,4 +24,6 @@ module _ (b : List ℕ) where
   unfolding yardRefusalIn
   yard-tests-in n =
       first-join (yardTests b) _ (yardRefusal b) _ tt yard-tests (λ _.
-      first-test (inside n (yardsOf b)) 8 0 _ (inside-yards b n) (yards-within b n) (λ _. first-end))
+      first-test (inside n (yardsOf b)) 8 0 _
+      (λ t i h. omega (arith, inside-yards b n t i h))
+      (λ f. yards-within b n (λ i h. omega (arith, f i h))) (λ _. first-end))
