@@ -97,7 +97,7 @@ checkTests road yard tree words =
 pub record FirstRefusal (road yard tree : List ℕ) (words answer : ℕ) : Type 0 where
   -- it is n exactly if n is the number of the first of the tests that fails, and 0 exactly if none does
   pub first : (n : ℕ) → (answer ≡ n) ↔ FirstFailing (checkTests road yard tree words) n
-  -- 6 exactly if the road book's layout is sound and no walk leads from junction 0 to some junction
+  -- 6 exactly if the road book's layout is sound and some junction has no walk from junction 0
   pub six : (answer ≡ 6) ↔ (RoadLayout road × CutOff road)
   -- 7 exactly if the two books before the tree are sound and so is its layout, but "Tree shape" does not hold
   pub seven : (answer ≡ 7) ↔ (SoundBooks road yard × TreeLayout tree × (TreeShape (decode tree) → ⊥))
@@ -158,7 +158,7 @@ buildTests road yard m limit words room =
 -- the answer of a build is the number of the first test that fails
 pub record FirstBuildRefusal (road yard : List ℕ) (m limit words room answer : ℕ) : Type 0 where
   pub first : (n : ℕ) → (answer ≡ n) ↔ FirstFailing (buildTests road yard m limit words room) n
-  -- 6 exactly if the road book's layout is sound and no walk leads from junction 0 to some junction
+  -- 6 exactly if the road book's layout is sound and some junction has no walk from junction 0
   pub six : (answer ≡ 6) ↔ (RoadLayout road × CutOff road)
 
 -- what holds whenever a build's answer is 0
@@ -234,7 +234,7 @@ searchTests road tree query words room =
 -- the refusal of a search is the number of the first test that fails
 pub record FirstSearchRefusal (road tree query : List ℕ) (words room answer : ℕ) : Type 0 where
   pub first : (n : ℕ) → (answer ≡ n) ↔ FirstFailing (searchTests road tree query words room) n
-  -- 6 exactly if the road book's layout is sound and no walk leads from junction 0 to some junction
+  -- 6 exactly if the road book's layout is sound and some junction has no walk from junction 0
   pub six : (answer ≡ 6) ↔ (RoadLayout road × CutOff road)
   -- 7 exactly if the road book is sound and so is the tree's layout, but "Tree shape" does not hold
   pub seven : (answer ≡ 7) ↔ (Passing road × TreeLayout tree × (TreeShape (decode tree) → ⊥))
