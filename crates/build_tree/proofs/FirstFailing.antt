@@ -15,7 +15,7 @@ use Rattle.yard.proofs.FirstFailing.{yard-tests-in}
 use Rattle.build_tree.specs.Build.{treeBytes, rangeRefusal, roomRefusal, buildAnswer}
 
 -- the call's m and leaf limit
-abbrev pub rangeTests : (m limit : ℕ) → List Test
+abbrev rangeTests : (m limit : ℕ) → List Test
 rangeTests m limit = test 11 (1 ≤ m) ∷ test 11 (m ≤ 4) ∷ test 11 (1 ≤ limit) ∷ test 11 (limit ≤ 256) ∷ []
 
 range-tests : (m limit : ℕ) → FirstFailing (rangeTests m limit) (rangeRefusal m limit)
@@ -24,7 +24,7 @@ range-tests m limit =
     first-le 1 m 11 _ _ (λ _. first-le m 4 11 _ _ (λ _. first-le 1 limit 11 _ _ (λ _. first-le limit 256 11 0 _ (λ _. first-end))))
 
 -- its areas
-abbrev pub roomTests : (words room : ℕ) → List Test
+abbrev roomTests : (words room : ℕ) → List Test
 roomTests words room = test 12 (workWords ≤ words) ∷ test 12 (treeBytes ≤ room) ∷ []
 
 room-tests : (words room : ℕ) → FirstFailing (roomTests words room) (roomRefusal words room)
@@ -33,7 +33,15 @@ room-tests words room =
     first-join (test 12 (workWords ≤ words) ∷ []) _ (workRefusal words) _ tt (work-test words) (λ _. first-le treeBytes room 12 0 _ (λ _. first-end))
 
 pub build-tests : (road yard : List ℕ) (m limit words room : ℕ)
-    → FirstFailing (roadTests road ++ yardTestsIn yard (junctions road) ++ rangeTests m limit ++ roomTests words room)
+    → FirstFailing
+    (roadTests road ++ yardTestsIn yard (junctions road)
+    ++ test 11 (1 ≤ m)
+    ∷ test 11 (m ≤ 4)
+    ∷ test 11 (1 ≤ limit)
+    ∷ test 11 (limit ≤ 256)
+    ∷ test 12 (workWords ≤ words)
+    ∷ test 12 (treeBytes ≤ room)
+    ∷ [])
     (buildAnswer road yard m limit words room)
 unfolding buildAnswer
 build-tests road yard m limit words room =

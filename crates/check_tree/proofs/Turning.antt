@@ -31,7 +31,7 @@ use Rattle.check_tree.proofs.Theorems.{yards-exact, totals-exact}
 
 module _ (road yard tree : List ℕ) where
   -- the tree book's tests beside the other two
-  abbrev pub besideTests : List Test
+  abbrev besideTests : List Test
   besideTests =
       treeTests tree
       ++ test 8 (junctionCount tree ≡ junctions road)
@@ -52,7 +52,14 @@ module _ (road yard tree : List ℕ) where
 
   -- a check's answer is the number of the first of its tests that fails
   pub check-tests : (words : ℕ)
-      → FirstFailing (roadTests road ++ yardTestsIn yard (junctions road) ++ besideTests ++ test 12 (workWords ≤ words) ∷ []) (checkAnswer road yard tree words)
+      → FirstFailing
+      (roadTests road ++ yardTestsIn yard (junctions road) ++ treeTests tree
+      ++ test 8 (junctionCount tree ≡ junctions road)
+      ∷ test 8 (HoldsEach (decode tree .regions) (yardsOf yard))
+      ∷ test 9 (TrueTotals (net road) (decode tree .regions))
+      ∷ test 12 (workWords ≤ words)
+      ∷ [])
+      (checkAnswer road yard tree words)
   unfolding checkAnswer
   check-tests words =
       first-join (roadTests road) _ (roadRefusal road) _ tt (road-tests road) (λ r.

@@ -20,7 +20,7 @@ use Rattle.query.proofs.FirstFailing.{query-tests}
 use Rattle.search_call.specs.Call.{treeRefusalIn, areasRefusal, searchRefusal}
 
 -- the tree book's tests beside a road book with so many junctions
-abbrev pub treeTestsIn : List ℕ → ℕ → List Test
+abbrev treeTestsIn : List ℕ → ℕ → List Test
 treeTestsIn tree n = treeTests tree ++ test 8 (junctionCount tree ≡ n) ∷ []
 
 tree-tests-in : (tree : List ℕ) (n : ℕ) → FirstFailing (treeTestsIn tree n) (treeRefusalIn tree n)
@@ -29,7 +29,7 @@ tree-tests-in tree n =
     first-join (treeTests tree) _ (treeRefusal tree) _ tt (tree-tests tree) (λ _. first-eq (junctionCount tree) n 8 0 _ (λ _. first-end))
 
 -- the areas'
-abbrev pub areaTests : (k work results : ℕ) → List Test
+abbrev areaTests : (k work results : ℕ) → List Test
 areaTests k work results = test 12 (workWords ≤ work) ∷ test 12 (2 * k ≤ results) ∷ []
 
 area-tests : (k work results : ℕ) → FirstFailing (areaTests k work results) (areasRefusal k work results)
@@ -38,7 +38,13 @@ area-tests k work results =
     first-join (test 12 (workWords ≤ work) ∷ []) _ (workRefusal work) _ tt (work-test work) (λ _. first-le (2 * k) results 12 0 _ (λ _. first-end))
 
 pub search-tests : (road tree query : List ℕ) (work results : ℕ)
-    → FirstFailing (roadTests road ++ treeTestsIn tree (junctions road) ++ queryTests query (junctions road) ++ areaTests (kOf query) work results)
+    → FirstFailing
+    (roadTests road ++ treeTests tree
+    ++ test 8 (junctionCount tree ≡ junctions road)
+    ∷ queryTests query (junctions road)
+    ++ test 12 (workWords ≤ work)
+    ∷ test 12 (2 * kOf query ≤ results)
+    ∷ [])
     (searchRefusal road tree query work results)
 unfolding searchRefusal
 search-tests road tree query work results =
