@@ -5,3 +5,4 @@ pub mod Laws
 pub mod Opening
 pub mod Lists
 pub mod Writing
+pub mod FirstFailing

@@ -3,3 +3,4 @@ pub mod Bytes
 pub mod Writing
 pub mod Open
 pub mod Lists
+pub mod Tests

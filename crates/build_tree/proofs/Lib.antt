@@ -3,3 +3,4 @@ pub mod Limits
 pub mod Answering
 pub mod Placing
 pub mod Theorems
+pub mod FirstFailing

@@ -1,37 +1,52 @@
 -- The demands are kept. Assumes nothing.
 use mathlib.Core.Path.{_≡_, refl, _∙_}
-use mathlib.Core.Logic.{_↔_, _≢_}
-use mathlib.Core.List.{List}
-use Prim.Native.Nat.{ℕ, zero, suc, _*_, _≤_, _<_}
-use native.Mathlib.Decide.{decLe}
+use mathlib.Core.Logic.{_↔_}
+use mathlib.Core.List.{List, [], _∷_, _++_}
+use Prim.Native.Nat.{ℕ, _≤_}
 use native.Mathlib.Omega.{arith}
 use lib.ListN.{length}
+use lib.Dec.{T}
+use Rattle.book.specs.Tests.{Test, test, FirstFailing}
+use Rattle.book.proofs.FirstFailing.{lacks, first-exact, first-at, first-late, first-none-split}
 use Rattle.work_area.specs.Work.{workWords}
 use Rattle.work_area.proofs.Zeroing.{accepted-zeroed, refused-kept}
 use Rattle.road_layout.specs.Road.{junctions}
+use Rattle.road_layout.specs.Facts.{RoadLayout}
+use Rattle.road_layout.specs.Tests.{roadLayoutTests}
+use Rattle.road.specs.Facts.{Passing}
 use Rattle.road.specs.Refusal.{roadRefusal}
-use Rattle.road.proofs.Theorems.{passing-exact}
+use Rattle.road.specs.Tests.{roadTests, Connected, CutOff}
+use Rattle.road.proofs.Theorems.{passing-exact, road-tests, cut-off-exact}
 use Rattle.yard.specs.Yards.{yardRefusalIn}
+use Rattle.yard.specs.Tests.{yardTestsIn}
 use Rattle.yard.proofs.YardLayout.{yard-layout-in}
+use Rattle.yard.proofs.FirstFailing.{yard-tests-in}
+use Rattle.tree_layout.specs.Decode.{decode}
+use Rattle.tree_layout.specs.Facts.{TreeLayout}
+use Rattle.tree_layout.specs.Tests.{treeLayoutTests}
+use Rattle.tree.specs.Facts.{TreeShape}
 use Rattle.tree.specs.Shape.{treeRefusal}
 use Rattle.tree.proofs.Theorems.{accepted-iff}
+use Rattle.tree.proofs.FirstFailing.{layout-none}
 use Rattle.check_tree.specs.Check.{checkAnswer}
 use Rattle.check_tree.specs.Facts.{SoundBeside}
 use Rattle.check_tree.proofs.Theorems.{check-exact}
-use Rattle.check_tree.proofs.Turning.{road-first, yard-next, tree-next, counts-next, yards-next, numbers-next, work-next, none-turned}
+use Rattle.check_tree.proofs.Turning.{check-tests, none-turned}
 use Rattle.build_tree.specs.Build.{buildAnswer}
 use Rattle.build_tree.proofs.Theorems.{build-refusals, build-exact}
-use Rattle.query.specs.Query.{kOf, queryRefusal, QueryLayout}
+use Rattle.build_tree.proofs.FirstFailing.{build-tests}
+use Rattle.query.specs.Query.{kOf}
 use Rattle.query.proofs.Reading.{query-exact}
-use Rattle.search_call.specs.Call.{Call, Areas, treeRefusalIn, areasRefusal, foundOn}
-use Rattle.search_call.proofs.Refusing.{tree-turned-back, counts-differ, counts-agree, short-work, short-results, long-enough, by-road, by-tree, by-query}
-use Rattle.search_call.proofs.Refusing.{by-areas}
+use Rattle.search_call.specs.Call.{Call, Areas, treeRefusalIn, foundOn}
+use Rattle.search_call.proofs.Refusing.{counts-agree, long-enough, by-areas}
+use Rattle.search_call.proofs.FirstFailing.{search-tests}
 use Rattle.search_call.proofs.Calls.{on-number, on-refused, on-tests, work-zeroed, areas-kept}
 use Rattle.search_call.proofs.Demand.{demand-3, any-tree}
 use Rattle.search_call.proofs.Lists.{work-unread}
 use Rattle.finder.specs.Promises.{SoundBooks, SoundTreeBook, FirstRefusal, AcceptedCheck, CheckSafe, CheckTrue, FirstBuildRefusal, BuildAccepted}
 use Rattle.finder.specs.Promises.{BuildSafe}
-use Rattle.finder.specs.Promises.{BuildTrue, SearchAreas, FirstSearchRefusal, SearchAccepted, SearchSafe, SearchesTrue, SearchesDecided}
+use Rattle.finder.specs.Promises.{BuildTrue, FirstSearchRefusal, SearchAccepted, SearchSafe, SearchesTrue, SearchesDecided}
+use Rattle.finder.specs.Promises.{checkTests, buildTests, searchTests}
 
 -- ---- sound books are those that no test turns back
 
@@ -48,6 +63,49 @@ module _ (road yard : List ℕ) where
 sound-tree : (road tree : List ℕ) → SoundTreeBook road tree → treeRefusal tree ≡ 0
 sound-tree road tree s = accepted-iff tree .1 (s .facts)
 
+-- ---- refusals 6 and 7, of any call that tests the books in the paper's order
+
+module _ (road : List ℕ) where
+  roads-none : FirstFailing (roadTests road) 0 ↔ Passing road
+  roads-none =
+      let x = first-exact (roadTests road) (roadRefusal road) (road-tests road) 0 in
+      ((λ f. passing-exact road .0 (x .1 f)), (λ p. x .0 (passing-exact road .1 p)))
+
+  -- after the road book come tests of other numbers than 6
+  six-exact : (later : List Test) (answer : ℕ) → FirstFailing (roadTests road ++ later) answer → T (lacks 6 later)
+      → (answer ≡ 6) ↔ (RoadLayout road × CutOff road)
+  six-exact later answer f l =
+      let x = first-exact (roadTests road ++ later) answer f 6 in
+      let y = first-at (roadLayoutTests road) later 6 (Connected road) (omega arith) tt tt l in
+      let z = first-at (roadLayoutTests road) [] 6 (Connected road) (omega arith) tt tt tt in
+      let r = first-exact (roadTests road) (roadRefusal road) (road-tests road) 6 in
+      let c = cut-off-exact road in
+      ((λ e. c .0 (r .1 (z .1 (y .0 (x .0 e))))), (λ h. x .1 (y .1 (z .0 (r .0 (c .1 h))))))
+
+books-none : (road yard : List ℕ) → FirstFailing (roadTests road ++ yardTestsIn yard (junctions road)) 0 ↔ SoundBooks road yard
+books-none road yard =
+    let n = junctions road in
+    let y = first-exact (yardTestsIn yard n) (yardRefusalIn yard n) (yard-tests-in yard n) 0 in (
+      (λ f. let x = first-none-split (roadTests road) (yardTestsIn yard n) tt f in
+          books-sound road yard (passing-exact road .1 (roads-none road .0 (x .0))) (y .1 (x .1))),
+      (λ s. first-late (roadTests road) (yardTestsIn yard n) 0 tt (roads-none road .1 (s .roads)) (y .0 (sound-yards road yard s))),
+    )
+
+-- before the tree book come tests of other numbers than 7, and so after it
+seven-exact : (tree : List ℕ) (earlier later : List Test) (answer : ℕ) {Sound : Type 0} → FirstFailing earlier 0 ↔ Sound
+    → FirstFailing ((earlier ++ treeLayoutTests tree) ++ (test 7 (TreeShape (decode tree)) ∷ later)) answer
+    → T (lacks 0 earlier) → T (lacks 0 (earlier ++ treeLayoutTests tree)) → T (lacks 7 (earlier ++ treeLayoutTests tree)) → T (lacks 7 later)
+    → (answer ≡ 7) ↔ (Sound × TreeLayout tree × (TreeShape (decode tree) → ⊥))
+seven-exact tree earlier later answer sound f z zt st sl =
+    let before = earlier ++ treeLayoutTests tree in
+    let x = first-exact (before ++ (test 7 (TreeShape (decode tree)) ∷ later)) answer f 7 in
+    let y = first-at before later 7 (TreeShape (decode tree)) (omega arith) zt st sl in (
+      (λ e. let w = y .0 (x .0 e) in
+          let v = first-none-split earlier (treeLayoutTests tree) z (w .0) in
+          (sound .0 (v .0), layout-none tree .0 (v .1), w .1)),
+      (λ w. x .1 (y .1 (first-late earlier (treeLayoutTests tree) 0 z (sound .1 (w .0)) (layout-none tree .1 (w .1)), w .2))),
+    )
+
 -- ---- demand 2, of check
 
 laid-out : (road yard tree : List ℕ) (words : ℕ) → SoundBooks road yard → workWords ≤ words → SoundTreeBook road tree → SoundBeside road yard tree words
@@ -61,15 +119,14 @@ check-true road yard tree words b w s = check-exact road yard tree words (laid-o
 
 module _ (road yard tree : List ℕ) (words : ℕ) where
   first-refusal : FirstRefusal road yard tree words (checkAnswer road yard tree words)
-  first-refusal = record {
-    by-road = road-first road yard tree words;
-    by-yard = λ r. yard-next road yard tree words (passing-exact road .1 r);
-    by-tree = λ b. tree-next road yard tree words (sound-roads road yard b) (sound-yards road yard b);
-    by-counts = λ b t. counts-next road yard tree words (sound-roads road yard b) (sound-yards road yard b) (accepted-iff tree .1 t);
-    by-yards = λ b s. yards-next road yard tree words (sound-roads road yard b) (sound-yards road yard b) (sound-tree road tree s) (s .counts);
-    by-numbers = λ b s. numbers-next road yard tree words (sound-roads road yard b) (sound-yards road yard b) (sound-tree road tree s) (s .counts);
-    by-work = λ b s. work-next road yard tree words (sound-roads road yard b) (sound-yards road yard b) (sound-tree road tree s) (s .counts);
-  }
+  first-refusal =
+      let f = check-tests road yard tree words in
+      record {
+        first = first-exact (checkTests road yard tree words) (checkAnswer road yard tree words) f;
+        six = six-exact road _ (checkAnswer road yard tree words) f tt;
+        seven = seven-exact tree (roadTests road ++ yardTestsIn yard (junctions road)) _ (checkAnswer road yard tree words) (books-none road yard) f
+            tt tt tt tt;
+      }
 
   accepted-exact : (checkAnswer road yard tree words ≡ 0) ↔ AcceptedCheck road yard tree words
   accepted-exact = (there, λ a. check-true road yard tree words (a .books) (a .full) (a .tree-sound) .1 (a .yards, a .numbers))
@@ -99,12 +156,10 @@ check-safe road yard tree work = record {
 module _ (road yard : List ℕ) (m limit words room : ℕ) where
   first-build-refusal : FirstBuildRefusal road yard m limit words room (buildAnswer road yard m limit words room)
   first-build-refusal =
-      let r = build-refusals road yard m limit words room in
+      let f = build-tests road yard m limit words room in
       record {
-        by-road = r .road-first;
-        by-yard = λ p. r .yard-next (passing-exact road .1 p);
-        by-range = λ b. r .eleven (sound-roads road yard b) (sound-yards road yard b) .1;
-        by-areas = λ b i. r .twelve (sound-roads road yard b) (sound-yards road yard b) i .1;
+        first = first-exact (buildTests road yard m limit words room) (buildAnswer road yard m limit words room) f;
+        six = six-exact road _ (buildAnswer road yard m limit words room) f tt;
       }
 
   -- accepted by the tests, and sound
@@ -139,10 +194,6 @@ build-true road yard m limit work tree b i a =
 
 -- ---- demand 1, of search
 
-some : (n : ℕ) → n ≢ 0 → 1 ≤ n
-some zero h = absurd (h refl)
-some (suc n) h = omega arith
-
 module _ (c : Call) (a : Areas) where
   abbrev road : List ℕ
   road = c .road
@@ -162,28 +213,14 @@ module _ (c : Call) (a : Areas) where
   agree : SoundTreeBook (c .road) (c .tree) → treeRefusalIn (c .tree) (junctions (c .road)) ≡ 0
   agree s = counts-agree tree (junctions road) (sound-tree road tree s) (s .counts)
 
-  -- 12, unless both areas are long enough
-  short : (SearchAreas (c .query) (length (a .work)) (length (a .results)) → ⊥) → areasRefusal (kOf (c .query)) (length (a .work)) (length (a .results)) ≡ 12
-  short h = go (decLe workWords words) (decLe (2 * kOf query) room)
-    where
-      go : Dec (workWords ≤ words) → Dec (2 * kOf query ≤ room) → areasRefusal (kOf query) words room ≡ 12
-      go (no p) q = short-work (kOf query) words room (omega arith)
-      go (yes p) (no q) = short-results (kOf query) words room p (omega arith)
-      go (yes p) (yes q) = absurd (h (record { work = p; results = q }))
-
   first-search-refusal : FirstSearchRefusal (c .road) (c .tree) (c .query) (length (a .work)) (length (a .results)) (foundOn c a .refusal)
-  first-search-refusal = record {
-    by-road = λ h. on-number c a ∙ by-road road tree query words room (some _ h);
-    by-tree = λ p h.
-        let e = tree-turned-back tree (junctions road) (some _ h) in
-        on-number c a ∙ (by-tree road tree query words room (passing-exact road .1 p) (omega (arith, e, some _ h)) ∙ e);
-    by-counts = λ p f h.
-        let e = counts-differ tree (junctions road) (accepted-iff tree .1 f) h in
-        on-number c a ∙ (by-tree road tree query words room (passing-exact road .1 p) (omega (arith, e)) ∙ e);
-    by-query = λ p s h. on-number c a ∙ by-query road tree query words room (passing-exact road .1 p) (agree s) (some _ h);
-    by-areas = λ p s q h.
-        on-number c a ∙ (by-areas road tree query words room (passing-exact road .1 p) (agree s) (query-exact query (junctions road) .1 q) ∙ short h);
-  }
+  first-search-refusal =
+      let f = rw (← on-number c a) at (search-tests road tree query words room) in
+      record {
+        first = first-exact (searchTests road tree query words room) (foundOn c a .refusal) f;
+        six = six-exact road _ (foundOn c a .refusal) f tt;
+        seven = seven-exact tree (roadTests road) _ (foundOn c a .refusal) (roads-none road) f tt tt tt tt;
+      }
 
   search-accepted : (foundOn c a .refusal ≡ 0) ↔ SearchAccepted (c .road) (c .tree) (c .query) (length (a .work)) (length (a .results))
   search-accepted = (there, back)

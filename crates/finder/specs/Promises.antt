@@ -10,18 +10,23 @@
 -- for all lists.
 use mathlib.Core.Path.{_≡_}
 use mathlib.Core.Logic.{_≢_, _↔_}
-use mathlib.Core.List.{List, _++_}
+use mathlib.Core.List.{List, [], _∷_, _++_}
 use Prim.Native.Nat.{ℕ, _*_, _≤_, _<_}
 use lib.ListN.{length, drop}
+use Rattle.book.specs.Tests.{Test, test, FirstFailing}
 use Rattle.work_area.specs.Work.{workWords, zeroed, workAfter}
 use Rattle.road_layout.specs.Road.{junctions}
+use Rattle.road_layout.specs.Facts.{RoadLayout}
 use Rattle.adjacency.specs.Arcs.{net}
 use Rattle.road.specs.Facts.{Passing}
-use Rattle.road.specs.Refusal.{roadRefusal}
-use Rattle.yard.specs.Yards.{YardLayout, yardCount, yardAt, yardsOf, yardRefusalIn}
+use Rattle.road.specs.Tests.{roadTests, CutOff}
+use Rattle.yard.specs.Yards.{YardLayout, yardCount, yardAt, yardsOf}
+use Rattle.yard.specs.Tests.{yardTestsIn}
 use Rattle.tree_layout.specs.Decode.{junctionCount, decode}
-use Rattle.tree.specs.Shape.{treeRefusal}
+use Rattle.tree_layout.specs.Facts.{TreeLayout}
+use Rattle.tree.specs.Facts.{TreeShape}
 use Rattle.tree.specs.Theorems.{TreeFacts}
+use Rattle.tree.specs.Tests.{treeTests}
 use Rattle.tree_encode.specs.Encode.{encode}
 use Rattle.build_rules.specs.Facts.{Rule}
 use Rattle.check_tree.specs.Check.{checkAnswer}
@@ -29,7 +34,8 @@ use Rattle.check_tree.specs.Facts.{HoldsEach, TrueTotals}
 use Rattle.build_records.specs.Given.{given}
 use Rattle.build_tree.specs.Build.{treeBytes, buildAnswer, builtTree, builtLength, treeAfter}
 use Rattle.build_tree.specs.Facts.{InRange, BuildAreas, writtenBook}
-use Rattle.query.specs.Query.{kOf, queryRefusal, QueryLayout}
+use Rattle.query.specs.Query.{kOf, QueryLayout}
+use Rattle.query.specs.Tests.{queryTests}
 use Rattle.search_call.specs.Call.{Call, Found, foundOn, callOn, Areas as Lent, refused as refusedWith}
 use Rattle.search_call.specs.Demand.{Promised, OfBytes, AnyTree, WorkUnread}
 
@@ -68,23 +74,33 @@ NumbersTrue road tree = TrueTotals (net road) (decode tree .regions)
 --
 -- The rest of the demand: "input outside the layouts gets exactly the refusal listed", and the areas.
 
--- "Turned back, in this order": the answer of a check is the number of the first test that fails
+-- "Turned back, in this order": a check's tests, each number with the fact that it asks for. Those of a book alone
+-- stand in specs/Tests.antt of its crate (road, yard, tree, query), and those of every opening in crates/book.
+abbrev pub checkTests : (road yard tree : List ℕ) (words : ℕ) → List Test
+checkTests road yard tree words =
+    -- "Books are tested in the order road, yard, tree": the road book's 1 to 6
+    roadTests road
+    -- the yard book's 1 to 5, and 8: "a yard isn't a junction of the road book"
+    ++ yardTestsIn yard (junctions road)
+    -- the tree book's 1 to 5, and 7
+    ++ treeTests tree
+    -- 8: "Junction counts or yards disagree between books"
+    ++ test 8 (junctionCount tree ≡ junctions road)
+    ∷ test 8 (YardsHeld yard tree)
+    -- 9: "In a check only: a stored distance, least or greatest isn't the true one."
+    ∷ test 9 (NumbersTrue road tree)
+    -- 12: "A lent area is too short: work below 16,384 words"
+    ∷ test 12 (workWords ≤ words)
+    ∷ []
+
+-- the answer of a check is the number of the first test that fails
 pub record FirstRefusal (road yard tree : List ℕ) (words answer : ℕ) : Type 0 where
-  -- "Books are tested in the order road, yard, tree": 1 to 6, of the road book
-  pub by-road : roadRefusal road ≢ 0 → answer ≡ roadRefusal road
-  -- of the yard book 1 to 5, and 8: "a yard isn't a junction of the road book"
-  pub by-yard : Passing road → yardRefusalIn yard (junctions road) ≢ 0 → answer ≡ yardRefusalIn yard (junctions road)
-  -- of the tree book 1 to 5, and 7
-  pub by-tree : SoundBooks road yard → treeRefusal tree ≢ 0 → answer ≡ treeRefusal tree
-  -- 8: "Junction counts or yards disagree between books"
-  pub by-counts : SoundBooks road yard → TreeFacts tree → junctionCount tree ≢ junctions road → answer ≡ 8
-  pub by-yards : SoundBooks road yard → SoundTreeBook road tree → (YardsHeld yard tree → ⊥) → answer ≡ 8
-  -- 9: "In a check only: a stored distance, least or greatest isn't the true one."
-  pub by-numbers : SoundBooks road yard → SoundTreeBook road tree → YardsHeld yard tree → (NumbersTrue road tree → ⊥)
-      → answer ≡ 9
-  -- 12: "A lent area is too short: work below 16,384 words"
-  pub by-work : SoundBooks road yard → SoundTreeBook road tree → YardsHeld yard tree → NumbersTrue road tree
-      → words < workWords → answer ≡ 12
+  -- it is n exactly if n is the number of the first of the tests that fails, and 0 exactly if none does
+  pub first : (n : ℕ) → (answer ≡ n) ↔ FirstFailing (checkTests road yard tree words) n
+  -- 6 exactly if the road book's layout is sound and some junction has no walk from junction 0
+  pub six : (answer ≡ 6) ↔ (RoadLayout road × CutOff road)
+  -- 7 exactly if the two books before the tree are sound and so is its layout, but "Tree shape" does not hold
+  pub seven : (answer ≡ 7) ↔ (SoundBooks road yard × TreeLayout tree × (TreeShape (decode tree) → ⊥))
 
 -- "The number of an accepted call is 0": what holds whenever the answer is 0
 pub record AcceptedCheck (road yard tree : List ℕ) (words : ℕ) : Type 0 where
@@ -122,16 +138,28 @@ CheckTrue = (road yard tree : List ℕ) (words : ℕ) → SoundBooks road yard �
 
 -- ---- demand 1, of build
 
--- "Turned back, in this order": the answer of a build is the number of the first test that fails
+-- "Turned back, in this order": a build's tests
+abbrev pub buildTests : (road yard : List ℕ) (m limit words room : ℕ) → List Test
+buildTests road yard m limit words room =
+    -- "Books are tested in the order road, yard": the road book's 1 to 6
+    roadTests road
+    -- the yard book's 1 to 5, and 8
+    ++ yardTestsIn yard (junctions road)
+    -- "then the call's m, leaf limit and areas", 11: "m or the leaf limit is outside its range"
+    ++ test 11 (1 ≤ m)
+    ∷ test 11 (m ≤ 4)
+    ∷ test 11 (1 ≤ limit)
+    ∷ test 11 (limit ≤ 256)
+    -- 12: "work below 16,384 words, .. a built tree's area below 21,981 bytes"
+    ∷ test 12 (workWords ≤ words)
+    ∷ test 12 (treeBytes ≤ room)
+    ∷ []
+
+-- the answer of a build is the number of the first test that fails
 pub record FirstBuildRefusal (road yard : List ℕ) (m limit words room answer : ℕ) : Type 0 where
-  -- "Books are tested in the order road, yard": 1 to 6, of the road book
-  pub by-road : roadRefusal road ≢ 0 → answer ≡ roadRefusal road
-  -- of the yard book 1 to 5, and 8
-  pub by-yard : Passing road → yardRefusalIn yard (junctions road) ≢ 0 → answer ≡ yardRefusalIn yard (junctions road)
-  -- "then the call's m, leaf limit and areas", 11: m outside 1 to 4, or the leaf limit outside 1 to 256
-  pub by-range : SoundBooks road yard → (InRange m limit → ⊥) → answer ≡ 11
-  -- 12: "work below 16,384 words, .. a built tree's area below 21,981 bytes"
-  pub by-areas : SoundBooks road yard → InRange m limit → (BuildAreas words room → ⊥) → answer ≡ 12
+  pub first : (n : ℕ) → (answer ≡ n) ↔ FirstFailing (buildTests road yard m limit words room) n
+  -- 6 exactly if the road book's layout is sound and some junction has no walk from junction 0
+  pub six : (answer ≡ 6) ↔ (RoadLayout road × CutOff road)
 
 -- what holds whenever a build's answer is 0
 pub record BuildAccepted (road yard : List ℕ) (m limit words room : ℕ) : Type 0 where
@@ -187,20 +215,29 @@ pub record SearchAreas (query : List ℕ) (words room : ℕ) : Type 0 where
   pub work : workWords ≤ words
   pub results : 2 * kOf query ≤ room
 
--- "Turned back, in this order": the refusal of a search is the number of the first test that fails
+-- "Turned back, in this order": a search's tests
+abbrev pub searchTests : (road tree query : List ℕ) (words room : ℕ) → List Test
+searchTests road tree query words room =
+    -- "Books are tested in the order road, .., tree, query": the road book's 1 to 6
+    roadTests road
+    -- the tree book's 1 to 5, and 7
+    ++ treeTests tree
+    -- 8: "Junction counts .. disagree between books"
+    ++ test 8 (junctionCount tree ≡ junctions road)
+    -- the query book's 1 to 4, 10 and 11
+    ∷ queryTests query (junctions road)
+    -- 12: "work below 16,384 words, results below 2 × k words"
+    ++ test 12 (workWords ≤ words)
+    ∷ test 12 (2 * kOf query ≤ room)
+    ∷ []
+
+-- the refusal of a search is the number of the first test that fails
 pub record FirstSearchRefusal (road tree query : List ℕ) (words room answer : ℕ) : Type 0 where
-  -- "Books are tested in the order road, .., tree, query": 1 to 6, of the road book
-  pub by-road : roadRefusal road ≢ 0 → answer ≡ roadRefusal road
-  -- of the tree book 1 to 5, and 7
-  pub by-tree : Passing road → treeRefusal tree ≢ 0 → answer ≡ treeRefusal tree
-  -- 8: "Junction counts .. disagree between books"
-  pub by-counts : Passing road → TreeFacts tree → junctionCount tree ≢ junctions road → answer ≡ 8
-  -- of the query book 1 to 4, 10 and 11
-  pub by-query : Passing road → SoundTreeBook road tree → queryRefusal query (junctions road) ≢ 0
-      → answer ≡ queryRefusal query (junctions road)
-  -- 12: "A lent area is too short"
-  pub by-areas : Passing road → SoundTreeBook road tree → QueryLayout query (junctions road)
-      → (SearchAreas query words room → ⊥) → answer ≡ 12
+  pub first : (n : ℕ) → (answer ≡ n) ↔ FirstFailing (searchTests road tree query words room) n
+  -- 6 exactly if the road book's layout is sound and some junction has no walk from junction 0
+  pub six : (answer ≡ 6) ↔ (RoadLayout road × CutOff road)
+  -- 7 exactly if the road book is sound and so is the tree's layout, but "Tree shape" does not hold
+  pub seven : (answer ≡ 7) ↔ (Passing road × TreeLayout tree × (TreeShape (decode tree) → ⊥))
 
 -- what holds whenever a search's refusal is 0
 pub record SearchAccepted (road tree query : List ℕ) (words room : ℕ) : Type 0 where

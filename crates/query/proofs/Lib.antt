@@ -1,2 +1,3 @@
 pub mod CrewList
 pub mod Reading
+pub mod FirstFailing

@@ -8,17 +8,22 @@ use native.Mathlib.Decide.{ℕ-discrete}
 use native.Mathlib.Omega.{arith}
 use lib.Dec.{T, not-T, ltb, ltb→lt, lt→ltb, nltb→le}
 use Rattle.book.specs.Choose.{refuse, firstOf}
+use Rattle.book.specs.Tests.{FirstFailing}
 use Rattle.book.proofs.Choosing.{and-left, and-right, and-both, T-split, passes, fails, passed, first-none, first-later, first-earlier}
+use Rattle.book.proofs.FirstFailing.{first-end, first-test, first-join}
 use Rattle.road_layout.specs.Road.{Road, junctions, roads}
 use Rattle.road_layout.specs.Layout.{roadLayoutRefusal}
 use Rattle.road_layout.specs.Facts.{RoadFits, RoadLayout}
+use Rattle.road_layout.specs.Tests.{roadLayoutTests}
 use Rattle.road_layout.proofs.Layouts.{passing-layout, layout-passes, layout-low, roads-member}
+use Rattle.road_layout.proofs.FirstFailing.{road-layout-tests}
 use Rattle.adjacency.specs.Arcs.{arcs, net}
 use Rattle.adjacency.proofs.Netting.{arc, net-is, each-arc}
 use Rattle.road.specs.Walk.{Walk, Least, Fit, SoundArcs}
 use Rattle.road.specs.Dijkstra.{far, width, at, distances, dist}
 use Rattle.road.specs.Refusal.{allReached, roadRefusal}
 use Rattle.road.specs.Facts.{Joined, Passing, IsJunction, Metric}
+use Rattle.road.specs.Tests.{roadTests, CutOff}
 use Rattle.road.proofs.Walks.{join, turn}
 use Rattle.road.proofs.Distances
 
@@ -132,12 +137,16 @@ module _ (b : List ℕ) where
   pub passing-exact : (roadRefusal b ≡ 0) ↔ Passing b
   passing-exact = (passing, passes-all)
 
-  -- some junction that no walk from junction 0 leads to
-  abbrev pub CutOff : Type 0
-  CutOff = (v : ℕ) × (v < junctions b) × (Joined (net b) 0 v → ⊥)
+  -- the refusal is the number of the first of tests 1 to 6 that fails
+  pub road-tests : FirstFailing (roadTests b) (roadRefusal b)
+  unfolding roadRefusal
+  road-tests =
+      first-join (roadLayoutTests b) _ (roadLayoutRefusal b) _ tt (road-layout-tests b) (λ e.
+      let layout = passing-layout b e in
+      first-test (allReached from-zero (junctions b)) 6 0 _ (walks layout) (λ c. unmarked (record { layout = layout; connected = c })) (λ _. first-end))
 
   -- refusal 6 exactly if the layout is sound and some junction has no walk from junction 0
-  pub cut-off-exact : (roadRefusal b ≡ 6) ↔ (RoadLayout b × CutOff)
+  pub cut-off-exact : (roadRefusal b ≡ 6) ↔ (RoadLayout b × CutOff b)
   unfolding roadRefusal
   cut-off-exact = (λ e. there e (ℕ-discrete (roadLayoutRefusal b) 0), λ c. back-again (c .0) (c .1))
     where
@@ -146,7 +155,7 @@ module _ (b : List ℕ) where
       last e (inl t) = absurd (omega (arith, sym (passes (allReached from-zero (junctions b)) 6 0 t) ∙ e))
       last e (inr t) = t
 
-      far-off : (layout : RoadLayout b) → (v : ℕ) × (v < junctions b) × (far ≤ at from-zero v) → CutOff
+      far-off : (layout : RoadLayout b) → (v : ℕ) × (v < junctions b) × (far ≤ at from-zero v) → CutOff b
       far-off layout (v, h, f) = (
         v,
         h,
@@ -159,14 +168,14 @@ module _ (b : List ℕ) where
             ),
       )
 
-      there : firstOf (roadLayoutRefusal b) (refuse (allReached from-zero (junctions b)) 6 0) ≡ 6 → Dec (roadLayoutRefusal b ≡ 0) → RoadLayout b × CutOff
+      there : firstOf (roadLayoutRefusal b) (refuse (allReached from-zero (junctions b)) 6 0) ≡ 6 → Dec (roadLayoutRefusal b ≡ 0) → RoadLayout b × CutOff b
       there e (yes z) =
           let layout = passing-layout b z in
           let t = last (sym (first-later (roadLayoutRefusal b) _ z) ∙ e) (T-split (allReached from-zero (junctions b))) in
           (layout, far-off layout (not-reached from-zero (junctions b) t))
       there e (no z) = absurd (omega (arith, layout-low b, sym (first-earlier (roadLayoutRefusal b) _ (omega arith)) ∙ e))
 
-      back-again : (layout : RoadLayout b) → CutOff → firstOf (roadLayoutRefusal b) (refuse (allReached from-zero (junctions b)) 6 0) ≡ 6
+      back-again : (layout : RoadLayout b) → CutOff b → firstOf (roadLayoutRefusal b) (refuse (allReached from-zero (junctions b)) 6 0) ≡ 6
       back-again layout (v, h, n) =
           first-later (roadLayoutRefusal b) _ (layout-passes b layout)
           ∙ fails (allReached from-zero (junctions b)) 6 0 (not-T (allReached from-zero (junctions b)) (λ t. n (walks layout t v h)))

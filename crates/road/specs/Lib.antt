@@ -4,3 +4,4 @@ pub mod Queue
 pub mod Refusal
 pub mod Facts
 pub mod Rows
+pub mod Tests

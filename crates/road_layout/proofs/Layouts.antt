@@ -15,6 +15,7 @@ use Rattle.book.proofs.Opening.{opens, open-zero, open-most}
 use Rattle.road_layout.specs.Road.{Road, junctions, roadCount, roadAt, roadsTo, roads}
 use Rattle.road_layout.specs.Layout.{after, roadOk, roadsOk, roadLayoutRefusal}
 use Rattle.road_layout.specs.Facts.{RoadFits, EndsBefore, RoadLayout}
+use Rattle.road_layout.specs.Tests.{RoadValues}
 
 -- the pair (l, h) comes before a road's
 abbrev Follows : ℕ → ℕ → Road → Type 0
@@ -95,6 +96,23 @@ module _ (b : List ℕ) (n : ℕ) where
       (λ p. rw (add-one k) (g k (omega arith) (omega arith))))
 
 module _ (b : List ℕ) where
+  -- test 5 holds exactly if all roads fit and rise
+  pub roads-values : T (roadsOk b (junctions b) (roadCount b) 0 0 0) → RoadValues b
+  roads-values t = record {
+    fits = λ k h. roads-fit b (junctions b) (roadCount b) 0 0 0 t k (omega arith) (omega arith);
+    rising = λ k h. roads-rise b (junctions b) (roadCount b) 0 0 0 t k (omega arith) (omega arith);
+  }
+
+  pub values-roads : RoadValues b → T (roadsOk b (junctions b) (roadCount b) 0 0 0)
+  values-roads v = roads-pass b (junctions b) (roadCount b) 0 0 0 (λ j p q. v .fits j (omega arith)) (λ j p q. v .rising j (omega arith)) first
+    where
+      first : 0 < roadCount b → Follows 0 0 (roadAt b 0)
+      first h = go (ℕ-discrete 0 (roadAt b 0 .low))
+        where
+          go : Dec (0 ≡ roadAt b 0 .low) → Follows 0 0 (roadAt b 0)
+          go (yes e) = inr (e, omega (arith, v .fits 0 h .ends))
+          go (no e) = inl (omega arith)
+
   pub passing-layout : roadLayoutRefusal b ≡ 0 → RoadLayout b
   unfolding roadLayoutRefusal
   passing-layout e =
@@ -104,14 +122,15 @@ module _ (b : List ℕ) where
       let d = passed _ _ _ (c .1) (omega arith) in
       let f = passed _ _ _ (d .1) (omega arith) in
       let g = passed _ _ _ (f .1) (omega arith) in
+      let v = roads-values (g .0) in
       record {
         opens = opens b 4 (o .0);
         some-junction = leb→le _ _ (a .0);
         few-junctions = leb→le _ _ (c .0);
         few-roads = leb→le _ _ (d .0);
         whole = eqb→eq _ _ (f .0);
-        fits = λ k h. roads-fit b (junctions b) (roadCount b) 0 0 0 (g .0) k (omega arith) (omega arith);
-        rising = λ k h. roads-rise b (junctions b) (roadCount b) 0 0 0 (g .0) k (omega arith) (omega arith);
+        fits = v .fits;
+        rising = v .rising;
       }
 
   pub layout-passes : RoadLayout b → roadLayoutRefusal b ≡ 0
@@ -119,18 +138,7 @@ module _ (b : List ℕ) where
   layout-passes r =
       first-later _ _ (open-zero b 4 (r .opens))
       ∙ passes _ _ _ (le→leb _ _ (r .some-junction)) ∙ passes _ _ _ (le→leb _ _ (r .few-junctions)) ∙ passes _ _ _ (le→leb _ _ (r .few-roads))
-      ∙ passes _ _ _ (eq→eqb _ _ (r .whole)) ∙ passes _ _ _ roads-ok
-    where
-      first : 0 < roadCount b → Follows 0 0 (roadAt b 0)
-      first h = go (ℕ-discrete 0 (roadAt b 0 .low))
-        where
-          go : Dec (0 ≡ roadAt b 0 .low) → Follows 0 0 (roadAt b 0)
-          go (yes e) = inr (e, omega (arith, r .fits 0 h .ends))
-          go (no e) = inl (omega arith)
-
-      roads-ok : T (roadsOk b (junctions b) (roadCount b) 0 0 0)
-      roads-ok =
-          roads-pass b (junctions b) (roadCount b) 0 0 0 (λ j p q. r .fits j (omega arith)) (λ j p q. r .rising j (omega arith)) first
+      ∙ passes _ _ _ (eq→eqb _ _ (r .whole)) ∙ passes _ _ _ (values-roads (record { fits = r .fits; rising = r .rising }))
 
   -- tests 1 to 5 all pass exactly if the layout is the stated one
   pub layout-exact : (roadLayoutRefusal b ≡ 0) ↔ RoadLayout b

@@ -1,3 +1,4 @@
 pub mod Road
 pub mod Layout
 pub mod Facts
+pub mod Tests

@@ -4,3 +4,4 @@ pub mod Bounded
 pub mod Lists
 pub mod Demand
 pub mod Room
+pub mod FirstFailing

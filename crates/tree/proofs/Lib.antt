@@ -17,3 +17,4 @@ pub mod Descent
 pub mod Ranges
 pub mod Siblings
 pub mod RegionYards
+pub mod FirstFailing

@@ -5,3 +5,4 @@ pub mod Theorems
 pub mod Arrays
 pub mod Answer
 pub mod RegionYards
+pub mod Tests

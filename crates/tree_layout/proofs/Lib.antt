@@ -18,3 +18,4 @@ pub mod MarkFields
 pub mod Numbered
 pub mod RecordFields
 pub mod Accessing
+pub mod FirstFailing

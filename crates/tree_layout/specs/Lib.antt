@@ -7,3 +7,4 @@ pub mod Reading
 pub mod Formed
 pub mod Accessors
 pub mod Marks
+pub mod Tests

@@ -5,3 +5,4 @@ pub mod YardLayout
 pub mod Answering
 pub mod Examples
 pub mod Turns
+pub mod FirstFailing

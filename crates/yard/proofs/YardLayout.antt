@@ -14,6 +14,7 @@ use Rattle.book.specs.Lists.{Distinct}
 use Rattle.book.proofs.Choosing.{lt-or-ge, passes, fails, passed, true-T, refuse-case, first-earlier, first-later, first-none, first-case}
 use Rattle.book.proofs.Opening.{opens, open-zero, open-most}
 use Rattle.yard.specs.Yards.{yardCount, yardAt, yardsOf, yardsRise, inside, yardBodyRefusal, yardRefusal, yardRefusalIn, YardLayout, RisingYards}
+use Rattle.yard.specs.Tests.{YardValues}
 use Rattle.yard.proofs.Listing.{from-length, from-at, Rises, rises-facts, facts-rises, rises-distinct, inside-all, all-inside}
 
 -- the list of a book's yards has as many as it counts, each where the book has it
@@ -26,6 +27,34 @@ unfolding yardsOf
 yards-at b i h =
     let z : 0 + i ≡ i = omega arith in
     rw z at (from-at b (yardCount b) 0 i h)
+
+-- test 5 holds exactly if the yards are below 1,024 and rise
+pub rise-values : (b : List ℕ) → T (yardsRise 0 (yardsOf b)) → YardValues b
+rise-values b t =
+    let r = rises-facts 0 (yardsOf b) t in
+    record {
+      below = λ i h. omega (arith, yards-at b i h, r .below i (omega (arith, yards-length b)));
+      rising = λ i h. omega (arith, yards-at b i (omega arith), yards-at b (i + 1) h, r .rising i (i + 1) (omega arith) (omega (arith, yards-length b)));
+    }
+
+pub values-rise : (b : List ℕ) → YardValues b → T (yardsRise 0 (yardsOf b))
+values-rise b v =
+    facts-rises 0 (yardsOf b) (λ h. omega arith)
+    (λ i h. omega (arith, yards-at b i (omega (arith, yards-length b)), v .below i (omega (arith, yards-length b))))
+    (λ i h. omega (
+      arith,
+      yards-at b i (omega (arith, yards-length b)),
+      yards-at b (i + 1) (omega (arith, yards-length b)),
+      v .rising i (omega (arith, yards-length b)),
+    ))
+
+-- test 8 holds exactly if each yard is a junction
+pub inside-yards : (b : List ℕ) (n : ℕ) → T (inside n (yardsOf b)) → (i : ℕ) → i < yardCount b → yardAt b i < n
+inside-yards b n t i h = omega (arith, yards-at b i h, inside-all n (yardsOf b) t i (omega (arith, yards-length b)))
+
+pub yards-within : (b : List ℕ) (n : ℕ) → ((i : ℕ) → i < yardCount b → yardAt b i < n) → T (inside n (yardsOf b))
+yards-within b n f =
+    all-inside n (yardsOf b) (λ i h. omega (arith, yards-at b i (omega (arith, yards-length b)), f i (omega (arith, yards-length b))))
 
 -- what the tests after the opening say
 record Body (b : List ℕ) : Type 0 where
@@ -86,14 +115,14 @@ pub layout : (b : List ℕ) → yardRefusal b ≡ 0 → YardLayout b
 unfolding yardRefusal
 layout b e =
     let f = body-facts b (first-none _ _ e .1) in
-    let r = rises-facts 0 (yardsOf b) (f .rise) in
+    let v = rise-values b (f .rise) in
     record {
       opening = opens b 2 (first-none _ _ e .0);
       least = f .least;
       most = f .most;
       sized = f .sized;
-      below = λ i h. omega (arith, yards-at b i h, r .below i (omega (arith, yards-length b)));
-      rising = λ i h. omega (arith, yards-at b i (omega arith), yards-at b (i + 1) h, r .rising i (i + 1) (omega arith) (omega (arith, yards-length b)));
+      below = v .below;
+      rising = v .rising;
     }
 
 -- and a book that is so laid out is not turned back
@@ -105,16 +134,7 @@ layout-zero b y =
       least = y .least;
       most = y .most;
       sized = y .sized;
-      rise = facts-rises 0 (yardsOf b) (λ h. omega arith)
-          (λ i h. omega (arith, yards-length b, yards-at b i (omega (arith, yards-length b)), y .below i (omega (arith, yards-length b))))
-          (λ i h. omega (
-            arith,
-            yards-length b,
-            yards-at b i (omega (arith, yards-length b)),
-            yards-at b (i + 1) (omega (arith, yards-length b)),
-            y .rising i
-                (omega (arith, yards-length b)),
-          ));
+      rise = values-rise b (record { below = y .below; rising = y .rising });
     })
 
 -- no test fails if and only if the book is laid out as 01 says
@@ -193,12 +213,10 @@ yard-layout-in b n = (to, from)
     to e =
         let p = first-none _ _ e in
         let t = passed _ _ _ (p .1) (omega arith) .0 in
-        (layout b (p .0), λ i h. omega (arith, yards-at b i h, inside-all n (yardsOf b) t i (omega (arith, yards-length b))))
+        (layout b (p .0), inside-yards b n t)
 
     from : YardLayout b × ((i : ℕ) → i < yardCount b → yardAt b i < n) → yardRefusalIn b n ≡ 0
-    from y =
-        within b n (layout-zero b (y .0))
-        (all-inside n (yardsOf b) (λ i h. omega (arith, yards-at b i (omega (arith, yards-length b)), y .1 i (omega (arith, yards-length b)))))
+    from y = within b n (layout-zero b (y .0)) (yards-within b n (y .1))
 
 -- 8 if and only if the book passes its own tests and some yard is no junction of the road book
 pub yard-eight : (b : List ℕ) (n : ℕ) → yardRefusalIn b n ≡ 8 ↔ YardLayout b × ((i : ℕ) × (i < yardCount b) × (n ≤ yardAt b i))

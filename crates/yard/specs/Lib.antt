@@ -1,1 +1,2 @@
 pub mod Yards
+pub mod Tests
