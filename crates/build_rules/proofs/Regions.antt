@@ -37,18 +37,18 @@ module _ (g : Given) where
   -- ---- landmarks
 
   -- what a leaf's landmark is, and an inner region's
-  record LeafMark (a s : ℕ) (ys : List ℕ) (k : Mark) : Type 0 where
+  pub record LeafMark (a s : ℕ) (ys : List ℕ) (k : Mark) : Type 0 where
     pub at : Mem (k .place) (landmarksOf g a s)
     pub list : k .list ≡ rankedList (g .d) (k .place) ys
     pub form : k ≡ leafMark (k .place) (k .list)
 
-  record InnerMark (a s : ℕ) (ys : List ℕ) (k : Mark) : Type 0 where
+  pub record InnerMark (a s : ℕ) (ys : List ℕ) (k : Mark) : Type 0 where
     pub at : Mem (k .place) (landmarksOf g a s)
     pub low : k .least ≡ least (g .d (k .place)) ys
     pub high : k .greatest ≡ greatest (g .d (k .place)) ys
     pub form : k ≡ innerMark (k .place) (k .least) (k .greatest)
 
-  leaf-mark : (a s : ℕ) (ys : List ℕ) (k : Mark) → Mem k (leafRegion g a s ys .marks) → LeafMark a s ys k
+  pub leaf-mark : (a s : ℕ) (ys : List ℕ) (k : Mark) → Mem k (leafRegion g a s ys .marks) → LeafMark a s ys k
   unfolding leafRegion
   leaf-mark a s ys k i =
       let x = map-mem (λ l. leafMark l (rankedList (g .d) l ys)) (landmarksOf g a s) k i in
@@ -56,7 +56,7 @@ module _ (g : Given) where
       let q = leaf-pairs (x .0) (rankedList (g .d) (x .0) ys) in
       rw (x .2) (record { at = rw p (x .1); list = rw (p, q) refl; form = leaf-form (x .0) (rankedList (g .d) (x .0) ys) })
 
-  inner-mark : (a s q : ℕ) (ys : List ℕ) (k : Mark) → Mem k (innerRegion g a s q ys .marks) → InnerMark a s ys k
+  pub inner-mark : (a s q : ℕ) (ys : List ℕ) (k : Mark) → Mem k (innerRegion g a s q ys .marks) → InnerMark a s ys k
   unfolding innerRegion
   inner-mark a s q ys k i =
       let x = map-mem (λ l. innerMark l (least (g .d l) ys) (greatest (g .d l) ys)) (landmarksOf g a s) k i in
