@@ -1,10 +1,10 @@
 -- A range's border junctions and landmarks are those that are stated, and no others are. Assumes nothing.
 use mathlib.Core.Path.{_≡_, refl, sym, ap, _∙_}
-use mathlib.Core.Logic.{_⊎_, inl, inr, _↔_}
-use mathlib.Core.Bool.{Bool, true, false, not, _&&_, _||_}
+use mathlib.Core.Logic.{_⊎_, inl, inr}
+use mathlib.Core.Bool.{_&&_, _||_}
 use mathlib.Core.List.{List, [], _∷_, map, List·Memᴰ as Mem, List·Memᴰ·head as head, List·Memᴰ·tail as tail, List·Memᴰ·not-nil as not-nil}
 use mathlib.Core.List.{List·Memᴰ·cases-cons as cases-cons}
-use Prim.Native.Nat.{ℕ, zero, suc, _+_, _*_, _/_, _≤_, _<_}
+use Prim.Native.Nat.{ℕ, zero, suc, _+_, _≤_, _<_}
 use native.Mathlib.Decide.{ℕ-discrete, decLt}
 use native.Mathlib.Omega.{arith}
 use lib.ListN.{length, getD, length-map}
@@ -12,15 +12,15 @@ use lib.Seq.{ext-getD}
 use lib.Dec.{T, T-not, ltb, leb, eqb, eqb→eq, ltb→lt, leb→le, lt→ltb, le→leb}
 use Rattle.book.specs.Choose.{choose}
 use Rattle.book.proofs.Choosing.{choose-case, and-left, and-right, and-both}
-use Rattle.book.proofs.Lists.{or-left, or-right, or-cases, eq→eqb, getD-mem, mem-getD}
+use Rattle.book.proofs.Lists.{or-left, or-right, or-cases, eq→eqb, getD-mem}
 use Rattle.road_layout.specs.Road.{Road}
 use Rattle.tree_layout.specs.Values.{Mark, noMark}
 use Rattle.build_rules.specs.Cut.{Given, outside, leadsOut, isBorder, bordersFrom, borders, landmark, landmarksFrom, landmarksOf}
-use Rattle.build_rules.specs.Cuts.{Terms, OfRange, Joins, IsBorder, Borders, IsLandmark, Landmarks}
+use Rattle.build_rules.specs.Cuts.{OfRange, Joins, IsBorder, Borders, IsLandmark, Landmarks}
 use Rattle.build_rules.specs.Facts.{termsOf}
-use Rattle.build_rules.proofs.Ordered.{Ordered, ordered-same}
+use Rattle.build_rules.proofs.Ordered.{ordered-same}
 use Rattle.build_rules.proofs.Parts.{Rising, rising-places, places-rising}
-use Rattle.build_rules.proofs.Landmarks.{borders-range, landmark-none, landmark-some, landmark-in, landmarks-none, landmarks-next, landmarks-are}
+use Rattle.build_rules.proofs.Landmarks.{borders-range, landmark-none, landmark-some, landmark-in, landmarks-next, landmarks-are}
 use Rattle.build_rules.proofs.Landmarks.{landmarks-length, borders-are}
 
 -- ---- a road out of the range

@@ -1,24 +1,20 @@
 -- What cutting gives: some trees side by side over neighbouring ranges, as one inductive type. Assumes nothing.
-use mathlib.Core.Path.{_≡_, refl, sym, ap, _∙_}
-use mathlib.Core.Logic.{_⊎_, inl, inr, _≢_}
-use mathlib.Core.Bool.{Bool, true, false, not}
-use mathlib.Core.List.{List, [], _∷_, _++_, List·Memᴰ as Mem, List·Memᴰ·not-nil as not-nil, List·Memᴰ·cases-cons as cases-cons}
-use mathlib.Core.List.{List·Memᴰ·append-cases as append-cases}
+use mathlib.Core.Path.{_≡_, refl, ap, _∙_}
+use mathlib.Core.Logic.{_≢_}
+use mathlib.Core.List.{List, [], _∷_, _++_, List·Memᴰ as Mem}
 use Prim.Native.Nat.{ℕ, zero, suc, _+_, _-_, _*_, _≤_, _<_}
 use native.Mathlib.Decide.{ℕ-discrete}
 use native.Mathlib.Omega.{arith}
-use lib.ListN.{length, getD, length-append}
-use lib.Dec.{T, leb, eqb, eqb→eq, leb→le, nleb→lt, le→leb}
-use Rattle.book.specs.Choose.{choose}
-use Rattle.book.specs.Lists.{Distinct}
-use Rattle.book.proofs.Choosing.{choose-case, choose-yes}
+use lib.ListN.{length, length-append}
+use lib.Dec.{leb, eqb, eqb→eq, leb→le}
+use Rattle.book.proofs.Choosing.{choose-case}
 use Rattle.book.proofs.Lists.{neqb→ne}
 use Rattle.tree_layout.specs.Values.{Region}
 use Rattle.check_rules.specs.Truth.{within}
 use Rattle.check_rules.proofs.Within.{within-mem}
 use Rattle.build_rules.specs.Cut.{Given, leafRegion, innerRegion, cutAt, cutPart, partCount, partRegions, cut}
 use Rattle.build_rules.specs.Facts.{fours}
-use Rattle.build_rules.proofs.Parts.{Rising, rising-distinct, within-rising, within-none, within-all, within-split, few, cut-first, cut-last, cut-rise}
+use Rattle.build_rules.proofs.Parts.{Rising, within-rising, within-none, within-all, within-split, few, cut-first, cut-last, cut-rise}
 use Rattle.build_rules.proofs.Parts.{cut-small, cut-top, parts-count, part-is, count-drop, count-keep, regions-drop, regions-keep, count-none}
 use Rattle.build_rules.proofs.Parts.{regions-none}
 

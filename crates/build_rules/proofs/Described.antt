@@ -4,18 +4,14 @@ use mathlib.Core.Logic.{_⊎_, inl, inr}
 use mathlib.Core.List.{List, [], _∷_, map, List·Memᴰ as Mem, List·Memᴰ·not-nil as not-nil, List·Memᴰ·cases-cons as cases-cons, Memᴰ·cast as cast}
 use Prim.Native.Nat.{ℕ, _+_, _≤_, _<_}
 use native.Mathlib.Omega.{arith}
-use lib.ListN.{length}
-use Rattle.book.specs.Lists.{Distinct}
-use Rattle.tree_layout.specs.Values.{Element, Mark, Region, leafMark, innerMark}
+use Rattle.tree_layout.specs.Values.{Element, Region, leafMark, innerMark}
 use Rattle.tree_layout.specs.Facts.{Before, RisingFrom, Rising}
 use Rattle.tree_layout.proofs.MarkFields.{leaf-place, inner-place}
-use Rattle.tree_leaf.specs.Leaf.{yardsIn}
 use Rattle.tree_leaf.proofs.Named.{yards-of, yards-from}
 use Rattle.check_rules.specs.Truth.{least, greatest}
-use Rattle.check_rules.specs.Facts.{IsLeast, IsGreatest}
-use Rattle.check_rules.proofs.Extremes.{least-is, greatest-is, one-least, one-greatest}
+use Rattle.check_rules.proofs.Extremes.{least-is, greatest-is}
 use Rattle.build_rules.specs.Cut.{Given, landmarksOf, rankedList, leafRegion, innerRegion}
-use Rattle.build_rules.specs.Cuts.{Terms, OfRange, Landmarks, ListOf, LeastOf, GreatestOf, LeafLandmark, InnerLandmark, RecordOf}
+use Rattle.build_rules.specs.Cuts.{OfRange, ListOf, LeastOf, GreatestOf, LeafLandmark, InnerLandmark, RecordOf}
 use Rattle.build_rules.specs.Facts.{termsOf, Measures}
 use Rattle.build_rules.proofs.Ordered.{Ordered, ordered-same}
 use Rattle.build_rules.proofs.Ranked.{before-trans, ranked-is, ranked-yard, yard-ranked, ranked-distinct, ranked-rises}

@@ -1,5 +1,5 @@
 -- A region's landmarks: m of them, in its range. Assumes nothing.
-use mathlib.Core.Path.{_≡_, refl, sym, ap, _∙_}
+use mathlib.Core.Path.{_≡_, refl, ap}
 use mathlib.Core.Logic.{_⊎_, inl, inr}
 use mathlib.Core.Bool.{true, false, _&&_, _||_}
 use mathlib.Core.List.{List, [], _∷_, List·Memᴰ as Mem, List·Memᴰ·not-nil as not-nil, List·Memᴰ·cases-cons as cases-cons}
@@ -9,9 +9,8 @@ use native.Mathlib.Decide.{ℕ-discrete}
 use native.Mathlib.Omega.{arith}
 use lib.ListN.{length, getD}
 use lib.Dec.{T, ltb, leb, eqb, not-T, leb→le, ltb→lt, le→leb, lt→ltb}
-use Rattle.book.specs.Choose.{choose}
 use Rattle.book.proofs.Choosing.{choose-case, choose-yes, choose-no, T-true, T-false, true-T, false-T}
-use Rattle.book.proofs.Lists.{or-left, or-right, or-cases, eq→eqb, ne→neqb, neqb→ne, getD-mem}
+use Rattle.book.proofs.Lists.{or-left, or-right, or-cases, eq→eqb, ne→neqb, getD-mem}
 use Rattle.road_layout.specs.Road.{Road}
 use Rattle.build_rules.specs.Cut.{Given, outside, leadsOut, isBorder, bordersFrom, borders, landmark, landmarksFrom, landmarksOf}
 

@@ -1,15 +1,14 @@
 -- The regions that cutting gives are those that the stated cuts give, and no others are. Assumes nothing.
 use mathlib.Core.Path.{_≡_, refl, sym, ap, _∙_}
-use mathlib.Core.Logic.{_≢_}
-use mathlib.Core.List.{List, [], _∷_, _++_, List·Memᴰ as Mem}
-use Prim.Native.Nat.{ℕ, zero, suc, _+_, _-_, _*_, _/_, _≤_, _<_}
+use mathlib.Core.List.{List, [], _∷_, _++_}
+use Prim.Native.Nat.{ℕ, zero, suc, _+_, _-_, _*_, _≤_, _<_}
 use native.Mathlib.Decide.{ℕ-discrete, decLe}
 use native.Mathlib.Omega.{arith}
 use lib.ListN.{length}
 use Rattle.tree_layout.specs.Values.{Region}
 use Rattle.check_rules.specs.Truth.{within}
 use Rattle.build_rules.specs.Cut.{Given, leafRegion, innerRegion, cutAt, cutPart, partCount, partRegions, cut}
-use Rattle.build_rules.specs.Cuts.{Terms, RecordOf, LeafLandmark, InnerLandmark, IsPart, CutRange, CutParts, leaf, replaced, inner, end, dropped, kept}
+use Rattle.build_rules.specs.Cuts.{IsPart, CutRange, CutParts, leaf, replaced, inner, end, dropped, kept}
 use Rattle.build_rules.specs.Facts.{fours, termsOf, Measures}
 use Rattle.build_rules.proofs.Parts.{few, cut-is, cut-rise, cut-small, cut-top, part-is, count-drop, count-keep, regions-drop, regions-keep, count-none}
 use Rattle.build_rules.proofs.Parts.{Rising, regions-none}
@@ -50,21 +49,19 @@ module _ (g : Given) (D : ℕ → ℕ → ℕ → Type 0) (n : ℕ) (known : Mea
       part : IsPart a s j (cutAt a s j) (cutAt a s (suc j))
       part = part-exact a s j (omega arith)
 
+      moved : {rs : List Region} → CutRange (termsOf g D) (cutAt a s j) (cutAt a s (suc j) - cutAt a s j) (cutPart a s ys j) rs
+          → CutRange (termsOf g D) (cutAt a s j) (cutAt a s (suc j) - cutAt a s j) (within (cutAt a s j) (cutAt a s (suc j)) ys) rs
+      moved w = rw (part-is a s ys j) at w
+
       go : Dec (length (cutPart a s ys j) ≡ 0) → CutParts (termsOf g D) a s ys (suc j) (partCount a s ys c (suc j)) (partRegions (cut g k) a s ys c (suc j))
           → CutParts (termsOf g D) a s ys j (partCount a s ys (suc c) j) (partRegions (cut g k) a s ys (suc c) j)
       go (yes z) f = rw (count-drop (cut g k) a s ys c j z, regions-drop (cut g k) a s ys c j z) (dropped part (rw (part-is a s ys j) at z) f)
       go (no z) f =
           let p : 0 < length (cutPart a s ys j) = omega arith in
-          let top = cut-top a s (suc j) c (omega arith) in
           let held = part-held g n one a s ys j (v .rising) p in
-          let w = rec (cutAt a s j) (cutAt a s (suc j) - cutAt a s j) (cutPart a s ys j) held (omega (arith, top, cut-rise a s j)) (cut-small a s j (fours k) h) in
-          let q : CutRange (termsOf g D) (cutAt a s j) (cutAt a s (suc j) - cutAt a s j) (within (cutAt a s j) (cutAt a s (suc j)) ys) (cut g k (cutAt a s j)
-          (cutAt a s (suc j) - cutAt a s j) (cutPart a s ys j)) = part-moved w in
-          rw (count-keep (cut g k) a s ys c j p, regions-keep (cut g k) a s ys c j p) (kept part (rw (part-is a s ys j) at p) q f)
-        where
-          part-moved : {rs : List Region} → CutRange (termsOf g D) (cutAt a s j) (cutAt a s (suc j) - cutAt a s j) (cutPart a s ys j) rs
-              → CutRange (termsOf g D) (cutAt a s j) (cutAt a s (suc j) - cutAt a s j) (within (cutAt a s j) (cutAt a s (suc j)) ys) rs
-          part-moved w = rw (part-is a s ys j) at w
+          let inside : cutAt a s j + (cutAt a s (suc j) - cutAt a s j) ≤ n = omega (arith, cut-top a s (suc j) c (omega arith), cut-rise a s j) in
+          let w = rec (cutAt a s j) (cutAt a s (suc j) - cutAt a s j) (cutPart a s ys j) held inside (cut-small a s j (fours k) h) in
+          rw (count-keep (cut g k) a s ys c j p, regions-keep (cut g k) a s ys c j p) (kept part (rw (part-is a s ys j) at p) (moved w) f)
 
   pub cut-exact : (k : ℕ) → Exact k
   cut-exact zero a s ys v b h = rw (cut-none g 0 a s ys) (leaf (small a s ys v h) (leaf-exact g D n known a s ys v b))

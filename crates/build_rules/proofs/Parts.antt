@@ -1,14 +1,12 @@
 -- The parts of a range and their yards. Assumes nothing.
-use mathlib.Core.Path.{_≡_, refl, sym, ap, _∙_}
-use mathlib.Core.Bool.{_&&_}
-use mathlib.Core.List.{List, [], _∷_, _++_, List·Memᴰ as Mem, List·Memᴰ·head as head, List·Memᴰ·tail as tail, List·Memᴰ·not-nil as not-nil}
+use mathlib.Core.Path.{_≡_, refl, ap, _∙_}
+use mathlib.Core.List.{List, [], _∷_, _++_, List·Memᴰ as Mem, List·Memᴰ·head as head, List·Memᴰ·tail as tail}
 use Prim.Native.Nat.{ℕ, zero, suc, _+_, _-_, _*_, _/_, _≤_, _<_}
 use native.Mathlib.Nat.{suc-mul}
 use native.Mathlib.Decide.{decLt}
 use native.Mathlib.Omega.{arith}
 use lib.ListN.{length, getD}
-use lib.Dec.{T, eqb}
-use Rattle.book.specs.Choose.{choose}
+use lib.Dec.{eqb}
 use Rattle.book.specs.Lists.{Distinct}
 use Rattle.book.proofs.Choosing.{choose-case, choose-yes, choose-no}
 use Rattle.book.proofs.Lists.{eq→eqb, ne→neqb, getD-mem, mem-getD}

@@ -1,16 +1,15 @@
 -- A built region's form, values and lists. Assumes nothing.
-use mathlib.Core.Path.{_≡_, refl, sym, ap, _∙_}
+use mathlib.Core.Path.{_≡_, refl, _∙_}
 use mathlib.Core.Logic.{_⊎_, inl, inr}
-use mathlib.Core.List.{List, [], _∷_, _++_, map, List·Memᴰ as Mem, List·Memᴰ·head as head, List·Memᴰ·not-nil as not-nil, List·Memᴰ·cases-cons as cases-cons}
+use mathlib.Core.List.{List, [], _∷_, List·Memᴰ as Mem, List·Memᴰ·head as head, List·Memᴰ·not-nil as not-nil, List·Memᴰ·cases-cons as cases-cons}
 use mathlib.Core.List.{List·Memᴰ·append-cases as append-cases}
-use Prim.Native.Nat.{ℕ, zero, suc, _+_, _≤_, _<_}
+use Prim.Native.Nat.{ℕ, _+_, _≤_, _<_}
 use native.Mathlib.Omega.{arith}
 use lib.ListN.{length, length-map, length-append}
 use lib.Dec.{T}
-use Rattle.book.specs.Lists.{Distinct}
 use Rattle.book.proofs.Lists.{map-mem}
-use Rattle.tree_layout.specs.Values.{Element, Mark, Region, leafMark, innerMark}
-use Rattle.tree_layout.specs.Facts.{Rising, RegionValues}
+use Rattle.tree_layout.specs.Values.{Mark, Region, leafMark, innerMark}
+use Rattle.tree_layout.specs.Facts.{RegionValues}
 use Rattle.tree_layout.specs.Formed.{Formed}
 use Rattle.tree_layout.proofs.MarkFields.{leaf-place, leaf-pairs, leaf-form, inner-place, inner-least, inner-greatest, inner-form}
 use Rattle.tree_leaf.specs.Leaf.{firstList, leafOk}

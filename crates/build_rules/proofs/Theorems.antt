@@ -1,23 +1,20 @@
 -- What is proved of the tree that building gives. Assumes nothing.
-use mathlib.Core.Path.{_≡_, refl, sym, ap, _∙_}
-use mathlib.Core.Bool.{true}
-use mathlib.Core.List.{List, [], _∷_, _++_, append-nil, List·Memᴰ as Mem}
-use Prim.Native.Nat.{ℕ, zero, suc, _+_, _-_, _≤_, _<_}
+use mathlib.Core.Path.{_≡_, refl, sym, _∙_}
+use mathlib.Core.List.{List, [], _++_, append-nil, List·Memᴰ as Mem}
+use Prim.Native.Nat.{ℕ, _+_, _-_, _≤_, _<_}
 use native.Mathlib.Omega.{arith}
-use lib.ListN.{length, getD}
-use lib.Dec.{T, leb, eqb}
-use Rattle.book.specs.Choose.{choose}
+use lib.ListN.{length}
+use lib.Dec.{T}
 use Rattle.book.proofs.Lists.{mem-getD}
 use Rattle.tree_layout.specs.Values.{Region, Tree, regionAt}
 use Rattle.tree_layout.specs.Decode.{decode}
 use Rattle.tree_layout.specs.Facts.{RegionValues}
 use Rattle.tree_layout.specs.Formed.{FormedTree}
-use Rattle.tree.specs.Shape.{siblings, subtree, levels, shaped, treeRefusal}
+use Rattle.tree.specs.Shape.{subtree, levels, shaped, treeRefusal}
 use Rattle.tree.specs.Yards.{oneLeaf, oneInner, yardsBelow, treeYards}
-use Rattle.tree.specs.Facts.{Preorder, TreeShape}
-use Rattle.tree.proofs.Forest.{Rooted, siblings-next}
+use Rattle.tree.proofs.Forest.{siblings-next}
 use Rattle.tree.proofs.ForestLaws.{Sane, leaf-count, inner-count}
-use Rattle.tree.proofs.Shaping.{found-preorder, root-forest, root-yards, shape-facts}
+use Rattle.tree.proofs.Shaping.{found-preorder, root-forest, shape-facts}
 use Rattle.tree.proofs.Descent.{siblings-ended, shaped-by}
 use Rattle.tree.proofs.Ranges.{tree-span}
 use Rattle.tree.proofs.Sums.{sum-all, all-counted}
@@ -25,10 +22,9 @@ use Rattle.tree.proofs.Theorems.{sane-of}
 use Rattle.tree_encode.specs.Encode.{encode}
 use Rattle.tree_encode.specs.Facts.{SoundTree, SmallTree}
 use Rattle.tree_encode.proofs.Theorems.{written}
-use Rattle.check_rules.specs.Truth.{trueTree, trueBeside}
 use Rattle.check_rules.specs.Facts.{TrueNumbers, Same}
 use Rattle.check_rules.proofs.Theorems.{RegionTrue, tested}
-use Rattle.build_rules.specs.Cut.{Given, leafRegion, innerRegion, partCount, partRegions, cut, cutTree}
+use Rattle.build_rules.specs.Cut.{Given, cut, cutTree}
 use Rattle.build_rules.specs.Facts.{fours, InLimits, Measures, OneTree, Built}
 use Rattle.build_rules.proofs.Parts.{rising-places}
 use Rattle.build_rules.proofs.Cutting.{Held, CutForest, forest-length, cut-forest}

@@ -111,8 +111,8 @@ mutual
     -- "A range starting at a with s junctions is a leaf if it has no more yards than the limit."
     leaf : {a s : ℕ} {ys : List ℕ} {r : Region} → length ys ≤ g .limit → RecordOf g a s 0 ys (LeafLandmark g ys) r
         → CutRange g a s ys (r ∷ [])
-    -- "Otherwise it is cut": into parts of which one has yards; "a region with one child is replaced by the child, whose
-    -- range and landmarks stay"
+    -- "Otherwise it is cut": into parts of which one has yards; "a region with one child is replaced by the child,
+    -- whose range and landmarks stay"
     replaced : {a s : ℕ} {ys : List ℕ} {rs : List Region} → g .limit < length ys → CutParts g a s ys 0 1 rs
         → CutRange g a s ys rs
     -- or into parts of which two or more have yards: its record, and the regions of its children

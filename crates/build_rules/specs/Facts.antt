@@ -2,12 +2,12 @@
 use mathlib.Core.Path.{_≡_}
 use mathlib.Core.Bool.{true}
 use mathlib.Core.List.{List, [], _∷_, List·Memᴰ as Mem}
-use Prim.Native.Nat.{ℕ, zero, suc, _+_, _*_, _≤_, _<_}
+use Prim.Native.Nat.{ℕ, zero, suc, _*_, _≤_, _<_}
 use lib.ListN.{length, getD}
 use lib.Dec.{ltb}
 use Rattle.book.specs.Choose.{choose}
 use Rattle.book.specs.Bytes.{Bytes}
-use Rattle.tree_layout.specs.Values.{Region, Tree}
+use Rattle.tree_layout.specs.Values.{Region}
 use Rattle.tree_layout.specs.Decode.{decode}
 use Rattle.tree.specs.Shape.{treeRefusal}
 use Rattle.tree.specs.Yards.{treeYards}

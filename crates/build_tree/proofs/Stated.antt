@@ -1,7 +1,7 @@
 -- An accepted call's tree is the one that the stated cuts give. Assumes nothing.
 use mathlib.Core.Path.{_≡_, refl, sym, _∙_}
 use mathlib.Core.List.{List}
-use Prim.Native.Nat.{ℕ, _<_}
+use Prim.Native.Nat.{ℕ}
 use Rattle.road_layout.specs.Road.{junctions}
 use Rattle.adjacency.specs.Arcs.{net}
 use Rattle.road.specs.Walk.{Least}

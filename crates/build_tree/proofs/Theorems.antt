@@ -24,7 +24,6 @@ use Rattle.tree.specs.Facts.{Preorder}
 use Rattle.check_rules.specs.Truth.{trueTree}
 use Rattle.check_rules.specs.Facts.{Same}
 use Rattle.tree_encode.specs.Encode.{encode}
-use Rattle.build_records.specs.Given.{given}
 use Rattle.build_records.proofs.Fields.{given-d, given-limit}
 use Rattle.check_tree.specs.Check.{checkAnswer}
 use Rattle.check_tree.proofs.Theorems.{true-passes}
