@@ -13,8 +13,7 @@ use Rattle.tree_layout.specs.Values.{Region}
 use Rattle.check_rules.specs.Truth.{within}
 use Rattle.check_rules.proofs.Within.{within-mem}
 use Rattle.build_rules.specs.Cut.{Given, leafRegion, innerRegion, cutAt, cutPart, partCount, partRegions, cut}
-use Rattle.build_rules.specs.Facts.{fours}
-use Rattle.build_rules.proofs.Parts.{Rising, within-rising, within-none, within-all, within-split, few, cut-first, cut-last, cut-rise}
+use Rattle.build_rules.proofs.Parts.{fours, Rising, within-rising, within-none, within-all, within-split, few, cut-first, cut-last, cut-rise}
 use Rattle.build_rules.proofs.Parts.{cut-small, cut-top, parts-count, part-is, count-drop, count-keep, regions-drop, regions-keep, count-none}
 use Rattle.build_rules.proofs.Parts.{regions-none}
 

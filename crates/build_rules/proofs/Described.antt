@@ -9,9 +9,11 @@ use Rattle.tree_layout.specs.Facts.{Before, RisingFrom, Rising}
 use Rattle.tree_layout.proofs.MarkFields.{leaf-place, inner-place}
 use Rattle.tree_leaf.proofs.Named.{yards-of, yards-from}
 use Rattle.check_rules.specs.Truth.{least, greatest}
+use Rattle.check_rules.specs.Extremes.{LeastOf, GreatestOf}
 use Rattle.check_rules.proofs.Extremes.{least-is, greatest-is}
+use Rattle.check_rules.proofs.ByDistance.{least-of-one, greatest-of-one, least-away, greatest-away}
 use Rattle.build_rules.specs.Cut.{Given, landmarksOf, rankedList, leafRegion, innerRegion}
-use Rattle.build_rules.specs.Cuts.{OfRange, ListOf, LeastOf, GreatestOf, LeafLandmark, InnerLandmark, RecordOf}
+use Rattle.build_rules.specs.Cuts.{OfRange, ListOf, LeafLandmark, InnerLandmark, RecordOf}
 use Rattle.build_rules.specs.Facts.{termsOf, Measures}
 use Rattle.build_rules.proofs.Ordered.{Ordered, ordered-same}
 use Rattle.build_rules.proofs.Ranked.{before-trans, ranked-is, ranked-yard, yard-ranked, ranked-distinct, ranked-rises}
@@ -75,29 +77,13 @@ module _ (g : Given) (D : ℕ → ℕ → ℕ → Type 0) (n : ℕ) (known : Mea
 
     -- ---- least and greatest
 
-    least-exact : (l : ℕ) → OfRange a s l → LeastOf (termsOf g D) ys l (least (g .d l) ys)
+    least-exact : (l : ℕ) → OfRange a s l → LeastOf (λ y. Mem y ys) (D l) (least (g .d l) ys)
     least-exact l i =
-        let x = least-is (g .d l) ys (held .some) in
-        record {
-          reached = (x .reached .0, x .reached .1, rw (← x .reached .2) (total l (x .reached .0) i (x .reached .1)));
-          low = λ y t k p. omega (arith, x .low y k, known .one l y t (g .d l y) p (total l y i k));
-        }
+        least-away (g .d l) ys (D l) (λ y k. total l y i k) (λ y t u. known .one l y t u) (least (g .d l) ys) (least-is (g .d l) ys (held .some))
 
-    greatest-exact : (l : ℕ) → OfRange a s l → GreatestOf (termsOf g D) ys l (greatest (g .d l) ys)
+    greatest-exact : (l : ℕ) → OfRange a s l → GreatestOf (λ y. Mem y ys) (D l) (greatest (g .d l) ys)
     greatest-exact l i =
-        let x = greatest-is (g .d l) ys (held .some) in
-        record {
-          reached = (x .reached .0, x .reached .1, rw (← x .reached .2) (total l (x .reached .0) i (x .reached .1)));
-          high = λ y t k p. omega (arith, x .high y k, known .one l y t (g .d l y) p (total l y i k));
-        }
-
-    least-one : (l x z : ℕ) → LeastOf (termsOf g D) ys l x → LeastOf (termsOf g D) ys l z → x ≡ z
-    least-one l x z p q =
-        omega (arith, p .low (q .reached .0) z (q .reached .1) (q .reached .2), q .low (p .reached .0) x (p .reached .1) (p .reached .2))
-
-    greatest-one : (l x z : ℕ) → GreatestOf (termsOf g D) ys l x → GreatestOf (termsOf g D) ys l z → x ≡ z
-    greatest-one l x z p q =
-        omega (arith, p .high (q .reached .0) z (q .reached .1) (q .reached .2), q .high (p .reached .0) x (p .reached .1) (p .reached .2))
+        greatest-away (g .d l) ys (D l) (λ y k. total l y i k) (λ y t u. known .one l y t u) (greatest (g .d l) ys) (greatest-is (g .d l) ys (held .some))
 
     -- ---- records
 
@@ -148,6 +134,7 @@ module _ (g : Given) (D : ℕ → ℕ → ℕ → Type 0) (n : ℕ) (known : Mea
         marks : r .marks ≡ map (λ l. innerMark l (least (g .d l) ys) (greatest (g .d l) ys)) (landmarksOf g a s)
         marks = marks-one g D a s (λ l. innerMark l (least (g .d l) ys) (greatest (g .d l) ys)) some (r .marks) (x .placed) (λ k i o.
             let z = x .each k i in
-            let low = least-one (k .place) (k .least) (least (g .d (k .place)) ys) (z .lowest) (least-exact (k .place) o) in
-            let high = greatest-one (k .place) (k .greatest) (greatest (g .d (k .place)) ys) (z .highest) (greatest-exact (k .place) o) in
+            let place = k .place in
+            let low = least-of-one (λ y. Mem y ys) (D place) (k .least) (least (g .d place) ys) (z .lowest) (least-exact place o) in
+            let high = greatest-of-one (λ y. Mem y ys) (D place) (k .greatest) (greatest (g .d place) ys) (z .highest) (greatest-exact place o) in
             z .form ∙ λ i. innerMark (k .place) (low i) (high i))

@@ -9,9 +9,9 @@ use Rattle.tree_layout.specs.Values.{Region}
 use Rattle.check_rules.specs.Truth.{within}
 use Rattle.build_rules.specs.Cut.{Given, leafRegion, innerRegion, cutAt, cutPart, partCount, partRegions, cut}
 use Rattle.build_rules.specs.Cuts.{IsPart, CutRange, CutParts, leaf, replaced, inner, end, dropped, kept}
-use Rattle.build_rules.specs.Facts.{fours, termsOf, Measures}
-use Rattle.build_rules.proofs.Parts.{few, cut-is, cut-rise, cut-small, cut-top, part-is, count-drop, count-keep, regions-drop, regions-keep, count-none}
-use Rattle.build_rules.proofs.Parts.{Rising, regions-none}
+use Rattle.build_rules.specs.Facts.{termsOf, Measures}
+use Rattle.build_rules.proofs.Parts.{fours, few, cut-is, cut-rise, cut-small, cut-top, part-is, count-drop}
+use Rattle.build_rules.proofs.Parts.{count-keep, regions-drop, regions-keep, count-none, Rising, regions-none}
 use Rattle.build_rules.proofs.Cutting.{Held, part-held, count-some}
 use Rattle.build_rules.proofs.Steps.{cut-none, cut-leaf, cut-one, cut-many}
 use Rattle.build_rules.proofs.Described.{leaf-exact, inner-exact, leaf-one, inner-one}

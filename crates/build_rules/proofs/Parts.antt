@@ -97,6 +97,11 @@ few a s (y ∷ z ∷ zs) r f h = absurd (omega (arith, r .0 z (head refl), f y (
 
 -- ---- cuts
 
+-- how many junctions so many cuts bring to one
+unfoldable pub fours : ℕ → ℕ
+fours zero = 1
+fours (suc k) = 4 * fours k
+
 pub cut-is : (a s i : ℕ) → cutAt a s i ≡ a + i * s / 4
 unfolding cutAt
 cut-is a s i = refl

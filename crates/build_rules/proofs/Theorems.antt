@@ -25,8 +25,8 @@ use Rattle.tree_encode.proofs.Theorems.{written}
 use Rattle.check_rules.specs.Facts.{TrueNumbers, Same}
 use Rattle.check_rules.proofs.Theorems.{RegionTrue, tested}
 use Rattle.build_rules.specs.Cut.{Given, cut, cutTree}
-use Rattle.build_rules.specs.Facts.{fours, InLimits, Measures, OneTree, Built}
-use Rattle.build_rules.proofs.Parts.{rising-places}
+use Rattle.build_rules.specs.Facts.{InLimits, Measures, OneTree, Built}
+use Rattle.build_rules.proofs.Parts.{fours, rising-places}
 use Rattle.build_rules.proofs.Cutting.{Held, CutForest, forest-length, cut-forest}
 use Rattle.build_rules.proofs.Steps.{tree-regions}
 use Rattle.build_rules.proofs.OneTree.{cut-exact, range-one}

@@ -11,6 +11,7 @@ use Rattle.tree_layout.specs.Values.{Element, Mark, Region, leafMark, innerMark
 use Rattle.tree_layout.specs.Facts.{Rising}
 use Rattle.tree_leaf.specs.Leaf.{yardsIn}
 use Rattle.check_rules.specs.Truth.{within}
+use Rattle.check_rules.specs.Extremes.{LeastOf, GreatestOf}
 
 -- "Given m (1 to 4) and a leaf limit (1 to 256).", the roads, and which number is the distance d(u, v)
 pub record Terms : Type 1 where
@@ -65,16 +66,6 @@ pub record ListOf (g : Terms) (ys : List ℕ) (l : ℕ) (es : List Element) : Ty
   pub measured : (e : Element) → Mem e es → g .Distance l (e .yard) (e .distance)
   pub rising : Rising es
 
--- x is the least of the distances from l to some yards: it is one of them, and none is below it
-pub record LeastOf (g : Terms) (ys : List ℕ) (l x : ℕ) : Type 0 where
-  pub reached : (y : ℕ) × Mem y ys × g .Distance l y x
-  pub low : (y t : ℕ) → Mem y ys → g .Distance l y t → x ≤ t
-
--- x is the greatest of them
-pub record GreatestOf (g : Terms) (ys : List ℕ) (l x : ℕ) : Type 0 where
-  pub reached : (y : ℕ) × Mem y ys × g .Distance l y x
-  pub high : (y t : ℕ) → Mem y ys → g .Distance l y t → t ≤ x
-
 -- "per landmark its junction u16 and, in a leaf," its list
 pub record LeafLandmark (g : Terms) (ys : List ℕ) (k : Mark) : Type 0 where
   pub form : k ≡ leafMark (k .place) (k .list)
@@ -83,8 +74,8 @@ pub record LeafLandmark (g : Terms) (ys : List ℕ) (k : Mark) : Type 0 where
 -- "in an inner region, least and greatest distance to its yards"
 pub record InnerLandmark (g : Terms) (ys : List ℕ) (k : Mark) : Type 0 where
   pub form : k ≡ innerMark (k .place) (k .least) (k .greatest)
-  pub lowest : LeastOf g ys (k .place) (k .least)
-  pub highest : GreatestOf g ys (k .place) (k .greatest)
+  pub lowest : LeastOf (λ y. Mem y ys) (g .Distance (k .place)) (k .least)
+  pub highest : GreatestOf (λ y. Mem y ys) (g .Distance (k .place)) (k .greatest)
 
 -- the record of a range with its yards and q children; `Fits` is what holds of each landmark
 pub record RecordOf (g : Terms) (a s q : ℕ) (ys : List ℕ) (Fits : Mark → Type 0) (r : Region) : Type 0 where

@@ -2,7 +2,7 @@
 use mathlib.Core.Path.{_≡_}
 use mathlib.Core.Bool.{true}
 use mathlib.Core.List.{List, [], _∷_, List·Memᴰ as Mem}
-use Prim.Native.Nat.{ℕ, zero, suc, _*_, _≤_, _<_}
+use Prim.Native.Nat.{ℕ, suc, _≤_, _<_}
 use lib.ListN.{length, getD}
 use lib.Dec.{ltb}
 use Rattle.book.specs.Choose.{choose}
@@ -32,11 +32,6 @@ pub record InLimits (g : Given) (junctions : ℕ) (ys : List ℕ) : Type 0 where
   pub limit-in : (1 ≤ g .limit) × (g .limit ≤ 256)
   -- "at most 67,042,305, which is 1,023 × 65,535"
   pub bounded : (u v : ℕ) → u < junctions → v < junctions → g .d u v ≤ 67042305
-
--- how many junctions so many cuts bring to one
-unfoldable pub fours : ℕ → ℕ
-fours zero = 1
-fours (suc k) = 4 * fours k
 
 -- how many yards at the start of a list are below x
 unfoldable pub countBelow : ℕ → List ℕ → ℕ
