@@ -26,6 +26,8 @@ use Rattle.tree_leaf.proofs.Named.{yards-of, first-mark}
 use Rattle.tree.specs.Yards.{yardsBelow, treeYards}
 use Rattle.tree.specs.Theorems.{LeafOf, Whole}
 use Rattle.tree.proofs.Ranges.{below-tree}
+use Rattle.tree.specs.RegionYards.{YardOf}
+use Rattle.tree.proofs.RegionYards.{region-yards}
 use Rattle.tree.proofs.Theorems.{tree-facts, accepted-whole}
 use Rattle.check_rules.specs.Truth.{trueTree}
 use Rattle.check_rules.specs.Facts.{IsLeast, IsGreatest, TrueNumbers, Same}
@@ -97,6 +99,10 @@ module _ (road yard tree : List ℕ) (words : ℕ) (laid : SoundBeside road yard
   yard-in : (r y : ℕ) → r < length rs → Mem y (yardsBelow rs r) → y < junctions road
   yard-in r y h k = omega (arith, whole .yard-below y (below-tree tree (laid .shape) r y h k), decode-junctions tree, laid .counts)
 
+  -- a region's yards are those below it
+  here : (r y : ℕ) → r < length rs → YardOf rs r y ↔ Mem y (yardsBelow rs r)
+  here = region-yards tree (laid .shape)
+
   -- the distance from a landmark to a yard below its region
   total : (r : ℕ) → r < length rs → (m : Mark) → Mem m (regionAt rs r .marks) → (y : ℕ) → Mem y (yardsBelow rs r)
       → Least (net road) (m .place) y (dist road (m .place) y)
@@ -114,17 +120,17 @@ module _ (road yard tree : List ℕ) (words : ℕ) (laid : SoundBeside road yard
   }
     where
       low : (r : ℕ) → r < length rs → (m : Mark) → Mem m (regionAt rs r .marks) → IsLeast (dist road (m .place)) (yardsBelow rs r) (m .least)
-          → LeastTotal (net road) (m .place) (yardsBelow rs r) (m .least)
+          → LeastTotal (net road) (m .place) (YardOf rs r) (m .least)
       low r h m k l = record {
-        reached = (l .reached .0, l .reached .1, rw (← l .reached .2) (total r h m k (l .reached .0) (l .reached .1)));
-        low = λ y s i p. omega (arith, l .low y i, least-unique p (total r h m k y i));
+        reached = (l .reached .0, here r (l .reached .0) h .1 (l .reached .1), rw (← l .reached .2) (total r h m k (l .reached .0) (l .reached .1)));
+        low = λ y s i p. let j = here r y h .0 i in omega (arith, l .low y j, least-unique p (total r h m k y j));
       }
 
       high : (r : ℕ) → r < length rs → (m : Mark) → Mem m (regionAt rs r .marks) → IsGreatest (dist road (m .place)) (yardsBelow rs r) (m .greatest)
-          → GreatestTotal (net road) (m .place) (yardsBelow rs r) (m .greatest)
+          → GreatestTotal (net road) (m .place) (YardOf rs r) (m .greatest)
       high r h m k l = record {
-        reached = (l .reached .0, l .reached .1, rw (← l .reached .2) (total r h m k (l .reached .0) (l .reached .1)));
-        high = λ y s i p. omega (arith, l .high y i, least-unique p (total r h m k y i));
+        reached = (l .reached .0, here r (l .reached .0) h .1 (l .reached .1), rw (← l .reached .2) (total r h m k (l .reached .0) (l .reached .1)));
+        high = λ y s i p. let j = here r y h .0 i in omega (arith, l .high y j, least-unique p (total r h m k y j));
       }
 
   totals-numbers : TrueTotals (net road) rs → TrueNumbers (dist road) t
@@ -134,18 +140,18 @@ module _ (road yard tree : List ℕ) (words : ℕ) (laid : SoundBeside road yard
     greatests = λ r h c m k. high r h m k (n .greatests r h c m k);
   }
     where
-      low : (r : ℕ) → r < length rs → (m : Mark) → Mem m (regionAt rs r .marks) → LeastTotal (net road) (m .place) (yardsBelow rs r) (m .least)
+      low : (r : ℕ) → r < length rs → (m : Mark) → Mem m (regionAt rs r .marks) → LeastTotal (net road) (m .place) (YardOf rs r) (m .least)
           → IsLeast (dist road (m .place)) (yardsBelow rs r) (m .least)
       low r h m k l = record {
-        reached = (l .reached .0, l .reached .1, least-unique (total r h m k (l .reached .0) (l .reached .1)) (l .reached .2));
-        low = λ y i. l .low y (dist road (m .place) y) i (total r h m k y i);
+        reached = let j = here r (l .reached .0) h .0 (l .reached .1) in (l .reached .0, j, least-unique (total r h m k (l .reached .0) j) (l .reached .2));
+        low = λ y i. l .low y (dist road (m .place) y) (here r y h .1 i) (total r h m k y i);
       }
 
-      high : (r : ℕ) → r < length rs → (m : Mark) → Mem m (regionAt rs r .marks) → GreatestTotal (net road) (m .place) (yardsBelow rs r) (m .greatest)
+      high : (r : ℕ) → r < length rs → (m : Mark) → Mem m (regionAt rs r .marks) → GreatestTotal (net road) (m .place) (YardOf rs r) (m .greatest)
           → IsGreatest (dist road (m .place)) (yardsBelow rs r) (m .greatest)
       high r h m k l = record {
-        reached = (l .reached .0, l .reached .1, least-unique (total r h m k (l .reached .0) (l .reached .1)) (l .reached .2));
-        high = λ y i. l .high y (dist road (m .place) y) i (total r h m k y i);
+        reached = let j = here r (l .reached .0) h .0 (l .reached .1) in (l .reached .0, j, least-unique (total r h m k (l .reached .0) j) (l .reached .2));
+        high = λ y i. l .high y (dist road (m .place) y) (here r y h .1 i) (total r h m k y i);
       }
 
   -- ---- the answer

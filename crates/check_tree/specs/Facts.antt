@@ -16,7 +16,7 @@ use Rattle.tree_layout.specs.Values.{Element, Mark, Region, regionAt}
 use Rattle.tree_layout.specs.Decode.{junctionCount, decode}
 use Rattle.tree_leaf.specs.Leaf.{yardsIn}
 use Rattle.tree.specs.Shape.{treeRefusal}
-use Rattle.tree.specs.Yards.{yardsBelow}
+use Rattle.tree.specs.RegionYards.{YardOf}
 use Rattle.check_tree.specs.Check.{checkAnswer}
 
 -- region j is a leaf, and each of its lists names yard y
@@ -37,15 +37,15 @@ pub record HoldsEach (rs : List Region) (ys : List ℕ) : Type 0 where
   pub no-other : (j : ℕ) → j < length rs → regionAt rs j .children ≡ 0 → (m : Mark) → Mem m (regionAt rs j .marks)
       → (y : ℕ) → Mem y (yardsIn (m .list)) → Mem y ys
 
--- x is the least of the distances from l to some yards: it is one of them, and none is below it
-pub record LeastTotal (arcs : List Arc) (l : ℕ) (ys : List ℕ) (x : ℕ) : Type 0 where
-  pub reached : (y : ℕ) × Mem y ys × Least arcs l y x
-  pub low : (y t : ℕ) → Mem y ys → Least arcs l y t → x ≤ t
+-- x is the least of the distances from l to the yards of some kind: it is one of them, and none is below it
+pub record LeastTotal (arcs : List Arc) (l : ℕ) (Yard : ℕ → Type 0) (x : ℕ) : Type 0 where
+  pub reached : (y : ℕ) × Yard y × Least arcs l y x
+  pub low : (y t : ℕ) → Yard y → Least arcs l y t → x ≤ t
 
 -- x is the greatest of them
-pub record GreatestTotal (arcs : List Arc) (l : ℕ) (ys : List ℕ) (x : ℕ) : Type 0 where
-  pub reached : (y : ℕ) × Mem y ys × Least arcs l y x
-  pub high : (y t : ℕ) → Mem y ys → Least arcs l y t → t ≤ x
+pub record GreatestTotal (arcs : List Arc) (l : ℕ) (Yard : ℕ → Type 0) (x : ℕ) : Type 0 where
+  pub reached : (y : ℕ) × Yard y × Least arcs l y x
+  pub high : (y t : ℕ) → Yard y → Least arcs l y t → t ≤ x
 
 -- "each stored distance is the least total of any walk through the roads .., with each least and greatest true of its
 -- region's yards"
@@ -53,9 +53,9 @@ pub record TrueTotals (arcs : List Arc) (rs : List Region) : Type 0 where
   pub lists : (r : ℕ) → r < length rs → regionAt rs r .children ≡ 0 → (m : Mark) → Mem m (regionAt rs r .marks)
       → (e : Element) → Mem e (m .list) → Least arcs (m .place) (e .yard) (e .distance)
   pub leasts : (r : ℕ) → r < length rs → 0 < regionAt rs r .children → (m : Mark) → Mem m (regionAt rs r .marks)
-      → LeastTotal arcs (m .place) (yardsBelow rs r) (m .least)
+      → LeastTotal arcs (m .place) (YardOf rs r) (m .least)
   pub greatests : (r : ℕ) → r < length rs → 0 < regionAt rs r .children → (m : Mark) → Mem m (regionAt rs r .marks)
-      → GreatestTotal arcs (m .place) (yardsBelow rs r) (m .greatest)
+      → GreatestTotal arcs (m .place) (YardOf rs r) (m .greatest)
 
 -- "Beside a sound road book and yard book, with full areas, a tree of sound layout and shape and of the road book's
 -- junction count"

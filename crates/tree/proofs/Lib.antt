@@ -16,3 +16,4 @@ pub mod Sums
 pub mod Descent
 pub mod Ranges
 pub mod Siblings
+pub mod RegionYards
