@@ -2,10 +2,15 @@
 use mathlib.Core.Path.{_≡_, refl}
 use mathlib.Core.List.{List}
 use Prim.Native.Nat.{ℕ}
+use Rattle.road_layout.specs.Road.{roads}
 use Rattle.road.specs.Dijkstra.{dist}
 use Rattle.build_records.specs.Given.{given}
 
 module _ (b : List ℕ) (m limit : ℕ) where
+  pub given-roads : given b m limit .roads ≡ roads b
+  unfolding given
+  given-roads = refl
+
   pub given-d : given b m limit .d ≡ dist b
   unfolding given
   given-d = refl

@@ -1,24 +1,19 @@
 -- What cutting gives: some trees side by side over neighbouring ranges, as one inductive type. Assumes nothing.
-use mathlib.Core.Path.{_≡_, refl, sym, ap, _∙_}
-use mathlib.Core.Logic.{_⊎_, inl, inr, _≢_}
-use mathlib.Core.Bool.{Bool, true, false, not}
-use mathlib.Core.List.{List, [], _∷_, _++_, List·Memᴰ as Mem, List·Memᴰ·not-nil as not-nil, List·Memᴰ·cases-cons as cases-cons}
-use mathlib.Core.List.{List·Memᴰ·append-cases as append-cases}
+use mathlib.Core.Path.{_≡_, refl, ap, _∙_}
+use mathlib.Core.Logic.{_≢_}
+use mathlib.Core.List.{List, [], _∷_, _++_, List·Memᴰ as Mem}
 use Prim.Native.Nat.{ℕ, zero, suc, _+_, _-_, _*_, _≤_, _<_}
 use native.Mathlib.Decide.{ℕ-discrete}
 use native.Mathlib.Omega.{arith}
-use lib.ListN.{length, getD, length-append}
-use lib.Dec.{T, leb, eqb, eqb→eq, leb→le, nleb→lt, le→leb}
-use Rattle.book.specs.Choose.{choose}
-use Rattle.book.specs.Lists.{Distinct}
-use Rattle.book.proofs.Choosing.{choose-case, choose-yes}
+use lib.ListN.{length, length-append}
+use lib.Dec.{leb, eqb, eqb→eq, leb→le}
+use Rattle.book.proofs.Choosing.{choose-case}
 use Rattle.book.proofs.Lists.{neqb→ne}
 use Rattle.tree_layout.specs.Values.{Region}
 use Rattle.check_rules.specs.Truth.{within}
 use Rattle.check_rules.proofs.Within.{within-mem}
 use Rattle.build_rules.specs.Cut.{Given, leafRegion, innerRegion, cutAt, cutPart, partCount, partRegions, cut}
-use Rattle.build_rules.specs.Facts.{fours}
-use Rattle.build_rules.proofs.Parts.{Rising, rising-distinct, within-rising, within-none, within-all, within-split, few, cut-first, cut-last, cut-rise}
+use Rattle.build_rules.proofs.Parts.{fours, Rising, within-rising, within-none, within-all, within-split, few, cut-first, cut-last, cut-rise}
 use Rattle.build_rules.proofs.Parts.{cut-small, cut-top, parts-count, part-is, count-drop, count-keep, regions-drop, regions-keep, count-none}
 use Rattle.build_rules.proofs.Parts.{regions-none}
 
@@ -59,7 +54,7 @@ module _ (g : Given) (junctions : ℕ) where
 
   module _ (one : 1 ≤ g .limit) where
     -- the yards of a part are held in its range
-    part-held : (a s : ℕ) (ys : List ℕ) (j : ℕ) → Rising ys → 0 < length (cutPart a s ys j)
+    pub part-held : (a s : ℕ) (ys : List ℕ) (j : ℕ) → Rising ys → 0 < length (cutPart a s ys j)
         → Held (cutAt a s j) (cutAt a s (suc j) - cutAt a s j) (cutPart a s ys j)
     part-held a s ys j r h =
         let e = part-is a s ys j in
@@ -136,35 +131,15 @@ module _ (g : Given) (junctions : ℕ) where
             widen le ae ge (rw (eqb→eq (partCount a s ys 4 0) 1 e) at f))
             (λ e. inner v b (two (partCount a s ys 4 0) (neqb→ne (partCount a s ys 4 0) 1 e) (forest-none f)) (parts-count a s ys 4 0) f))
 
-    -- ---- the number of cuts that are left doesn't matter
-
-    parts-same : (k a s : ℕ) (ys : List ℕ) → Rising ys → s ≤ 4 * fours k → ((a s : ℕ) (ys : List ℕ) → Held a s ys → s ≤ fours k
-        → cut g (suc k) a s ys ≡ cut g k a s ys)
-        → (n j : ℕ) → partRegions (cut g (suc k)) a s ys n j ≡ partRegions (cut g k) a s ys n j
-    parts-same k a s ys r h rec zero j = regions-none (cut g (suc k)) a s ys j ∙ sym (regions-none (cut g k) a s ys j)
-    parts-same k a s ys r h rec (suc n) j = go (ℕ-discrete (length (cutPart a s ys j)) 0) (parts-same k a s ys r h rec n (suc j))
+    -- some part of a range with yards has yards
+    pub count-some : (k a s : ℕ) (ys : List ℕ) → Held a s ys → a + s ≤ junctions → s ≤ 4 * fours k → 1 ≤ partCount a s ys 4 0
+    count-some k a s ys v b h = go (partCount a s ys 4 0) refl
       where
-        go : Dec (length (cutPart a s ys j) ≡ 0) → partRegions (cut g (suc k)) a s ys n (suc j) ≡ partRegions (cut g k) a s ys n (suc j)
-            → partRegions (cut g (suc k)) a s ys (suc n) j ≡ partRegions (cut g k) a s ys (suc n) j
-        go (yes z) e = rw (regions-drop (cut g (suc k)) a s ys n j z, regions-drop (cut g k) a s ys n j z) e
-        go (no z) e =
-            let p : 0 < length (cutPart a s ys j) = omega arith in
-            let w = rec (cutAt a s j) (cutAt a s (suc j) - cutAt a s j) (cutPart a s ys j) (part-held a s ys j r p) (cut-small a s j (fours k) h) in
-            rw (regions-keep (cut g (suc k)) a s ys n j p, regions-keep (cut g k) a s ys n j p, w, e) refl
-
-    -- one more cut than brings the range to one junction changes nothing
-    pub cut-more : (k a s : ℕ) (ys : List ℕ) → Held a s ys → s ≤ fours k → cut g (suc k) a s ys ≡ cut g k a s ys
-    unfolding cut fours
-    cut-more zero a s ys v h = choose-yes (leb (length ys) (g .limit)) (leafRegion g a s ys ∷ []) _ (le→leb (length ys) (g .limit) (omega (
-      arith,
-      few a s ys (v
-          .rising) (v .in-range) h,
-    )))
-    cut-more (suc k) a s ys v h = rw (parts-same k a s ys (v .rising) h (λ a′ s′ ys′ x y. cut-more k a′ s′ ys′ x y) 4 0) refl
-
-    -- so that cutting meets the rule of "Building" whatever its cuts are counted by
-    pub cut-rule : (k a s : ℕ) (ys : List ℕ) → Held a s ys → s ≤ fours k
-        → cut g k a s ys ≡ choose (leb (length ys) (g .limit)) (leafRegion g a s ys ∷ []) (choose (eqb (partCount a s ys 4 0) 1) (partRegions (cut g k) a s ys
-        4 0) (innerRegion g a s (partCount a s ys 4 0) ys ∷ partRegions (cut g k) a s ys 4 0))
-    unfolding cut
-    cut-rule k a s ys v h = sym (cut-more k a s ys v h)
+        go : (q : ℕ) → partCount a s ys 4 0 ≡ q → 1 ≤ partCount a s ys 4 0
+        go zero e = absurd (omega (
+          arith,
+          v .some,
+          rw (cut-first a s, within-all a (a + s) ys (v .in-range)) at
+              (forest-none (parts-forest k a s ys b (v .rising) h (cut-forest k) 4 0 refl) e),
+        ))
+        go (suc q) e = omega arith

@@ -1,20 +1,20 @@
 -- A region's landmarks: m of them, in its range. Assumes nothing.
-use mathlib.Core.Path.{_≡_, refl, sym, ap, _∙_}
+use mathlib.Core.Path.{_≡_, refl, ap}
 use mathlib.Core.Logic.{_⊎_, inl, inr}
 use mathlib.Core.Bool.{true, false, _&&_, _||_}
 use mathlib.Core.List.{List, [], _∷_, List·Memᴰ as Mem, List·Memᴰ·not-nil as not-nil, List·Memᴰ·cases-cons as cases-cons}
 use Prim.Native.Nat.{ℕ, zero, suc, _+_, _*_, _/_, _≤_, _<_}
 use native.Mathlib.Nat.{mul-comm, mul-lt-mul-of-pos-right, div-lt-iff-lt-mul}
+use native.Mathlib.Decide.{ℕ-discrete}
 use native.Mathlib.Omega.{arith}
 use lib.ListN.{length, getD}
 use lib.Dec.{T, ltb, leb, eqb, not-T, leb→le, ltb→lt, le→leb, lt→ltb}
-use Rattle.book.specs.Choose.{choose}
 use Rattle.book.proofs.Choosing.{choose-case, choose-yes, choose-no, T-true, T-false, true-T, false-T}
-use Rattle.book.proofs.Lists.{or-left, or-right, or-cases, eq→eqb, ne→neqb, neqb→ne, getD-mem}
+use Rattle.book.proofs.Lists.{or-left, or-right, or-cases, eq→eqb, ne→neqb, getD-mem}
 use Rattle.road_layout.specs.Road.{Road}
 use Rattle.build_rules.specs.Cut.{Given, outside, leadsOut, isBorder, bordersFrom, borders, landmark, landmarksFrom, landmarksOf}
 
-borders-range : (roads : List Road) (a s n v b : ℕ) → Mem b (bordersFrom roads a s n v) → (v ≤ b) × (b < v + n)
+pub borders-range : (roads : List Road) (a s n v b : ℕ) → Mem b (bordersFrom roads a s n v) → (v ≤ b) × (b < v + n)
 unfolding bordersFrom
 borders-range roads a s zero v b k = absurd (not-nil k)
 borders-range roads a s (suc n) v b k =
@@ -30,6 +30,16 @@ borders-range roads a s (suc n) v b k =
     go (inl e) rec = (omega arith, omega arith)
     go (inr j) rec = wide (rec j)
 
+-- ---- one landmark
+
+pub landmark-none : (m a s : ℕ) (bs : List ℕ) (j : ℕ) → length bs ≡ 0 → landmark m a s bs j ≡ a + j * s / m
+unfolding landmark
+landmark-none m a s bs j e = choose-yes (eqb (length bs) 0) _ _ (eq→eqb (length bs) 0 e)
+
+pub landmark-some : (m a s : ℕ) (bs : List ℕ) (j : ℕ) → 0 < length bs → landmark m a s bs j ≡ getD bs (j * length bs / m) 0
+unfolding landmark
+landmark-some m a s bs j h = choose-no (eqb (length bs) 0) _ _ (ne→neqb (length bs) 0 (omega arith))
+
 -- floor(j × x / m) is below x
 pub share : (j m x : ℕ) → j < m → 0 < x → j * x / m < x
 share j m x h k =
@@ -38,11 +48,13 @@ share j m x h k =
 
 module _ (m a s : ℕ) (some : 0 < s) (bs : List ℕ) (f : (b : ℕ) → Mem b bs → (a ≤ b) × (b < a + s)) where
   landmark-range : (j : ℕ) → j < m → (a ≤ landmark m a s bs j) × (landmark m a s bs j < a + s)
-  unfolding landmark
-  landmark-range j h =
-      choose-case (λ (l : ℕ). (a ≤ l) × (l < a + s)) (eqb (length bs) 0)
-      (λ t. (omega arith, omega (arith, share j m s h some)))
-      (λ t. f (getD bs (j * length bs / m) 0) (getD-mem bs (j * length bs / m) 0 (share j m (length bs) h (omega (arith, neqb→ne (length bs) 0 t)))))
+  landmark-range j h = go (ℕ-discrete (length bs) 0)
+    where
+      go : Dec (length bs ≡ 0) → (a ≤ landmark m a s bs j) × (landmark m a s bs j < a + s)
+      go (yes e) = rw (landmark-none m a s bs j e) (omega arith, omega (arith, share j m s h some))
+      go (no e) =
+          let p : 0 < length bs = omega arith in
+          rw (landmark-some m a s bs j p) (f (getD bs (j * length bs / m) 0) (getD-mem bs (j * length bs / m) 0 (share j m (length bs) h p)))
 
   from-range : (n j : ℕ) → j + n ≤ m → (l : ℕ) → Mem l (landmarksFrom m a s bs n j) → (a ≤ l) × (l < a + s)
   unfolding landmarksFrom
@@ -110,14 +122,6 @@ borders-yes rs a s n v e = choose-yes (isBorder rs a s v) _ _ (true-T e)
 pub borders-no : (rs : List Road) (a s n v : ℕ) → isBorder rs a s v ≡ false → bordersFrom rs a s (suc n) v ≡ bordersFrom rs a s n (suc v)
 unfolding bordersFrom
 borders-no rs a s n v e = choose-no (isBorder rs a s v) _ _ (false-T e)
-
-pub landmark-none : (m a s : ℕ) (bs : List ℕ) (j : ℕ) → length bs ≡ 0 → landmark m a s bs j ≡ a + j * s / m
-unfolding landmark
-landmark-none m a s bs j e = choose-yes (eqb (length bs) 0) _ _ (eq→eqb (length bs) 0 e)
-
-pub landmark-some : (m a s : ℕ) (bs : List ℕ) (j : ℕ) → 0 < length bs → landmark m a s bs j ≡ getD bs (j * length bs / m) 0
-unfolding landmark
-landmark-some m a s bs j h = choose-no (eqb (length bs) 0) _ _ (ne→neqb (length bs) 0 (omega arith))
 
 -- a range's landmark lies in it
 pub landmark-in : (roads : List Road) (m a s j : ℕ) → 0 < s → j < m

@@ -1,9 +1,13 @@
+pub mod Ordered
 pub mod Ranked
 pub mod Landmarks
 pub mod Parts
+pub mod Bordering
 pub mod Cutting
 pub mod Steps
 pub mod Regions
+pub mod Described
+pub mod OneTree
 pub mod Records
 pub mod Shape
 pub mod Theorems

@@ -1,28 +1,26 @@
 -- The parts of a range and their yards. Assumes nothing.
-use mathlib.Core.Path.{_≡_, refl, sym, ap, _∙_}
-use mathlib.Core.Bool.{_&&_}
-use mathlib.Core.List.{List, [], _∷_, _++_, List·Memᴰ as Mem, List·Memᴰ·head as head, List·Memᴰ·tail as tail, List·Memᴰ·not-nil as not-nil}
+use mathlib.Core.Path.{_≡_, refl, ap, _∙_}
+use mathlib.Core.List.{List, [], _∷_, _++_, List·Memᴰ as Mem, List·Memᴰ·head as head, List·Memᴰ·tail as tail}
 use Prim.Native.Nat.{ℕ, zero, suc, _+_, _-_, _*_, _/_, _≤_, _<_}
 use native.Mathlib.Nat.{suc-mul}
 use native.Mathlib.Decide.{decLt}
 use native.Mathlib.Omega.{arith}
 use lib.ListN.{length, getD}
-use lib.Dec.{T, eqb}
-use Rattle.book.specs.Choose.{choose}
+use lib.Dec.{eqb}
 use Rattle.book.specs.Lists.{Distinct}
 use Rattle.book.proofs.Choosing.{choose-case, choose-yes, choose-no}
-use Rattle.book.proofs.Lists.{eq→eqb, ne→neqb, mem-getD}
+use Rattle.book.proofs.Lists.{eq→eqb, ne→neqb, getD-mem, mem-getD}
 use Rattle.tree_layout.specs.Values.{Region}
 use Rattle.check_rules.specs.Truth.{within}
 use Rattle.check_rules.proofs.Within.{within-yes, within-no, within-empty, within-mem}
 use Rattle.build_rules.specs.Cut.{cutAt, cutPart, partCount, partRegions}
+use Rattle.build_rules.proofs.Ordered.{Ordered}
 
 -- ---- rising lists
 
 -- each member is below those after it
 abbrev pub Rising : List ℕ → Type 0
-Rising [] = Unit {0}
-Rising (y ∷ ys) = ((z : ℕ) → Mem z ys → y < z) × Rising ys
+Rising ys = Ordered (λ x y. x < y) ys
 
 -- the same by places
 pub rising-places : (ys : List ℕ) → ((i j : ℕ) → i < j → j < length ys → getD ys i 0 < getD ys j 0) → Rising ys
@@ -32,6 +30,12 @@ rising-places (y ∷ ys) f = (
       rw (x .2) (f 0 (suc (x .0)) (omega arith) (omega (arith, x .1)))),
   rising-places ys (λ i j h k. f (suc i) (suc j) (omega arith) (omega arith)),
 )
+
+pub places-rising : (ys : List ℕ) → Rising ys → (i j : ℕ) → i < j → j < length ys → getD ys i 0 < getD ys j 0
+places-rising [] r i j h k = absurd (omega arith)
+places-rising (y ∷ ys) r i zero h k = absurd (omega arith)
+places-rising (y ∷ ys) r zero (suc j) h k = r .0 (getD ys j 0) (getD-mem ys j 0 (omega arith))
+places-rising (y ∷ ys) r (suc i) (suc j) h k = places-rising ys (r .1) i j (omega arith) (omega arith)
 
 pub rising-distinct : (ys : List ℕ) → Rising ys → Distinct ys
 rising-distinct [] r = tt
@@ -92,6 +96,11 @@ few a s (y ∷ []) r f h = omega arith
 few a s (y ∷ z ∷ zs) r f h = absurd (omega (arith, r .0 z (head refl), f y (head refl) .0, f z (tail (head refl)) .1))
 
 -- ---- cuts
+
+-- how many junctions so many cuts bring to one
+unfoldable pub fours : ℕ → ℕ
+fours zero = 1
+fours (suc k) = 4 * fours k
 
 pub cut-is : (a s i : ℕ) → cutAt a s i ≡ a + i * s / 4
 unfolding cutAt

@@ -1,16 +1,15 @@
 -- A built region's form, values and lists. Assumes nothing.
-use mathlib.Core.Path.{_≡_, refl, sym, ap, _∙_}
+use mathlib.Core.Path.{_≡_, refl, _∙_}
 use mathlib.Core.Logic.{_⊎_, inl, inr}
-use mathlib.Core.List.{List, [], _∷_, _++_, map, List·Memᴰ as Mem, List·Memᴰ·head as head, List·Memᴰ·not-nil as not-nil, List·Memᴰ·cases-cons as cases-cons}
+use mathlib.Core.List.{List, [], _∷_, List·Memᴰ as Mem, List·Memᴰ·head as head, List·Memᴰ·not-nil as not-nil, List·Memᴰ·cases-cons as cases-cons}
 use mathlib.Core.List.{List·Memᴰ·append-cases as append-cases}
-use Prim.Native.Nat.{ℕ, zero, suc, _+_, _≤_, _<_}
+use Prim.Native.Nat.{ℕ, _+_, _≤_, _<_}
 use native.Mathlib.Omega.{arith}
 use lib.ListN.{length, length-map, length-append}
 use lib.Dec.{T}
-use Rattle.book.specs.Lists.{Distinct}
 use Rattle.book.proofs.Lists.{map-mem}
-use Rattle.tree_layout.specs.Values.{Element, Mark, Region, leafMark, innerMark}
-use Rattle.tree_layout.specs.Facts.{Rising, RegionValues}
+use Rattle.tree_layout.specs.Values.{Mark, Region, leafMark, innerMark}
+use Rattle.tree_layout.specs.Facts.{RegionValues}
 use Rattle.tree_layout.specs.Formed.{Formed}
 use Rattle.tree_layout.proofs.MarkFields.{leaf-place, leaf-pairs, leaf-form, inner-place, inner-least, inner-greatest, inner-form}
 use Rattle.tree_leaf.specs.Leaf.{firstList, leafOk}
@@ -37,18 +36,18 @@ module _ (g : Given) where
   -- ---- landmarks
 
   -- what a leaf's landmark is, and an inner region's
-  record LeafMark (a s : ℕ) (ys : List ℕ) (k : Mark) : Type 0 where
+  pub record LeafMark (a s : ℕ) (ys : List ℕ) (k : Mark) : Type 0 where
     pub at : Mem (k .place) (landmarksOf g a s)
     pub list : k .list ≡ rankedList (g .d) (k .place) ys
     pub form : k ≡ leafMark (k .place) (k .list)
 
-  record InnerMark (a s : ℕ) (ys : List ℕ) (k : Mark) : Type 0 where
+  pub record InnerMark (a s : ℕ) (ys : List ℕ) (k : Mark) : Type 0 where
     pub at : Mem (k .place) (landmarksOf g a s)
     pub low : k .least ≡ least (g .d (k .place)) ys
     pub high : k .greatest ≡ greatest (g .d (k .place)) ys
     pub form : k ≡ innerMark (k .place) (k .least) (k .greatest)
 
-  leaf-mark : (a s : ℕ) (ys : List ℕ) (k : Mark) → Mem k (leafRegion g a s ys .marks) → LeafMark a s ys k
+  pub leaf-mark : (a s : ℕ) (ys : List ℕ) (k : Mark) → Mem k (leafRegion g a s ys .marks) → LeafMark a s ys k
   unfolding leafRegion
   leaf-mark a s ys k i =
       let x = map-mem (λ l. leafMark l (rankedList (g .d) l ys)) (landmarksOf g a s) k i in
@@ -56,7 +55,7 @@ module _ (g : Given) where
       let q = leaf-pairs (x .0) (rankedList (g .d) (x .0) ys) in
       rw (x .2) (record { at = rw p (x .1); list = rw (p, q) refl; form = leaf-form (x .0) (rankedList (g .d) (x .0) ys) })
 
-  inner-mark : (a s q : ℕ) (ys : List ℕ) (k : Mark) → Mem k (innerRegion g a s q ys .marks) → InnerMark a s ys k
+  pub inner-mark : (a s q : ℕ) (ys : List ℕ) (k : Mark) → Mem k (innerRegion g a s q ys .marks) → InnerMark a s ys k
   unfolding innerRegion
   inner-mark a s q ys k i =
       let x = map-mem (λ l. innerMark l (least (g .d l) ys) (greatest (g .d l) ys)) (landmarksOf g a s) k i in

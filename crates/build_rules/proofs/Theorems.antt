@@ -1,23 +1,20 @@
 -- What is proved of the tree that building gives. Assumes nothing.
-use mathlib.Core.Path.{_≡_, refl, sym, ap, _∙_}
-use mathlib.Core.Bool.{true}
-use mathlib.Core.List.{List, [], _∷_, _++_, append-nil, List·Memᴰ as Mem}
-use Prim.Native.Nat.{ℕ, zero, suc, _+_, _-_, _≤_, _<_}
+use mathlib.Core.Path.{_≡_, refl, sym, _∙_}
+use mathlib.Core.List.{List, [], _++_, append-nil, List·Memᴰ as Mem}
+use Prim.Native.Nat.{ℕ, _+_, _-_, _≤_, _<_}
 use native.Mathlib.Omega.{arith}
-use lib.ListN.{length, getD}
-use lib.Dec.{T, leb, eqb}
-use Rattle.book.specs.Choose.{choose}
+use lib.ListN.{length}
+use lib.Dec.{T}
 use Rattle.book.proofs.Lists.{mem-getD}
 use Rattle.tree_layout.specs.Values.{Region, Tree, regionAt}
 use Rattle.tree_layout.specs.Decode.{decode}
 use Rattle.tree_layout.specs.Facts.{RegionValues}
 use Rattle.tree_layout.specs.Formed.{FormedTree}
-use Rattle.tree.specs.Shape.{siblings, subtree, levels, shaped, treeRefusal}
+use Rattle.tree.specs.Shape.{subtree, levels, shaped, treeRefusal}
 use Rattle.tree.specs.Yards.{oneLeaf, oneInner, yardsBelow, treeYards}
-use Rattle.tree.specs.Facts.{Preorder, TreeShape}
-use Rattle.tree.proofs.Forest.{Rooted, siblings-next}
+use Rattle.tree.proofs.Forest.{siblings-next}
 use Rattle.tree.proofs.ForestLaws.{Sane, leaf-count, inner-count}
-use Rattle.tree.proofs.Shaping.{found-preorder, root-forest, root-yards, shape-facts}
+use Rattle.tree.proofs.Shaping.{found-preorder, root-forest, shape-facts}
 use Rattle.tree.proofs.Descent.{siblings-ended, shaped-by}
 use Rattle.tree.proofs.Ranges.{tree-span}
 use Rattle.tree.proofs.Sums.{sum-all, all-counted}
@@ -25,15 +22,20 @@ use Rattle.tree.proofs.Theorems.{sane-of}
 use Rattle.tree_encode.specs.Encode.{encode}
 use Rattle.tree_encode.specs.Facts.{SoundTree, SmallTree}
 use Rattle.tree_encode.proofs.Theorems.{written}
-use Rattle.check_rules.specs.Truth.{trueTree, trueBeside}
 use Rattle.check_rules.specs.Facts.{TrueNumbers, Same}
 use Rattle.check_rules.proofs.Theorems.{RegionTrue, tested}
-use Rattle.build_rules.specs.Cut.{Given, leafRegion, innerRegion, partCount, partRegions, cut, cutTree}
-use Rattle.build_rules.specs.Facts.{fours, InLimits, RangeYards, Rule, Built}
-use Rattle.build_rules.proofs.Parts.{rising-places}
-use Rattle.build_rules.proofs.Cutting.{Held, CutForest, forest-length, cut-forest, cut-rule}
+use Rattle.build_rules.specs.Cut.{Given, cut, cutTree}
+use Rattle.build_rules.specs.Facts.{InLimits, Measures, OneTree, Built}
+use Rattle.build_rules.proofs.Parts.{fours, rising-places}
+use Rattle.build_rules.proofs.Cutting.{Held, CutForest, forest-length, cut-forest}
+use Rattle.build_rules.proofs.Steps.{tree-regions}
+use Rattle.build_rules.proofs.OneTree.{cut-exact, range-one}
 use Rattle.build_rules.proofs.Regions.{forest-regions, forest-small, forest-limit}
 use Rattle.build_rules.proofs.Shape.{forest-siblings, forest-yards, forest-true}
+
+five-cuts : (junctions : ℕ) → junctions ≤ 1024 → junctions ≤ fours 5
+unfolding fours
+five-cuts junctions h = omega arith
 
 module _ (g : Given) (junctions : ℕ) (ys : List ℕ) (lim : InLimits g junctions ys) where
   abbrev t : Tree
@@ -159,11 +161,14 @@ module _ (g : Given) (junctions : ℕ) (ys : List ℕ) (lim : InLimits g junctio
     leaf-limit = rw regions-are (forest-limit g forest);
   }
 
-pub building-rule : (g : Given) → 1 ≤ g .limit → Rule g
-building-rule g one = record {
-  rule = λ k a s ys v. cut-rule g 0 one k a s ys (record {
-    some = v .some;
-    in-range = v .in-range;
-    rising = rising-places ys (v .rising);
-  }) (v .few);
-}
+-- the built tree is the one that the stated cuts give, by any distance that d measures
+pub one-tree : (g : Given) (D : ℕ → ℕ → ℕ → Type 0) (junctions : ℕ) (ys : List ℕ) → InLimits g junctions ys → Measures D (g .d) junctions
+    → OneTree g D junctions ys
+one-tree g D junctions ys lim known =
+    let v = held g junctions ys lim in
+    let few = five-cuts junctions (lim .junctions-in .1) in
+    let some = lim .limit-in .0 in
+    record {
+      cuts = rw (tree-regions g junctions ys) (cut-exact g D junctions known some 5 0 junctions ys v (omega arith) few);
+      one = λ rs c. range-one g D junctions known some c v (omega arith) 5 few ∙ sym (tree-regions g junctions ys);
+    }

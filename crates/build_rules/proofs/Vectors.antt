@@ -1,13 +1,12 @@
 -- Net N's tree comes out as 01 prints it, byte for byte; the same net with leaf limit 1; a net with border junctions. Assumes nothing.
 use mathlib.Core.Path.{_≡_, refl}
-use mathlib.Core.Bool.{Bool, true, false}
+use mathlib.Core.Bool.{true}
 use mathlib.Core.List.{List, [], _∷_, map}
 use Prim.Native.Nat.{ℕ, zero, suc, _+_, _-_, _≤_, _<_}
 use native.Mathlib.Omega.{arith}
-use lib.ListN.{length, getD}
-use Rattle.book.specs.Choose.{choose, refuse}
+use lib.ListN.{getD}
+use Rattle.book.specs.Choose.{choose}
 use Rattle.book.specs.Writing.{u16Bytes, u32Bytes}
-use Rattle.road_layout.specs.Road.{Road}
 use Rattle.tree_layout.specs.Values.{Region, Tree, leafMark, innerMark, firstDistance, lastFrom}
 use Rattle.tree_layout.specs.Refusal.{comes}
 use Rattle.tree_layout.proofs.Vectors.{netN, fiveRegions}
@@ -17,8 +16,9 @@ use Rattle.check_rules.specs.Truth.{leastDistanceFrom, least, greatestFrom, gre
 use Rattle.build_rules.specs.Cut.{Given, outside, leadsOut, isBorder, bordersFrom, borders, landmark, landmarksFrom, landmarksOf, earlier, later}
 use Rattle.build_rules.specs.Cut.{insertElement}
 use Rattle.build_rules.specs.Cut.{rankInto, rankedList, leafRegion, innerRegion, cutAt, cutPart, partCount, partRegions, cut, cutTree}
-use Rattle.build_rules.specs.Facts.{InLimits, Built}
-use Rattle.build_rules.proofs.Theorems.{built}
+use Rattle.build_rules.specs.Cuts.{CutRange}
+use Rattle.build_rules.specs.Facts.{InLimits, termsOf, OneTree, Built}
+use Rattle.build_rules.proofs.Theorems.{built, one-tree}
 
 -- net N's distances from junction 0: "junctions 0 to 4 in a chain, seconds 2, 3, 4, 1"
 unfoldable pub chain : List ℕ
@@ -122,3 +122,15 @@ in-limits = record {
 -- net N's tree is accepted, true, and read back
 pub built-N : Built (givenN 3) 5 (1 ∷ 3 ∷ 4 ∷ [])
 built-N = built (givenN 3) 5 (1 ∷ 3 ∷ 4 ∷ []) in-limits
+
+-- it is the one that the stated cuts give: whatever regions they give for net N, the book is 01's
+abbrev netDistance : ℕ → ℕ → ℕ → Type 0
+netDistance u v t = t ≡ givenN 3 .d u v
+
+one-N : OneTree (givenN 3) netDistance 5 (1 ∷ 3 ∷ 4 ∷ [])
+one-N = one-tree (givenN 3) netDistance 5 (1 ∷ 3 ∷ 4 ∷ []) in-limits (record { reached = λ u v h k. refl; one = λ u v s t p q. cc })
+
+pub stated-N : (rs : List Region) → CutRange (termsOf (givenN 3) netDistance) 0 5 (1 ∷ 3 ∷ 4 ∷ []) rs
+    → encode (record { junctions = 5; yards = 3; landmarks = 1; regions = rs }) ≡ netN
+unfolding treeN cutTree givenN
+stated-N rs c = rw (one-N .one rs c) net-N

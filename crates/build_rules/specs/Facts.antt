@@ -2,12 +2,12 @@
 use mathlib.Core.Path.{_≡_}
 use mathlib.Core.Bool.{true}
 use mathlib.Core.List.{List, [], _∷_, List·Memᴰ as Mem}
-use Prim.Native.Nat.{ℕ, zero, suc, _+_, _*_, _≤_, _<_}
+use Prim.Native.Nat.{ℕ, suc, _≤_, _<_}
 use lib.ListN.{length, getD}
-use lib.Dec.{ltb, leb, eqb}
+use lib.Dec.{ltb}
 use Rattle.book.specs.Choose.{choose}
 use Rattle.book.specs.Bytes.{Bytes}
-use Rattle.tree_layout.specs.Values.{Region, Tree}
+use Rattle.tree_layout.specs.Values.{Region}
 use Rattle.tree_layout.specs.Decode.{decode}
 use Rattle.tree.specs.Shape.{treeRefusal}
 use Rattle.tree.specs.Yards.{treeYards}
@@ -15,7 +15,8 @@ use Rattle.tree.specs.Facts.{Preorder}
 use Rattle.tree_encode.specs.Encode.{encode}
 use Rattle.check_rules.specs.Truth.{trueTree, trueBeside}
 use Rattle.check_rules.specs.Facts.{TrueNumbers, Same}
-use Rattle.build_rules.specs.Cut.{Given, leafRegion, innerRegion, partCount, partRegions, cut, cutTree}
+use Rattle.build_rules.specs.Cut.{Given, cutTree}
+use Rattle.build_rules.specs.Cuts.{Terms, CutRange}
 
 -- what building is asked for, in its limits: junctions of a road book, yards of a yard book, m, the leaf limit, and
 -- distances as roads have them
@@ -32,30 +33,25 @@ pub record InLimits (g : Given) (junctions : ℕ) (ys : List ℕ) : Type 0 where
   -- "at most 67,042,305, which is 1,023 × 65,535"
   pub bounded : (u v : ℕ) → u < junctions → v < junctions → g .d u v ≤ 67042305
 
--- how many junctions so many cuts bring to one
-unfoldable pub fours : ℕ → ℕ
-fours zero = 1
-fours (suc k) = 4 * fours k
-
 -- how many yards at the start of a list are below x
 unfoldable pub countBelow : ℕ → List ℕ → ℕ
 countBelow x [] = 0
 countBelow x (y ∷ ys) = let n = countBelow x ys in choose (ltb y x) (suc n) 0
 
--- some yards, rising, in the range from a with s junctions, which so many cuts bring to one junction
-pub record RangeYards (k a s : ℕ) (ys : List ℕ) : Type 0 where
-  pub some : 0 < length ys
-  pub rising : (i j : ℕ) → i < j → j < length ys → getD ys i 0 < getD ys j 0
-  pub in-range : (y : ℕ) → Mem y ys → (a ≤ y) × (y < a + s)
-  pub few : s ≤ fours k
+-- what the stated cuts go by, of what building is given: the same, and any distance
+abbrev pub termsOf : Given → (ℕ → ℕ → ℕ → Type 0) → Terms
+termsOf g D = record { roads = g .roads; Distance = D; landmarks = g .landmarks; limit = g .limit }
 
--- the rule of "Building" for a range, without a number of cuts that are left: any number that brings the range to one
--- junction gives the same
-pub record Rule (g : Given) : Type 0 where
-  pub rule : (k a s : ℕ) (ys : List ℕ) → RangeYards k a s ys
-      → cut g k a s ys ≡ choose (leb (length ys) (g .limit)) (leafRegion g a s ys ∷ [])
-      (choose (eqb (partCount a s ys 4 0) 1) (partRegions (cut g k) a s ys 4 0) (innerRegion g a s (partCount a s ys 4
-      0) ys ∷ partRegions (cut g k) a s ys 4 0))
+-- D says of two junctions below n which number is their distance, of one number only, and d gives it
+pub record Measures (D : ℕ → ℕ → ℕ → Type 0) (d : ℕ → ℕ → ℕ) (n : ℕ) : Type 0 where
+  pub reached : (u v : ℕ) → u < n → v < n → D u v (d u v)
+  pub one : (u v s t : ℕ) → D u v s → D u v t → s ≡ t
+
+-- "the one tree that the stated cuts give": the regions of the tree that building gives are cut as stated, from "The
+-- first range is all junctions.", and no others are
+pub record OneTree (g : Given) (D : ℕ → ℕ → ℕ → Type 0) (junctions : ℕ) (ys : List ℕ) : Type 0 where
+  pub cuts : CutRange (termsOf g D) 0 junctions ys (cutTree g junctions ys .regions)
+  pub one : (rs : List Region) → CutRange (termsOf g D) 0 junctions ys rs → rs ≡ cutTree g junctions ys .regions
 
 -- the tree that building gives
 pub record Built (g : Given) (junctions : ℕ) (ys : List ℕ) : Type 0 where

@@ -1,2 +1,3 @@
 pub mod Cut
+pub mod Cuts
 pub mod Facts

@@ -24,8 +24,6 @@ use Rattle.tree.specs.Facts.{Preorder}
 use Rattle.check_rules.specs.Truth.{trueTree}
 use Rattle.check_rules.specs.Facts.{Same}
 use Rattle.tree_encode.specs.Encode.{encode}
-use Rattle.build_rules.proofs.Theorems.{building-rule}
-use Rattle.build_records.specs.Given.{given}
 use Rattle.build_records.proofs.Fields.{given-d, given-limit}
 use Rattle.check_tree.specs.Check.{checkAnswer}
 use Rattle.check_tree.proofs.Theorems.{true-passes}
@@ -33,6 +31,7 @@ use Rattle.build_tree.specs.Build.{rangeRefusal, roomRefusal, buildAnswe
 use Rattle.build_tree.specs.Facts.{InRange, BuildAreas, AcceptedBuild, Refusals, Kept, writtenBook, Writes, BuildExact}
 use Rattle.build_tree.proofs.Heading.{written-front, written-rest, written-whole}
 use Rattle.build_tree.proofs.Limits.{built-tree, its-junctions, short}
+use Rattle.build_tree.proofs.Stated.{built-from, built-one}
 use Rattle.build_tree.proofs.Answering.{range-facts, facts-range, room-facts, long-enough, accepted-facts, facts-accepted, call-tests, area-tests}
 use Rattle.build_tree.proofs.Answering.{road-turned, yard-turned, turned-length, turned-work, turned-tree, taken-length, taken-tree}
 
@@ -192,7 +191,8 @@ module _ (road yard : List ℕ) (m limit : ℕ) (work tree : List ℕ) where
       few = few;
       six = six;
       leaf-limit = leaf-limit;
-      rule = building-rule (given road m limit) (rw (given-limit road m limit) (acc .range .leaf .0));
+      cuts = rw (book-is, back) (built-from road yard m limit (length work) (length tree) acc);
+      one-tree = λ x b. rw (book-is, back) (built-one road yard m limit (length work) (length tree) acc x b);
       zeroes = accepted-zeroed (buildAnswer road yard m limit (length work) (length tree)) work z;
     }
 

@@ -10,14 +10,13 @@ use Rattle.road_layout.specs.Road.{junctions}
 use Rattle.adjacency.specs.Adjacency.{Adjacency}
 use Rattle.road.specs.Refusal.{roadRefusal}
 use Rattle.yard.specs.Yards.{yardRefusalIn}
-use Rattle.tree_layout.specs.Values.{Region}
+use Rattle.tree_layout.specs.Values.{Region, Tree}
 use Rattle.tree_layout.specs.Decode.{decode}
 use Rattle.tree.specs.Facts.{Preorder}
 use Rattle.tree_encode.specs.Encode.{encode}
-use Rattle.build_rules.specs.Facts.{Rule}
-use Rattle.build_records.specs.Given.{given}
 use Rattle.check_tree.specs.Check.{checkAnswer}
 use Rattle.build_tree.specs.Build.{treeBytes, buildAnswer, builtTree, builtLength, treeAfter}
+use Rattle.build_tree.specs.Building.{BuiltFrom}
 
 -- "m (1 to 4) and a leaf limit (1 to 256)"
 pub record InRange (m limit : ℕ) : Type 0 where
@@ -91,9 +90,12 @@ pub record Writes (road yard : List ℕ) (m limit : ℕ) (work tree : List ℕ) 
   -- at most 511 regions, and six levels
   pub few : length (builtTree road yard m limit .regions) ≤ 511
   pub six : Preorder (builtTree road yard m limit .regions) 6 0 (0 ∷ []) (length (builtTree road yard m limit .regions))
-  -- no leaf has more yards than the limit, and the ranges are cut as "Building" says
+  -- no leaf has more yards than the limit
   pub leaf-limit : (r : Region) → Mem r (builtTree road yard m limit .regions) → r .children ≡ 0 → r .yards ≤ limit
-  pub rule : Rule (given road m limit)
+  -- "the one tree that the stated cuts give": the written tree is one that they give, and it is the only one
+  pub cuts : BuiltFrom road yard m limit (decode (writtenBook road yard m limit (length work) tree))
+  pub one-tree : (t : Tree) → BuiltFrom road yard m limit t
+      → t ≡ decode (writtenBook road yard m limit (length work) tree)
   -- "zero the first 16,384 words of the work area and leave any after them"
   pub zeroes : workAfter (buildAnswer road yard m limit (length work) (length tree)) work ≡ zeroed workWords work
 

@@ -1,2 +1,3 @@
 pub mod Truth
 pub mod Facts
+pub mod Extremes

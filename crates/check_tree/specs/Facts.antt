@@ -17,6 +17,7 @@ use Rattle.tree_layout.specs.Decode.{junctionCount, decode}
 use Rattle.tree_leaf.specs.Leaf.{yardsIn}
 use Rattle.tree.specs.Shape.{treeRefusal}
 use Rattle.tree.specs.RegionYards.{YardOf}
+use Rattle.check_rules.specs.Extremes.{LeastOf, GreatestOf}
 use Rattle.check_tree.specs.Check.{checkAnswer}
 
 -- region j is a leaf, and each of its lists names yard y
@@ -37,15 +38,13 @@ pub record HoldsEach (rs : List Region) (ys : List ℕ) : Type 0 where
   pub no-other : (j : ℕ) → j < length rs → regionAt rs j .children ≡ 0 → (m : Mark) → Mem m (regionAt rs j .marks)
       → (y : ℕ) → Mem y (yardsIn (m .list)) → Mem y ys
 
--- x is the least of the distances from l to the yards of some kind: it is one of them, and none is below it
-pub record LeastTotal (arcs : List Arc) (l : ℕ) (Yard : ℕ → Type 0) (x : ℕ) : Type 0 where
-  pub reached : (y : ℕ) × Yard y × Least arcs l y x
-  pub low : (y t : ℕ) → Yard y → Least arcs l y t → x ≤ t
+-- x is the least of the distances from l to the yards of some kind
+abbrev pub LeastTotal : (arcs : List Arc) (l : ℕ) (Yard : ℕ → Type 0) (x : ℕ) → Type 0
+LeastTotal arcs l Yard x = LeastOf Yard (Least arcs l) x
 
 -- x is the greatest of them
-pub record GreatestTotal (arcs : List Arc) (l : ℕ) (Yard : ℕ → Type 0) (x : ℕ) : Type 0 where
-  pub reached : (y : ℕ) × Yard y × Least arcs l y x
-  pub high : (y t : ℕ) → Yard y → Least arcs l y t → t ≤ x
+abbrev pub GreatestTotal : (arcs : List Arc) (l : ℕ) (Yard : ℕ → Type 0) (x : ℕ) → Type 0
+GreatestTotal arcs l Yard x = GreatestOf Yard (Least arcs l) x
 
 -- "each stored distance is the least total of any walk through the roads .., with each least and greatest true of its
 -- region's yards"

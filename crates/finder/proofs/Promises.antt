@@ -190,7 +190,15 @@ pub build-true : BuildTrue
 build-true road yard m limit work tree b i a =
     let z = build-accepted road yard m limit (length work) (length tree) .1 (record { books = b; range = i; areas = a }) in
     let w = build-exact road yard m limit work tree .accepted z in
-    record { one = w .one; cuts = w .rule; size = w .size; short = omega (arith, w .size, w .short); passes = w .passes; back = w .back }
+    record {
+      one = w .one;
+      cuts = w .cuts;
+      one-tree = w .one-tree;
+      size = w .size;
+      short = omega (arith, w .size, w .short);
+      passes = w .passes;
+      back = w .back;
+    }
 
 -- ---- demand 1, of search
 

@@ -22,17 +22,17 @@ use Rattle.road.specs.Facts.{Passing}
 use Rattle.road.specs.Tests.{roadTests, CutOff}
 use Rattle.yard.specs.Yards.{YardLayout, yardCount, yardAt, yardsOf}
 use Rattle.yard.specs.Tests.{yardTestsIn}
+use Rattle.tree_layout.specs.Values.{Tree}
 use Rattle.tree_layout.specs.Decode.{junctionCount, decode}
 use Rattle.tree_layout.specs.Facts.{TreeLayout}
 use Rattle.tree.specs.Facts.{TreeShape}
 use Rattle.tree.specs.Theorems.{TreeFacts}
 use Rattle.tree.specs.Tests.{treeTests}
 use Rattle.tree_encode.specs.Encode.{encode}
-use Rattle.build_rules.specs.Facts.{Rule}
 use Rattle.check_tree.specs.Check.{checkAnswer}
 use Rattle.check_tree.specs.Facts.{HoldsEach, TrueTotals}
-use Rattle.build_records.specs.Given.{given}
 use Rattle.build_tree.specs.Build.{treeBytes, buildAnswer, builtTree, builtLength, treeAfter}
+use Rattle.build_tree.specs.Building.{BuiltFrom}
 use Rattle.build_tree.specs.Facts.{InRange, BuildAreas, writtenBook}
 use Rattle.query.specs.Query.{kOf, QueryLayout}
 use Rattle.query.specs.Tests.{queryTests}
@@ -189,11 +189,14 @@ BuildSafe = (road yard : List ℕ) (m limit : ℕ) (work tree : List ℕ)
 -- "Building writes the one tree that the stated cuts give; it passes, and reading it back gives the regions and numbers
 -- that were written."
 pub record BuildWrites (road yard : List ℕ) (m limit : ℕ) (work tree : List ℕ) : Type 0 where
-  -- "the one tree", and "Bytes after a built tree stay."; `builtTree` is a value, and its ranges are cut as the paper's
-  -- "Building" says
+  -- the book that is written, and "Bytes after a built tree stay."
   pub one : treeAfter road yard m limit (length work) tree
       ≡ encode (builtTree road yard m limit) ++ drop (length (encode (builtTree road yard m limit))) tree
-  pub cuts : Rule (given road m limit)
+  -- "the one tree that the stated cuts give": the tree of the bytes that were written is cut as the paper's "Building"
+  -- says, and no other tree is
+  pub cuts : BuiltFrom road yard m limit (decode (writtenBook road yard m limit (length work) tree))
+  pub one-tree : (t : Tree) → BuiltFrom road yard m limit t
+      → t ≡ decode (writtenBook road yard m limit (length work) tree)
   -- "Build returns the tree's length.", and no tree is longer than the area that is asked for
   pub size : builtLength road yard m limit (length work) (length tree) ≡ length (encode (builtTree road yard m limit))
   pub short : length (encode (builtTree road yard m limit)) ≤ treeBytes
