@@ -29,7 +29,8 @@ extern "C" {
 #define FINDER_VERSION "1.0.0" /* of this header and the library */
 #define FINDER_BOOK_VERSION 1  /* the version byte of every book */
 
-/* The greatest that a book or a call may have; each is at least 1, but for roads, which may be none. */
+/* The greatest counts and values of books and calls. Of junctions, yards, regions, landmarks, crews, k and the leaf
+ * limit the least is 1, and so it is of a road's seconds; there may be no road. */
 #define FINDER_JUNCTIONS_MAX 1024
 #define FINDER_ROADS_MAX 4096
 #define FINDER_SECONDS_MAX 65535     /* of a road */

@@ -4,6 +4,8 @@
 
 #include "books.h"
 
+_Static_assert(FINDER_SETTLING_LIMIT == FINDER_REGIONS_MAX / 2 + 2 * FINDER_YARDS_MAX, "inner regions, twice yards");
+
 static struct book road, yard, tree, query;
 static uint8_t built[FINDER_TREE_BYTES];
 static uint32_t work[FINDER_WORK_WORDS];
@@ -157,7 +159,8 @@ static void try_limits_of_queries(void)
 
     take_built(1, 1);
     write_query(&query, FINDER_K_MAX, FINDER_CREWS_MAX, 64);
-    found = search_with(2 * FINDER_K_MAX);
+    expect("result words, one less", search_with(FINDER_RESULT_WORDS - 1).refusal, FINDER_REFUSED_AREA);
+    found = search_with(FINDER_RESULT_WORDS);
     expect("k and crews", found.refusal, FINDER_ACCEPTED);
     if (!found.settled || found.listed != FINDER_K_MAX) {
         failures++;
