@@ -1,32 +1,20 @@
-/* The meeting-yard finder, for C. Link with libfinder.a, which `rt staticlib finder` writes to target/staticlib.
+/* The meeting-yard finder, for C. Link with libfinder.a, which `make library` writes to target/staticlib and
+ * `make install` installs. docs/BOOKS.md explains the four books byte by byte; examples/plan.c is a whole program.
  *
- * What is lent. A call is lent byte areas (books, and the area that a tree is built into) and word areas as a pointer and a count: of
- * bytes, or of 32-bit words for the work and result areas. No pointer is NULL, also where the count is 0, and each is aligned for its
- * type. An area that a call writes (work, results, a built tree's) overlaps no other area of the call. All is lent for the time of the
- * call only: nothing is kept, nothing is allocated, and nothing outside the lent areas is read or written. Books are only read; they
- * may hold any bytes. Calls may run at the same time if no area that one of them writes is lent to another.
+ * What is lent. A call is lent byte areas (books, and the area that a tree is built into) and word areas, each as a
+ * pointer and a count: of bytes, or of 32-bit words for the work and result areas. No pointer is NULL, also where the
+ * count is 0, and each is aligned for its type. An area that a call writes (work, results, a built tree's) overlaps no
+ * other area of the call. All is lent for the time of the call only: nothing is kept, nothing is allocated, and nothing
+ * outside the lent areas is read or written. Books are only read; they may hold any bytes. Calls may run at the same
+ * time if no area that one of them writes is lent to another.
  *
- * What comes back. The refusal is 0 if the call is accepted. Otherwise it is the number below of the first test that failed, every
- * other field is 0, and no lent byte or word has changed. Books are tested in the order road, yard, tree, query, each through all of
- * its tests; then the call's numbers, then the areas.
+ * What comes back. The refusal is 0 if the call is accepted. Otherwise it is the number of the first test that failed
+ * (enum finder_refusal), every other field is 0, and no lent byte or word has changed. Books are tested in the order
+ * road, yard, tree, query, each through all of its tests; then the call's numbers, then the areas. The work area may
+ * hold anything. An accepted call leaves its first FINDER_WORK_WORDS words 0 and the rest as they were.
  *
- *    1  fewer than five bytes, or the length is not the count of the bytes after it
- *    2  the version is not 1
- *    3  the header is incomplete, or a junction, road, yard, region or landmark count is outside its limits
- *    4  a record is incomplete, or bytes follow the last one
- *    5  a record's value is outside its range or order
- *    6  some junction can't be reached from junction 0
- *    7  the tree's shape rules don't hold
- *    8  junction counts or yards disagree between books, or a yard isn't a junction of the road book
- *    9  in a check: a stored distance, least or greatest isn't the true one
- *   10  crews are none, more than 16, or at no junction of the road book
- *   11  k is outside 1 to 64, the aggregate code isn't 0 or 1, m is outside 1 to 4, or the leaf limit outside 1 to 256
- *   12  a lent area is too short: work below FINDER_WORK_WORDS words, results below 2 * k words, a built tree's area below
- *       FINDER_TREE_BYTES bytes
- *
- * The work area may hold anything. An accepted call leaves its first FINDER_WORK_WORDS words 0 and the rest as they were.
- * A search needs at most FINDER_STACK_BYTES bytes of stack, a check or a build at most FINDER_CHECK_STACK_BYTES. This is measured, not
- * proved: on x86-64, 84,392 for a check, 80,424 for a build, 143,512 for a search; the tests measure it again.
+ * Proved and measured. All that is said here of answers and areas is proved, for every input. One thing is measured and
+ * not proved: the stack that a call takes (FINDER_STACK_BYTES, FINDER_CHECK_STACK_BYTES).
  */
 #ifndef FINDER_H
 #define FINDER_H
@@ -38,16 +26,57 @@
 extern "C" {
 #endif
 
+#define FINDER_VERSION "1.0.0" /* of this header and the library */
+#define FINDER_BOOK_VERSION 1  /* the version byte of every book */
+
+/* The greatest counts and values of books and calls. Of junctions, yards, regions, landmarks, crews, k and the leaf
+ * limit the least is 1, and so it is of a road's seconds; there may be no road. */
+#define FINDER_JUNCTIONS_MAX 1024
+#define FINDER_ROADS_MAX 4096
+#define FINDER_SECONDS_MAX 65535     /* of a road */
+#define FINDER_YARDS_MAX 256
+#define FINDER_REGIONS_MAX 511       /* of a tree */
+#define FINDER_LEVELS_MAX 8          /* of a tree, root included */
+#define FINDER_CHILDREN_MAX 4        /* of a region: none, or 2 to 4 */
+#define FINDER_LANDMARKS_MAX 4       /* m, of each region */
+#define FINDER_DISTANCE_MAX 67042305 /* a distance of two junctions, in seconds: 1,023 roads of 65,535 */
+#define FINDER_LEAF_LIMIT_MAX 256    /* of a build */
+#define FINDER_CREWS_MAX 16
+#define FINDER_K_MAX 64
+#define FINDER_SETTLING_LIMIT 767    /* steps that settle every search on a tree that passes the check */
+
+/* How long areas have to be; a query of fewer than 64 yards needs only 2 * k result words. */
 #define FINDER_WORK_WORDS 16384
-#define FINDER_TREE_BYTES 21981
-#define FINDER_RESULT_WORDS 128 /* 2 * k words for the greatest k */
-#define FINDER_SETTLING_LIMIT 767 /* at most 255 inner regions and 256 yards */
+#define FINDER_RESULT_WORDS 128
+#define FINDER_TREE_BYTES 21981 /* for a build; no built tree is longer */
+
+/* The stack that a call takes at most, with room to spare. Measured by tests/stack.c on x86-64, and not proved. */
 #define FINDER_STACK_BYTES 180224       /* of any call: 176 KiB */
 #define FINDER_CHECK_STACK_BYTES 131072 /* of a check or a build: 128 KiB */
 
-/* Checks a tree book beside a road book and a yard book. It answers 0 if and only if the books are sound, the tree's leaves hold each
- * yard of the yard book once and no other, each stored distance is the least total of seconds of any walk through the roads, with
- * each least and greatest true of its region's yards, and the work area is long enough. */
+/* The tests, in their order; a refusal is the number of the first that failed. */
+enum finder_refusal {
+    FINDER_ACCEPTED = 0,
+    FINDER_REFUSED_LENGTH = 1,    /* fewer than five bytes, or the length is not the count of the bytes after it */
+    FINDER_REFUSED_VERSION = 2,   /* the version is not 1 */
+    FINDER_REFUSED_HEADER = 3,    /* the header is incomplete, or a count in it is outside its limits */
+    FINDER_REFUSED_RECORDS = 4,   /* a record is incomplete, or bytes follow the last one */
+    FINDER_REFUSED_VALUE = 5,     /* a record's value is outside its range or order */
+    FINDER_REFUSED_UNREACHED = 6, /* some junction can't be reached from junction 0 */
+    FINDER_REFUSED_SHAPE = 7,     /* the tree's shape rules don't hold */
+    FINDER_REFUSED_DISAGREE = 8,  /* junction counts or yards differ between books, or a yard is no junction */
+    FINDER_REFUSED_DISTANCE = 9,  /* in a check only: a stored distance, least or greatest isn't the true one */
+    FINDER_REFUSED_CREWS = 10,    /* crews are none, more than 16, or at no junction of the road book */
+    FINDER_REFUSED_NUMBER = 11,   /* k, the aggregate, m or the leaf limit is outside its range */
+    FINDER_REFUSED_AREA = 12      /* a lent area is too short */
+};
+
+/* What a query's aggregate makes of the drives from the crews. */
+enum finder_aggregate { FINDER_SUM = 0, FINDER_MAXIMUM = 1 };
+
+/* Checks a tree book beside a road book and a yard book. It answers 0 if and only if the books are sound, the tree's
+ * leaves hold each yard of the yard book once and no other, each stored distance is the least total of seconds of any
+ * walk through the roads, with each least and greatest true of its region's yards, and the work area is long enough. */
 uint32_t finder_check(const uint8_t *road, size_t road_len, const uint8_t *yard, size_t yard_len,
                       const uint8_t *tree, size_t tree_len, uint32_t *work, size_t work_len);
 
@@ -56,8 +85,8 @@ struct finder_built {
     uint32_t length; /* of the tree, in bytes */
 };
 
-/* Writes the tree book of the roads and yards, with m landmarks for each region and leaves of at most leaf_limit yards. The tree passes
- * the check; the bytes of the area after it stay as they were. */
+/* Writes the tree book of the roads and yards, with m landmarks for each region and leaves of at most leaf_limit yards.
+ * The tree passes the check; the bytes of the area after it stay as they were. */
 struct finder_built finder_build(const uint8_t *road, size_t road_len, const uint8_t *yard, size_t yard_len,
                                  uint32_t m, uint32_t leaf_limit, uint32_t *work, size_t work_len,
                                  uint8_t *tree, size_t tree_len);
@@ -70,19 +99,18 @@ struct finder_found {
     uint32_t measured; /* how many yards were measured by their true distances */
 };
 
-/* Searches a tree beside a road book for the k yards with the least aggregate of true distances to the crews. The query book has, after
- * its count and version: the aggregate (a byte: 0 for the sum, 1 for the maximum), k (a byte), the limit of steps (four bytes), the
- * number of crews (a byte) and their junctions (two bytes each), high bytes first.
+/* Searches a tree beside a road book for the k yards with the least aggregate of true distances to the crews.
  *
- * A settled search writes its list over the start of results: for each yard listed two words, the yard (its junction) and its aggregate
- * distance in seconds, the least first, yards of equal distance by junction. The result words after the list stay as they were. A search
- * is spent if it took the limit's steps and isn't settled; then all of results stays as it was. On a tree that passes the check, a limit
- * of the tree's inner regions plus twice its yards settles every search; no tree needs more than FINDER_SETTLING_LIMIT.
+ * A settled search writes its list over the start of results: for each yard listed two words, the yard (its junction)
+ * and its aggregate distance in seconds, the least first, yards of equal distance by junction. The result words after
+ * the list stay as they were. A search is spent if it took the query's limit of steps and isn't settled; then all of
+ * results stays as it was. On a tree that passes the check, a limit of the tree's inner regions plus twice its yards
+ * settles every search; no tree needs more than FINDER_SETTLING_LIMIT.
  *
- * On a tree that passes the check beside these roads the list is exactly the first k of the tree's yards in this order, or all of them
- * if there are fewer: no yard left out comes before one listed. A search itself doesn't make the check's test 9. On a tree that a check
- * would refuse by 9 the list's yards are distinct, in order and with true distances, but a yard may be left out. So check a tree once
- * before searching on it, and again beside other roads. */
+ * On a tree that passes the check beside these roads the list is exactly the first k of the tree's yards in this order,
+ * or all of them if there are fewer: no yard left out comes before one listed. A search itself doesn't make the check's
+ * test 9. On a tree that a check would refuse by 9 the list's yards are distinct, in order and with true distances, but
+ * a yard may be left out. So check a tree once before searching on it, and again beside other roads. */
 struct finder_found finder_search(const uint8_t *road, size_t road_len, const uint8_t *tree, size_t tree_len,
                                   const uint8_t *query, size_t query_len, uint32_t *work, size_t work_len,
                                   uint32_t *results, size_t results_len);

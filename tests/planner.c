@@ -1,4 +1,5 @@
-/* A small planner: builds a tree for net N, checks it, then damaged ones, searches it, and prints. */
+/* A small planner: builds a tree for net N, checks it, then damaged ones, searches it, and prints. In what it prints
+ * every returned field has a number of its own somewhere, so that no two can be exchanged unseen. */
 #include <stdio.h>
 
 #include "finder.h"
@@ -14,7 +15,8 @@ static const uint8_t road[] = {
 static const uint8_t yard[] = {0, 0, 0, 9, 1, 0, 3, 0, 1, 0, 3, 0, 4};
 
 /* Sum, k 2, limit 4, crews at junctions 0 and 2. */
-static uint8_t query[] = {0, 0, 0, 12, 1, 0, 2, 0, 0, 0, 4, 2, 0, 0, 0, 2};
+static uint8_t query[] = {0, 0, 0, 12, FINDER_BOOK_VERSION, FINDER_SUM, 2, 0, 0, 0, 4, 2, 0, 0, 0, 2};
+#define AGGREGATE 5
 #define K 6
 #define LIMIT 10
 #define LAST_CREW 15
@@ -48,13 +50,14 @@ static void report(const char *call, uint32_t refusal)
     printf("%s: %u; work words zeroed %zu, kept %zu\n", call, (unsigned)refusal, zero, kept);
 }
 
-/* Builds the tree into the first bytes of its area, with m landmarks for each region and leaves of at most three yards. */
-static size_t build(const char *call, uint32_t m, size_t bytes)
+/* Builds the tree into the first bytes of its area, with m landmarks for each region and leaves of at most so many
+ * yards. */
+static size_t build(const char *call, uint32_t m, uint32_t leaf_limit, size_t bytes)
 {
     struct finder_built built;
 
     fill_words();
-    built = finder_build(road, sizeof road, yard, sizeof yard, m, 3, work, FINDER_WORK_WORDS, tree, bytes);
+    built = finder_build(road, sizeof road, yard, sizeof yard, m, leaf_limit, work, FINDER_WORK_WORDS, tree, bytes);
     report(call, built.refusal);
     printf("  length %u\n", (unsigned)built.length);
     return built.length;
@@ -99,17 +102,25 @@ static void search(const char *call, size_t length, size_t words)
     struct finder_found found;
 
     fill_words();
-    found = finder_search(road, sizeof road, tree, length, query, sizeof query, work, FINDER_WORK_WORDS, results, words);
+    found = finder_search(road, sizeof road, tree, length, query, sizeof query, work, FINDER_WORK_WORDS,
+                          results, words);
     report(call, found.refusal);
     printf("  settled %u, listed %u, taken %u, measured %u\n", (unsigned)found.settled, (unsigned)found.listed,
            (unsigned)found.taken, (unsigned)found.measured);
     print_results(&found);
 }
 
-/* The query's searches, one settled, one spent, the others refused. */
+/* The query's searches: three are settled, one is spent, the others are refused. */
 static void search_all(size_t length)
 {
     search("search for two yards", length, RESULT_WORDS);
+    query[AGGREGATE] = FINDER_MAXIMUM;
+    search("search for two yards by the maximum", length, RESULT_WORDS);
+    query[AGGREGATE] = FINDER_SUM;
+    query[LAST_CREW] = 4; /* every yard is on the way from 0 to 4: all are tied, and all are measured */
+    query[LIMIT] = 6;
+    search("search for two of three tied yards", length, RESULT_WORDS);
+    query[LAST_CREW] = 2;
     query[LIMIT] = 3;
     search("search of three steps", length, RESULT_WORDS);
     query[LIMIT] = 4;
@@ -126,9 +137,10 @@ int main(void)
 {
     size_t length;
 
-    build("build with five landmarks", 5, sizeof tree);
-    build("build into a short area", 1, sizeof tree - 1);
-    length = build("build of net N's tree", 1, sizeof tree);
+    build("build with five landmarks", 5, 3, sizeof tree);
+    build("build with no yard in a leaf", 1, 0, sizeof tree);
+    build("build into a short area", 1, 3, sizeof tree - 1);
+    length = build("build of net N's tree", 1, 3, sizeof tree);
     print_tree(length);
 
     check("check of it", length, FINDER_WORK_WORDS);

@@ -1,0 +1,213 @@
+/* Each refusal by the header's name, and each of the header's limits: a call at the limit passes, and one above it is
+ * refused. Prints what is not as expected. */
+#include <stdio.h>
+
+#include "books.h"
+
+_Static_assert(FINDER_SETTLING_LIMIT == FINDER_REGIONS_MAX / 2 + 2 * FINDER_YARDS_MAX, "inner regions, twice yards");
+
+static struct book road, yard, tree, query;
+static uint8_t built[FINDER_TREE_BYTES];
+static uint32_t work[FINDER_WORK_WORDS];
+static uint32_t results[FINDER_RESULT_WORDS];
+static unsigned calls, failures;
+
+static void expect(const char *what, uint32_t refusal, enum finder_refusal wanted)
+{
+    calls++;
+    if (refusal == (uint32_t)wanted)
+        return;
+    failures++;
+    printf("%s: refusal %u, and %u is expected\n", what, (unsigned)refusal, (unsigned)wanted);
+}
+
+static uint32_t check_with(size_t words)
+{
+    return finder_check(road.bytes, road.length, yard.bytes, yard.length, tree.bytes, tree.length, work, words);
+}
+
+static uint32_t check(void)
+{
+    return check_with(FINDER_WORK_WORDS);
+}
+
+static struct finder_built build_with(uint32_t m, uint32_t leaf_limit, size_t bytes)
+{
+    return finder_build(road.bytes, road.length, yard.bytes, yard.length, m, leaf_limit, work, FINDER_WORK_WORDS,
+                        built, bytes);
+}
+
+static uint32_t build(uint32_t m, uint32_t leaf_limit)
+{
+    return build_with(m, leaf_limit, sizeof built).refusal;
+}
+
+static struct finder_found search_with(size_t words)
+{
+    return finder_search(road.bytes, road.length, tree.bytes, tree.length, query.bytes, query.length,
+                         work, FINDER_WORK_WORDS, results, words);
+}
+
+static uint32_t search(void)
+{
+    return search_with(FINDER_RESULT_WORDS).refusal;
+}
+
+/* The call with one byte of a book changed. */
+static void change(const char *what, struct book *book, size_t at, uint8_t value, uint32_t (*call)(void),
+                   enum finder_refusal wanted)
+{
+    uint8_t before = book->bytes[at];
+
+    book->bytes[at] = value;
+    expect(what, call(), wanted);
+    book->bytes[at] = before;
+}
+
+/* The tree that a build gives becomes the tree book. */
+static void take_built(uint32_t m, uint32_t leaf_limit)
+{
+    struct finder_built answer = build_with(m, leaf_limit, sizeof built);
+
+    expect("build", answer.refusal, FINDER_ACCEPTED);
+    for (tree.length = 0; tree.length < answer.length; tree.length++)
+        tree.bytes[tree.length] = built[tree.length];
+}
+
+/* Net N: junctions 0 to 4 in a chain, seconds 2, 3, 4, 1; yards 1, 3, 4; the first two for crews at 0 and 2. */
+static void write_net_n(void)
+{
+    open_book(&road);
+    add16(&road, 5);
+    add16(&road, 4);
+    add_road(&road, 0, 1, 2);
+    add_road(&road, 1, 2, 3);
+    add_road(&road, 2, 3, 4);
+    add_road(&road, 3, 4, 1);
+    close_book(&road);
+    open_book(&yard);
+    add16(&yard, 3);
+    add16(&yard, 1);
+    add16(&yard, 3);
+    add16(&yard, 4);
+    close_book(&yard);
+    write_query(&query, 2, 2, 2);
+}
+
+static void try_refusals(void)
+{
+    write_net_n();
+    take_built(1, 3);
+    expect("check", check(), FINDER_ACCEPTED);
+    expect("search", search(), FINDER_ACCEPTED);
+    change("a count one less", &road, 3, 28, check, FINDER_REFUSED_LENGTH);
+    change("version 2", &tree, 4, 2, check, FINDER_REFUSED_VERSION);
+    change("no yard", &yard, 6, 0, check, FINDER_REFUSED_HEADER);
+    change("a road after the last", &road, 8, 3, check, FINDER_REFUSED_RECORDS);
+    change("a road of no seconds", &road, 14, 0, check, FINDER_REFUSED_VALUE);
+    change("a junction without a road", &road, 6, 6, check, FINDER_REFUSED_UNREACHED);
+    change("a root that holds not all yards", &tree, 10, 2, check, FINDER_REFUSED_SHAPE);
+    change("another yard", &tree, 38, 2, check, FINDER_REFUSED_DISAGREE);
+    change("a distance one more", &tree, 36, 11, check, FINDER_REFUSED_DISTANCE);
+    change("a crew at no junction", &query, 15, 5, search, FINDER_REFUSED_CREWS);
+    change("an aggregate that is none", &query, 5, FINDER_MAXIMUM + 1, search, FINDER_REFUSED_NUMBER);
+    change("the maximum", &query, 5, FINDER_MAXIMUM, search, FINDER_ACCEPTED);
+    expect("a short work area", check_with(FINDER_WORK_WORDS - 1), FINDER_REFUSED_AREA);
+    expect("a short tree area", build_with(1, 3, FINDER_TREE_BYTES - 1).refusal, FINDER_REFUSED_AREA);
+    expect("a short result area", search_with(3).refusal, FINDER_REFUSED_AREA);
+}
+
+/* Every pair of 92 junctions, the first so many of them, has a road. */
+static void write_pairs(unsigned roads)
+{
+    unsigned low, high, left = roads;
+
+    open_book(&road);
+    add16(&road, 92);
+    add16(&road, roads);
+    for (low = 0; low < 92; low++)
+        for (high = low + 1; high < 92 && left > 0; high++, left--)
+            add_road(&road, low, high, 1);
+    close_book(&road);
+}
+
+static void try_limits_of_roads_and_yards(void)
+{
+    write_yards(&yard, 1);
+    write_pairs(FINDER_ROADS_MAX);
+    expect("roads", build(1, 1), FINDER_ACCEPTED);
+    write_pairs(FINDER_ROADS_MAX + 1);
+    expect("roads and one more", build(1, 1), FINDER_REFUSED_HEADER);
+    write_chain(&road, FINDER_JUNCTIONS_MAX + 1, 1);
+    expect("junctions and one more", build(1, 1), FINDER_REFUSED_HEADER);
+    write_chain(&road, FINDER_JUNCTIONS_MAX, FINDER_SECONDS_MAX + 1);
+    expect("seconds and one more, which is 0 in 16 bits", build(1, 1), FINDER_REFUSED_VALUE);
+    write_chain(&road, FINDER_JUNCTIONS_MAX, FINDER_SECONDS_MAX);
+    write_yards(&yard, FINDER_YARDS_MAX + 1);
+    expect("yards and one more", build(1, 1), FINDER_REFUSED_HEADER);
+    write_yards(&yard, FINDER_YARDS_MAX);
+    expect("landmarks and one more", build(FINDER_LANDMARKS_MAX + 1, 1), FINDER_REFUSED_NUMBER);
+    expect("leaf limit and one more", build(1, FINDER_LEAF_LIMIT_MAX + 1), FINDER_REFUSED_NUMBER);
+    take_built(FINDER_LANDMARKS_MAX, FINDER_LEAF_LIMIT_MAX);
+    expect("check of a full leaf", check(), FINDER_ACCEPTED);
+}
+
+/* On the district that the limits of roads and yards leave, with a tree of small leaves. */
+static void try_limits_of_queries(void)
+{
+    struct finder_found found;
+
+    take_built(1, 1);
+    write_query(&query, FINDER_K_MAX, FINDER_CREWS_MAX, 64);
+    expect("result words, one less", search_with(FINDER_RESULT_WORDS - 1).refusal, FINDER_REFUSED_AREA);
+    found = search_with(FINDER_RESULT_WORDS);
+    expect("k and crews", found.refusal, FINDER_ACCEPTED);
+    if (!found.settled || found.listed != FINDER_K_MAX) {
+        failures++;
+        printf("the settling limit: settled %u, listed %u\n", (unsigned)found.settled, (unsigned)found.listed);
+    }
+    write_query(&query, FINDER_K_MAX + 1, FINDER_CREWS_MAX, 64);
+    expect("k and one more", search(), FINDER_REFUSED_NUMBER);
+    write_query(&query, FINDER_K_MAX, FINDER_CREWS_MAX + 1, 1);
+    expect("crews and one more", search(), FINDER_REFUSED_CREWS);
+}
+
+/* On net N, with its tree of one leaf. */
+static void try_limits_of_trees(void)
+{
+    write_net_n();
+    take_built(1, 3);
+    put32(&tree, 33, FINDER_DISTANCE_MAX); /* of the last yard */
+    expect("distance", check(), FINDER_REFUSED_DISTANCE);
+    put32(&tree, 33, FINDER_DISTANCE_MAX + 1);
+    expect("distance and one more", check(), FINDER_REFUSED_VALUE);
+    put32(&tree, 7, FINDER_REGIONS_MAX * 65536 + 3); /* the regions, and 3 yards */
+    expect("regions", check(), FINDER_REFUSED_RECORDS);
+    put32(&tree, 7, (FINDER_REGIONS_MAX + 1) * 65536 + 3);
+    expect("regions and one more", check(), FINDER_REFUSED_HEADER);
+}
+
+/* On a chain, with a tree that is as deep as one may be, and one that is deeper. */
+static void try_limits_of_depth(void)
+{
+    write_chain(&road, 20, 1);
+    write_yards(&yard, FINDER_LEVELS_MAX);
+    write_deep_tree(&tree, 20, FINDER_LEVELS_MAX);
+    expect("levels", check(), FINDER_ACCEPTED);
+    change("children", &tree, 16, FINDER_CHILDREN_MAX, check, FINDER_REFUSED_SHAPE);
+    change("children and one more", &tree, 16, FINDER_CHILDREN_MAX + 1, check, FINDER_REFUSED_VALUE);
+    write_yards(&yard, FINDER_LEVELS_MAX + 1);
+    write_deep_tree(&tree, 20, FINDER_LEVELS_MAX + 1);
+    expect("levels and one more", check(), FINDER_REFUSED_SHAPE);
+}
+
+int main(void)
+{
+    try_refusals();
+    try_limits_of_roads_and_yards();
+    try_limits_of_queries();
+    try_limits_of_trees();
+    try_limits_of_depth();
+    printf("refusals and limits: %u calls, %u not as expected\n", calls, failures);
+    return failures != 0;
+}
