@@ -4,7 +4,7 @@ PROGRAMS := list outline eccentricity
 LIBRARY := target/staticlib/libfinder.a
 VERSION := $(shell sed -n 's/^.define FINDER_VERSION "\([^"]*\)".*/\1/p' include/finder.h)
 
-.PHONY: demo test bench library programs install clean FORCE
+.PHONY: demo test bench dispatch library programs install clean FORCE
 .NOTPARALLEL:
 
 # The main job on a shipped example: the yards of net N, a chain of five junctions, for crews at junctions 0 and 2.
@@ -37,6 +37,10 @@ install: library programs
 	install -m 755 $(PROGRAMS:%=target/bin/%) $(DESTDIR)$(PREFIX)/bin
 	sed -e 's|@PREFIX@|$(PREFIX)|' -e 's|@VERSION@|$(VERSION)|' include/finder.pc.in \
 	  > $(DESTDIR)$(PREFIX)/lib/pkgconfig/finder.pc
+
+# A person's own district, answered by the proved calls: compare/target/release/dispatch (docs/DISTRICT.md).
+dispatch: library
+	cd compare && cargo build --release --offline --quiet --package proved
 
 clean:
 	rm -rf target compare/target
