@@ -19,10 +19,10 @@ pub const FAR: u32 = 4294967295;
 const ABSENT: u64 = 4398046510080;
 
 // The distance of junction v, FAR where the list has none.
-pub fn distance_to(ds: &[u32], v: u16) -> u32
-    ensures { λ r. ⌜ r ≡ at (now (ds .entry)) v ⌝ }
+pub fn distance_to(ds: &[u32], v: Junction) -> u32
+    ensures { λ r. ⌜ r ≡ at (now (ds .entry)) (v .number) ⌝ }
 {
-    let i = v as usize;
+    let i = v.number as usize;
     if ds.len() <= i {
         return FAR;
     }
@@ -30,27 +30,27 @@ pub fn distance_to(ds: &[u32], v: u16) -> u32
 }
 
 // Makes x junction v's distance and queues it, if x is shorter.
-fn shorten(row: &mut [u32], queue: &mut [u64], v: u16, x: u32)
-    requires { ⌜ (length (now row) ≡ 1024) × (length (now queue) ≡ queueWords) × (v < 1024)
+fn shorten(row: &mut [u32], queue: &mut [u64], v: Junction, x: u32)
+    requires { ⌜ (length (now row) ≡ 1024) × (length (now queue) ≡ queueWords) × (v .number < 1024)
         × Above (now row) (now queue) ⌝ }
     ensures { λ _. ⌜ reach (now (row .exit)) (now (queue .exit))
-        ≡ shortenBoth (reach (now (row .entry)) (now (queue .entry))) v x ⌝ }
+        ≡ shortenBoth (reach (now (row .entry)) (now (queue .entry))) (v .number) x ⌝ }
 {
-    let i = v as usize;
+    let i = v.number as usize;
     if x < row[i] {
         row[i] = x;
-        tournament::lower(queue, i, x as u64 * 1024 + v as u64);
+        tournament::lower(queue, i, x as u64 * 1024 + v.number as u64);
     }
 }
 
 // Relaxes the arcs of junction u at distance d.
-fn relax(adj: &[u16], row: &mut [u32], queue: &mut [u64], u: u16, d: u32)
+fn relax(adj: &[u16], row: &mut [u32], queue: &mut [u64], u: Junction, d: u32)
     requires { ⌜ IsAdjacency (now adj) × (length (now row) ≡ 1024) × (length (now queue) ≡ queueWords)
-        × (u < 1024) × (d ≤ 67042305) × Above (now row) (now queue) ⌝ }
+        × (u .number < 1024) × (d ≤ 67042305) × Above (now row) (now queue) ⌝ }
     ensures { λ _. ⌜ ((b : List ℕ) → Adjacency b (now (adj .entry)) → reach (now (row .exit)) (now (queue .exit))
-        ≡ relaxBoth u d (net b) (reach (now (row .entry)) (now (queue .entry)))) ⌝ }
+        ≡ relaxBoth (u .number) d (net b) (reach (now (row .entry)) (now (queue .entry)))) ⌝ }
 {
-    let mut a = adjacency::head(adj, u as usize);
+    let mut a = adjacency::head(adj, u);
     while a != 0 {
         let v = adjacency::to(adj, a);
         let s = adjacency::cost(adj, a);
@@ -60,15 +60,15 @@ fn relax(adj: &[u16], row: &mut [u32], queue: &mut [u64], u: u16, d: u32)
 }
 
 // Walks on from junction u at distance d: marks it, takes it off the queue, and relaxes its arcs.
-fn walk_on(adj: &[u16], row: &mut [u32], done: &mut [bool], queue: &mut [u64], u: u16, d: u32)
+fn walk_on(adj: &[u16], row: &mut [u32], done: &mut [bool], queue: &mut [u64], u: Junction, d: u32)
     requires { ⌜ IsAdjacency (now adj) × Roomy (now row) (now done) (now queue)
-        × (u < 1024) × (d ≤ 67042305) × Above (now row) (putLeaf (now queue) u absent) ⌝ }
+        × (u .number < 1024) × (d ≤ 67042305) × Above (now row) (putLeaf (now queue) (u .number) absent) ⌝ }
     ensures { λ _. ⌜
         ((b : List ℕ) → Adjacency b (now (adj .entry)) → reach (now (row .exit)) (now (queue .exit))
-        ≡ relaxBoth u d (net b) (reach (now (row .entry)) (putLeaf (now (queue .entry)) u absent)))
-        × (now (done .exit) ≡ set (now (done .entry)) u true) ⌝ }
+        ≡ relaxBoth (u .number) d (net b) (reach (now (row .entry)) (putLeaf (now (queue .entry)) (u .number) absent)))
+        × (now (done .exit) ≡ set (now (done .entry)) (u .number) true) ⌝ }
 {
-    let i = u as usize;
+    let i = u.number as usize;
     done[i] = true;
     tournament::put(queue, i, ABSENT);
     relax(adj, row, queue, u, d);
@@ -83,7 +83,10 @@ pub fn round(adj: &[u16], row: &mut [u32], done: &mut [bool], queue: &mut [u64])
 {
     let t = tournament::least(queue);
     if t < ABSENT {
-        walk_on(adj, row, done, queue, (t % 1024) as u16, (t / 1024) as u32);
+        let u = Junction {
+            number: (t % 1024) as u16,
+        };
+        walk_on(adj, row, done, queue, u, (t / 1024) as u32);
     }
 }
 

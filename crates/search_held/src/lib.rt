@@ -1,4 +1,5 @@
 // The held yards: the k least so far in yard order.
+use book::Junction;
 ghost use mathlib.Core.Path.{_≡_};
 ghost use mathlib.Core.List.{List, []};
 ghost use Prim.Native.Nat.{ℕ, _+_, _*_, _≤_, _<_};
@@ -28,13 +29,15 @@ pub fn none() -> Held
 }
 
 // The place of the first of n pairs that a yard with its distance comes before, or n.
-fn place(yards: &[u16], distances: &[u32], n: usize, yard: u16, distance: u32) -> usize
+fn place(yards: &[u16], distances: &[u32], n: usize, yard: Junction, distance: u32) -> usize
     requires { ⌜ (n ≤ length (now yards)) × (n ≤ length (now distances)) ⌝ }
-    ensures { λ r. ⌜ r ≡ placeIn (element distance yard) (pairs (now (yards .entry)) (now (distances .entry)) n 0) ⌝ }
+    ensures { λ r. ⌜ r
+        ≡ placeIn (element distance (yard .number)) (pairs (now (yards .entry)) (now (distances .entry)) n 0) ⌝ }
 {
     let mut j: usize = 0;
     while j < n {
-        if tree_layout::after(distance, yard, distances[j], yards[j]) {
+        let y = Junction { number: yards[j] };
+        if tree_layout::after(distance, yard, distances[j], y) {
             return j;
         }
         j += 1;
@@ -44,16 +47,16 @@ fn place(yards: &[u16], distances: &[u32], n: usize, yard: u16, distance: u32) -
 
 // What is held after one more yard: it goes to its place, and each from there on goes to the next; of more than k the
 // last one goes.
-pub fn hold(held: Held, k: usize, yard: u16, distance: u32) -> Held
+pub fn hold(held: Held, k: usize, yard: Junction, distance: u32) -> Held
     requires { ⌜ (held .count ≤ k) × (k ≤ 64) ⌝ }
-    ensures held { λ r. ⌜ heldOf r ≡ hold k (element distance yard) (heldOf held) ⌝ }
+    ensures held { λ r. ⌜ heldOf r ≡ hold k (element distance (yard .number)) (heldOf held) ⌝ }
     ensures room { λ r. ⌜ r .count ≤ k ⌝ }
 {
     let n = held.count;
     let mut yards = held.yards;
     let mut distances = held.distances;
     let mut j = place(&yards, &distances, n, yard, distance);
-    let mut y = yard;
+    let mut y = yard.number;
     let mut d = distance;
     while j < n {
         let next_y = yards[j];

@@ -4,3 +4,4 @@ pub mod Facts
 pub mod Theorems
 pub mod Arrays
 pub mod Answer
+pub mod Ends

@@ -17,4 +17,5 @@ pub mod Rising
 pub mod MarkFields
 pub mod Numbered
 pub mod RecordFields
+pub mod RegionRecords
 pub mod Accessing

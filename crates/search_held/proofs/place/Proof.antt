@@ -9,7 +9,7 @@ use Rattle.search_held.proofs.place.Statement.{statement}
 use Rattle.search_held.proofs.place.Tie as tie
 
 abbrev Inv-loop : tie.InvT-loop
-Inv-loop yards distances n yard distance j₀ j = (j ≤ n) × Seen (element distance yard) yards distances n j
+Inv-loop yards distances n yard distance j₀ j = (j ≤ n) × Seen (element distance (yard .number)) yards distances n j
 
 abbrev μ-loop : tie.MeasureT-loop
 μ-loop yards distances n yard distance j₀ j = n - j

@@ -11,7 +11,7 @@ use Rattle.check_tree.proofs.yards.has_yard.Statement.{statement}
 use Rattle.check_tree.proofs.yards.has_yard.Tie as tie
 
 abbrev Inv-loop : tie.InvT-loop
-Inv-loop yard y n k₀ k = (k ≤ n) × (has (drop k (yardsOf yard)) y ≡ has (yardsOf yard) y)
+Inv-loop yard y n k₀ k = (k ≤ n) × (has (drop k (yardsOf yard)) (y .number) ≡ has (yardsOf yard) (y .number))
 
 abbrev μ-loop : tie.MeasureT-loop
 μ-loop yard y n k₀ k = n - k

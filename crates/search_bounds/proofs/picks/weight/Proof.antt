@@ -10,7 +10,7 @@ use Rattle.search_bounds.proofs.picks.weight.Tie as tie
 
 abbrev Inv-loop : tie.InvT-loop
 Inv-loop table rows crews l x₀ j₀ x j =
-    Summed 0 (rowsLower table rows l) crews j x
+    Summed 0 (rowsLower table rows (l .number)) crews j x
 
 abbrev μ-loop : tie.MeasureT-loop
 μ-loop table rows crews l x₀ j₀ x j = length crews - j
