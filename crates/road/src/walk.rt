@@ -44,13 +44,13 @@ fn shorten(row: &mut [u32], queue: &mut [u64], v: Junction, x: u32)
 }
 
 // Relaxes the arcs of junction u at distance d.
-fn relax(adj: &[u16], row: &mut [u32], queue: &mut [u64], u: Junction, d: u32)
+fn relax(adj: &[u16], row: &mut [u32], queue: &mut [u64], u: u16, d: u32)
     requires { ⌜ IsAdjacency (now adj) × (length (now row) ≡ 1024) × (length (now queue) ≡ queueWords)
-        × (u .number < 1024) × (d ≤ 67042305) × Above (now row) (now queue) ⌝ }
+        × (u < 1024) × (d ≤ 67042305) × Above (now row) (now queue) ⌝ }
     ensures { λ _. ⌜ ((b : List ℕ) → Adjacency b (now (adj .entry)) → reach (now (row .exit)) (now (queue .exit))
-        ≡ relaxBoth (u .number) d (net b) (reach (now (row .entry)) (now (queue .entry)))) ⌝ }
+        ≡ relaxBoth u d (net b) (reach (now (row .entry)) (now (queue .entry)))) ⌝ }
 {
-    let mut a = adjacency::head(adj, u);
+    let mut a = adjacency::head(adj, Junction { number: u });
     while a != 0 {
         let v = adjacency::to(adj, a);
         let s = adjacency::cost(adj, a);
@@ -60,15 +60,15 @@ fn relax(adj: &[u16], row: &mut [u32], queue: &mut [u64], u: Junction, d: u32)
 }
 
 // Walks on from junction u at distance d: marks it, takes it off the queue, and relaxes its arcs.
-fn walk_on(adj: &[u16], row: &mut [u32], done: &mut [bool], queue: &mut [u64], u: Junction, d: u32)
+fn walk_on(adj: &[u16], row: &mut [u32], done: &mut [bool], queue: &mut [u64], u: u16, d: u32)
     requires { ⌜ IsAdjacency (now adj) × Roomy (now row) (now done) (now queue)
-        × (u .number < 1024) × (d ≤ 67042305) × Above (now row) (putLeaf (now queue) (u .number) absent) ⌝ }
+        × (u < 1024) × (d ≤ 67042305) × Above (now row) (putLeaf (now queue) u absent) ⌝ }
     ensures { λ _. ⌜
         ((b : List ℕ) → Adjacency b (now (adj .entry)) → reach (now (row .exit)) (now (queue .exit))
-        ≡ relaxBoth (u .number) d (net b) (reach (now (row .entry)) (putLeaf (now (queue .entry)) (u .number) absent)))
-        × (now (done .exit) ≡ set (now (done .entry)) (u .number) true) ⌝ }
+        ≡ relaxBoth u d (net b) (reach (now (row .entry)) (putLeaf (now (queue .entry)) u absent)))
+        × (now (done .exit) ≡ set (now (done .entry)) u true) ⌝ }
 {
-    let i = u.number as usize;
+    let i = u as usize;
     done[i] = true;
     tournament::put(queue, i, ABSENT);
     relax(adj, row, queue, u, d);
@@ -83,10 +83,7 @@ pub fn round(adj: &[u16], row: &mut [u32], done: &mut [bool], queue: &mut [u64])
 {
     let t = tournament::least(queue);
     if t < ABSENT {
-        let u = Junction {
-            number: (t % 1024) as u16,
-        };
-        walk_on(adj, row, done, queue, u, (t / 1024) as u32);
+        walk_on(adj, row, done, queue, (t % 1024) as u16, (t / 1024) as u32);
     }
 }
 

@@ -10,7 +10,7 @@ use Rattle.road.proofs.walk.relax.Statement.{statement}
 use Rattle.road.proofs.walk.relax.Tie as tie
 
 abbrev Inv-loop : tie.InvT-loop
-Inv-loop adj row₀ queue₀ u d a₀ row queue a = (b : List ℕ) → Adjacency b adj → Chain b adj (u .number) d (reach row₀ queue₀) (reach row queue) a
+Inv-loop adj row₀ queue₀ u d a₀ row queue a = (b : List ℕ) → Adjacency b adj → Chain b adj u d (reach row₀ queue₀) (reach row queue) a
 
 abbrev μ-loop : tie.MeasureT-loop
 μ-loop adj row₀ queue₀ u d a₀ row queue a = a
