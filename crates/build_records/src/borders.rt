@@ -9,12 +9,11 @@ ghost use Rattle.adjacency.specs.Adjacency.{Adjacency, IsAdjacency};
 ghost use Rattle.build_rules.specs.Cut.{isBorder, borders, landmark};
 
 // Whether a road leads from junction v out of the range from a with s junctions.
-fn is_border(adj: &[u16], a: usize, s: usize, v: Junction) -> bool
-    requires { ⌜ IsAdjacency (now adj) × (v .number < 1024) × (a + s ≤ 1024) ⌝ }
-    ensures { λ r. ⌜ ((road : List ℕ) → Adjacency road (now (adj .entry))
-        → r ≡ isBorder (roads road) a s (v .number)) ⌝ }
+fn is_border(adj: &[u16], a: usize, s: usize, v: u16) -> bool
+    requires { ⌜ IsAdjacency (now adj) × (v < 1024) × (a + s ≤ 1024) ⌝ }
+    ensures { λ r. ⌜ ((road : List ℕ) → Adjacency road (now (adj .entry)) → r ≡ isBorder (roads road) a s v) ⌝ }
 {
-    let mut x = adjacency::head(adj, v);
+    let mut x = adjacency::head(adj, Junction { number: v });
     while x != 0 {
         let u = adjacency::to(adj, x).number as usize;
         if u < a {
@@ -39,7 +38,7 @@ pub fn border_list(adj: &[u16], a: usize, s: usize, list: &mut [u16]) -> usize
     let mut v = a;
     while v < a + s {
         let number = v as u16;
-        if is_border(adj, a, s, Junction { number }) {
+        if is_border(adj, a, s, number) {
             list[n] = number;
             n += 1;
         }

@@ -12,7 +12,7 @@ use Rattle.build_records.proofs.borders.is_border.Statement.{statement}
 use Rattle.build_records.proofs.borders.is_border.Tie as tie
 
 abbrev Inv-loop : tie.InvT-loop
-Inv-loop adj a s v x₀ x = (road : List ℕ) → Adjacency road adj → ChainAt (outside a s) (v .number) adj (isBorder (roads road) a s (v .number)) x
+Inv-loop adj a s v x₀ x = (road : List ℕ) → Adjacency road adj → ChainAt (outside a s) v adj (isBorder (roads road) a s v) x
 
 abbrev μ-loop : tie.MeasureT-loop
 μ-loop adj a s v x₀ x = x
@@ -20,16 +20,16 @@ abbrev μ-loop : tie.MeasureT-loop
 -- what is known of the arc that the loop has come to, for any book
 facts : (c : tie.In-loop Inv-loop μ-loop) (road : List ℕ) → Adjacency road (c .before .before .before .before .args .adj .now)
     → ChainStep (outside (c .before .before .before .before .args .a) (c .before .before .before .before .args .s))
-    (c .before .before .before .before .args .v .number) (c .before .before .before .before .args .adj .now) (isBorder (roads road)
-    (c .before .before .before .before .args .a) (c .before .before .before .before .args .s) (c .before .before .before .before .args .v .number))
+    (c .before .before .before .before .args .v) (c .before .before .before .before .args .adj .now) (isBorder (roads road)
+    (c .before .before .before .before .args .a) (c .before .before .before .before .args .s) (c .before .before .before .before .args .v))
     (c .before .loop .x)
 facts c road a = chain-step _ _ _ _ _ (c .before .loop .inv road a) (c .loop-test .taken)
 
 -- and of the one that there is
 known : (c : tie.In-loop Inv-loop μ-loop) → ChainStep (outside (c .before .before .before .before .args .a) (c .before .before .before .before .args .s))
-    (c .before .before .before .before .args .v .number) (c .before .before .before .before .args .adj .now)
+    (c .before .before .before .before .args .v) (c .before .before .before .before .args .adj .now)
     (isBorder (roads (c .before .before .before .before .pre .0 .book)) (c .before .before .before .before .args .a)
-    (c .before .before .before .before .args .s) (c .before .before .before .before .args .v .number)) (c .before .loop .x)
+    (c .before .before .before .before .args .s) (c .before .before .before .before .args .v)) (c .before .loop .x)
 known c = facts c (c .before .before .before .before .pre .0 .book) (c .before .before .before .before .pre .0 .adjacent)
 
 head-requires : tie.Need-head-requires Inv-loop μ-loop

@@ -107,6 +107,12 @@ siblings-end-returns-4 t c =
 siblings-end-subtree-end-requires : (t : ℕ) → siblings-end-lts.Need-subtree-end-requires (siblings-end-calls t) (siblings-end-at t) siblings-end.Post
 siblings-end-subtree-end-requires t c κs = search needs
 
+siblings-end-enum-known-end : (t : ℕ) → siblings-end-lts.Need-enum-known-end (siblings-end-calls t) (siblings-end-at t) siblings-end.Post
+siblings-end-enum-known-end t c = search needs
+
+siblings-end-enum-told : (t : ℕ) → siblings-end-lts.Need-enum-told (siblings-end-calls t) (siblings-end-at t) siblings-end.Post
+siblings-end-enum-told t c = search needs
+
 siblings-end-returns-5 : (t : ℕ) → siblings-end-lts.Need-returns-5 (siblings-end-calls t) (siblings-end-at t) siblings-end.Post
 siblings-end-returns-5 t c =
     let d = c .before .before in
@@ -120,7 +126,7 @@ siblings-end-sub-siblings-end t c = search needs
 
 siblings-end-sub-siblings-end-2 : (t : ℕ) → siblings-end-lts.Need-sub-siblings-end-2 (siblings-end-calls t) (siblings-end-at t) siblings-end.Post
 siblings-end-sub-siblings-end-2 t c =
-    let d = c .before .before .before in
+    let d = c .before .before .before .before in
     let f = d .before .before .before in
     let e = f .before .before .before in
     let s = e .before .before .before in
@@ -128,11 +134,14 @@ siblings-end-sub-siblings-end-2 t c =
     ∙ not-false _ (d .before .if4 .left))
 
 siblings-end-siblings-end-requires : (t : ℕ) → siblings-end-lts.Need-siblings-end-requires (siblings-end-calls t) (siblings-end-at t) siblings-end.Post
-siblings-end-siblings-end-requires t c κs = search needs
+siblings-end-siblings-end-requires t c κs =
+    let d = c .before .before .before .before in
+    let s = d .before .before .before .before .before .before .before .before .before in
+    (search needs, (s .pre .1 .0, reached-number _ _ _ (d .subtree-end .ensures) (c .before .before .end .given .1) .1))
 
 siblings-end-returns-6 : (t : ℕ) → siblings-end-lts.Need-returns-6 (siblings-end-calls t) (siblings-end-at t) siblings-end.Post
 siblings-end-returns-6 t c =
-    let x = c .before .before in
+    let x = c .before .before .before in
     let d = x .before .before in
     let f = d .before .before .before in
     let e = f .before .before .before in
@@ -210,6 +219,8 @@ pub +siblings-end+subtree-end-spec : {M : Type 1} → statement M
     (siblings-end-child-fits-requires t)
     (siblings-end-returns-4 t)
     (siblings-end-subtree-end-requires t)
+    (siblings-end-enum-known-end t)
+    (siblings-end-enum-told t)
     (siblings-end-returns-5 t)
     (siblings-end-sub-siblings-end t)
     (siblings-end-sub-siblings-end-2 t)

@@ -28,7 +28,7 @@ cast-if1 c = search needs
 
 returns-2 : tie.Need-returns-2
 returns-2 c =
-    let o = c .before .before in
+    let o = c .before .before .before in
     let d = o .before .before in
     let q = reached-number _ _ _ (d .subtree-end .ensures) (o .end .given .1) in
     not-all _ _ (d .before .before .before .pre) _ (q .0) (c .if1 .taken)
@@ -37,11 +37,11 @@ fields-requires : tie.Need-fields-requires
 fields-requires c κs = search needs
 
 header-requires : tie.Need-header-requires
-header-requires c κs = laid-header _ _ (c .before .before .before .before .before .before .before .before .pre)
+header-requires c κs = laid-header _ _ (c .before .before .before .before .before .before .before .before .before .pre)
 
 returns-3 : tie.Need-returns-3
 returns-3 c =
-    let o = c .before .before .before .before .before in
+    let o = c .before .before .before .before .before .before .before in
     let d = o .before .before in
     let q = reached-number _ _ _ (d .subtree-end .ensures) (o .end .given .1) in
     takes-all _ _ (d .before .before .before .pre) _ (q .0) (c .before .before .before .before .if1 .left) _
