@@ -70,7 +70,7 @@ loop-less c = search needs
 
 loop-again : tie.Need-loop-again Inv-loop μ-loop
 loop-again c =
-    let w = c .before .before .before .before in
+    let w = c .before .before .before .before .before in
     let l = w .before .before .before in
     let p = l .before .before .before .before .before .pre in
     let i = l .before .loop .inv in (
@@ -78,7 +78,7 @@ loop-again c =
       w .walk-from .kept .1 .0 ∙ i .1,
       (λ h. w .walk-from .ensures),
       (λ road a. spans-on _ _ _ (p .0) _ (number l) _ (w .before .before .landmark .ensures) road _ _ a (p .2) _ (w .walk-from .ensures road a)
-          (c .before .span-true .ensures) (not-false _ (c .if1 .left)) ∙ i .3 road a),
+          (c .before .before .span-true .ensures) (not-false _ (c .before .if1 .left)) ∙ i .3 road a),
     )
 
 returns-2 : tie.Need-returns-2 Inv-loop μ-loop
