@@ -17,17 +17,17 @@ abbrev μ-loop : tie.MeasureT-loop
 loop-holds : tie.Need-loop-holds Inv-loop μ-loop
 loop-holds c = (omega arith, seen-none _ _ _ _)
 
+mul-t9 : tie.Need-mul-t9 Inv-loop μ-loop
+mul-t9 c = search needs
+
+shared-slice-read-t11 : tie.Need-shared-slice-read-t11 Inv-loop μ-loop
+shared-slice-read-t11 c = search needs
+
 mul-after : tie.Need-mul-after Inv-loop μ-loop
 mul-after c = search needs
 
 shared-slice-read-after : tie.Need-shared-slice-read-after Inv-loop μ-loop
 shared-slice-read-after c = search needs
-
-mul-after-2 : tie.Need-mul-after-2 Inv-loop μ-loop
-mul-after-2 c = search needs
-
-shared-slice-read-after-2 : tie.Need-shared-slice-read-after-2 Inv-loop μ-loop
-shared-slice-read-after-2 c = search needs
 
 after-requires : tie.Need-after-requires Inv-loop μ-loop
 after-requires c κs = search needs
@@ -59,10 +59,10 @@ place-spec =
     Inv-loop
     μ-loop
     loop-holds
+    mul-t9
+    shared-slice-read-t11
     mul-after
     shared-slice-read-after
-    mul-after-2
-    shared-slice-read-after-2
     after-requires
     returns
     add-j
