@@ -54,10 +54,10 @@ pub fn landmark_of(list: &[u16], m: usize, a: usize, s: usize, j: usize) -> Junc
 {
     let c = list.len();
     if c == 0 {
-        return Junction {
-            number: (a + j * s / m) as u16,
-        };
+        let number = (a + j * s / m) as u16;
+        return Junction { number };
     }
     let k = j * c / m;
-    Junction { number: list[k] }
+    let number = list[k];
+    Junction { number }
 }
