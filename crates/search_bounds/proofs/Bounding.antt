@@ -44,7 +44,8 @@ module _ (b : List ℕ) (at : ℕ) (r : RecordAt b at) (j : ℕ) (h : j < landma
 
 -- the bound of a landmark that is read is that of the landmark
 pub mark-read : (table : List ℕ) (rows q w : ℕ) (n : Mark) (k : Landmark) → k ≡ landmarkOf n
-    → w ≡ crewBound (rowsLower table rows (k .place .number) q) (rowsUpper table rows (k .place .number) q) (k .least) (k .greatest) → w ≡ rowsMark table rows q n
+    → w ≡ crewBound (rowsLower table rows (k .place .number) q) (rowsUpper table rows (k .place .number) q) (k .least) (k .greatest)
+    → w ≡ rowsMark table rows q n
 unfolding rowsMark landmarkOf
 mark-read table rows q w n k e f = rw e at f
 

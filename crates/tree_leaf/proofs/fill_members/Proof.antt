@@ -73,7 +73,8 @@ returns-3 c =
     let w = e .before .before .before .before in
     let l = w .before in
     let z : 1 ≤ l .before .loop .k = omega (arith, l .loop-test .taken) in
-    let v : w .element .result .yard .number < 1024 = omega (arith, e .if2 .left, l .before .before .before .before .before .before .before .before .before .pre .1) in
+    let p = l .before .before .before .before .before .before .before .before .before .pre in
+    let v : w .element .result .yard .number < 1024 = omega (arith, e .if2 .left, p .1) in
     failed _ _ _ _ _ (fails-twice _ _ _ _ _ _ z (l .before .loop .inv .0) (listed-yard _ _ _ (w .element .ensures)) _ (l .before .loop .inv .2) v
     (c .if3 .taken))
 

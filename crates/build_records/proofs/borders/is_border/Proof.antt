@@ -52,7 +52,8 @@ add-if2 c = omega (arith, c .before .before .before .before .before .before .bef
 
 returns-2 : tie.Need-returns-2 Inv-loop μ-loop
 returns-2 c =
-    λ road a. sym (facts (c .before .before .before .before) road a .stop (border-high _ _ _ _ (c .before .before .before .to .ensures) (omega (arith, c .if2 .taken))))
+    λ road a. sym (facts (c .before .before .before .before) road a .stop (border-high _ _ _ _ (c .before .before .before .to .ensures)
+    (omega (arith, c .if2 .taken))))
 
 next-requires : tie.Need-next-requires Inv-loop μ-loop
 next-requires c κs = (

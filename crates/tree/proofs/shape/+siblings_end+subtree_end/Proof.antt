@@ -102,7 +102,8 @@ siblings-end-returns-4 t c =
     let f = c .before .before in
     let e = f .before .before .before in
     let s = e .before .before .before in
-    broken _ (not-fitting _ _ (s .pre .1 .0) _ _ _ _ _ _ (e .if1 .left) _ (f .fields .ensures) (sym (c .before .child-fits .ensures) ∙ not-true _ (c .if4 .taken)))
+    broken _ (not-fitting _ _ (s .pre .1 .0) _ _ _ _ _ _ (e .if1 .left) _ (f .fields .ensures) (sym (c .before .child-fits .ensures)
+    ∙ not-true _ (c .if4 .taken)))
 
 siblings-end-subtree-end-requires : (t : ℕ) → siblings-end-lts.Need-subtree-end-requires (siblings-end-calls t) (siblings-end-at t) siblings-end.Post
 siblings-end-subtree-end-requires t c κs = search needs
@@ -147,8 +148,8 @@ siblings-end-returns-6 t c =
     let e = f .before .before .before in
     let s = e .before .before .before in
     let q = reached-number _ _ _ (d .subtree-end .ensures) (x .end .given .1) in
-    c .siblings-end .ensures ∙ ap endAt (goes-on _ _ (s .pre .1 .0) _ _ _ _ _ _ (e .if1 .left) _ (f .fields .ensures) (sym (d .before .before .child-fits .ensures)
-    ∙ not-false _ (d .before .if4 .left)) _ (q .0) (omega (arith, q .1)))
+    c .siblings-end .ensures ∙ ap endAt (goes-on _ _ (s .pre .1 .0) _ _ _ _ _ _ (e .if1 .left) _ (f .fields .ensures)
+    (sym (d .before .before .child-fits .ensures) ∙ not-false _ (d .before .if4 .left)) _ (q .0) (omega (arith, q .1)))
 
 subtree-end-returns : (t : ℕ) → subtree-end-lts.Need-returns (subtree-end-calls t) (subtree-end-at t) subtree-end.Post
 subtree-end-returns t c =
@@ -180,7 +181,8 @@ subtree-end-returns-3 t c =
     let f = c .before .before .before .before in
     let e = f .before .before .before in
     let s = e .before .before .before in
-    c .siblings-end .ensures ∙ ap endAt (at-inner _ _ (s .pre .1) _ _ (e .if1 .left) (f .before .if2 .left) _ (f .fields .ensures) _ (c .before .if3 .taken) refl)
+    c .siblings-end .ensures ∙ ap endAt (at-inner _ _ (s .pre .1) _ _ (e .if1 .left) (f .before .if2 .left) _ (f .fields .ensures) _
+    (c .before .if3 .taken) refl)
 
 subtree-end-leaf-ok-requires : (t : ℕ) → subtree-end-lts.Need-leaf-ok-requires (subtree-end-calls t) (subtree-end-at t) subtree-end.Post
 subtree-end-leaf-ok-requires t c κs =
