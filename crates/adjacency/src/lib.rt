@@ -1,4 +1,5 @@
 // A road book's adjacency in one array of words: its junction count, and for each junction its arcs, newest first.
+use book::Junction;
 ghost use mathlib.Core.Path.{_≡_};
 ghost use Prim.Native.Nat.{_+_, _*_, _≤_, _<_};
 ghost use lib.ListN.{length};
@@ -24,11 +25,11 @@ pub fn junctions(adj: &[u16]) -> u16
 }
 
 // The newest arc of junction u, 0 if it has none.
-pub fn head(adj: &[u16], u: usize) -> u16
-    requires { ⌜ (length (now adj) ≡ adjacencyWords) × (u < 1024) ⌝ }
-    ensures { λ r. ⌜ r ≡ headAt (now (adj .entry)) u ⌝ }
+pub fn head(adj: &[u16], u: Junction) -> u16
+    requires { ⌜ (length (now adj) ≡ adjacencyWords) × (u .number < 1024) ⌝ }
+    ensures { λ r. ⌜ r ≡ headAt (now (adj .entry)) (u .number) ⌝ }
 {
-    adj[HEADS + u]
+    adj[HEADS + u.number as usize]
 }
 
 // The arc of the same junction before arc a, 0 if there is none.
@@ -40,11 +41,13 @@ pub fn next(adj: &[u16], a: u16) -> u16
 }
 
 // The junction that arc a leads to.
-pub fn to(adj: &[u16], a: u16) -> u16
+pub fn to(adj: &[u16], a: u16) -> Junction
     requires { ⌜ (length (now adj) ≡ adjacencyWords) × (1 ≤ a) × (a ≤ 8192) ⌝ }
-    ensures { λ r. ⌜ r ≡ toAt (now (adj .entry)) a ⌝ }
+    ensures { λ r. ⌜ r .number ≡ toAt (now (adj .entry)) a ⌝ }
 {
-    adj[ARCS + 3 * a as usize + 1]
+    Junction {
+        number: adj[ARCS + 3 * a as usize + 1],
+    }
 }
 
 // The seconds of arc a.
@@ -56,14 +59,14 @@ pub fn cost(adj: &[u16], a: u16) -> u16
 }
 
 // Puts arc a, from u to v in s seconds, before the arcs of u.
-fn push_arc(adj: &mut [u16], a: u16, u: u16, v: u16, s: u16)
-    requires { ⌜ (length (now adj) ≡ adjacencyWords) × (1 ≤ a) × (a ≤ 8192) × (u < 1024) ⌝ }
-    ensures { λ _. ⌜ now (adj .exit) ≡ pushArc (now (adj .entry)) a u v s ⌝ }
+fn push_arc(adj: &mut [u16], a: u16, u: Junction, v: Junction, s: u16)
+    requires { ⌜ (length (now adj) ≡ adjacencyWords) × (1 ≤ a) × (a ≤ 8192) × (u .number < 1024) ⌝ }
+    ensures { λ _. ⌜ now (adj .exit) ≡ pushArc (now (adj .entry)) a (u .number) (v .number) s ⌝ }
 {
     let i = ARCS + 3 * a as usize;
-    let j = HEADS + u as usize;
+    let j = HEADS + u.number as usize;
     adj[i] = adj[j];
-    adj[i + 1] = v;
+    adj[i + 1] = v.number;
     adj[i + 2] = s;
     adj[j] = a;
 }

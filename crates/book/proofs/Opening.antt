@@ -2,7 +2,7 @@
 use mathlib.Core.Path.{_≡_, refl, sym, ap, _∙_}
 use mathlib.Core.Logic.{_⊎_, inl, inr}
 use mathlib.Core.Bool.{not}
-use mathlib.Core.List.{List}
+use mathlib.Core.List.{List, []}
 use Prim.Native.Nat.{ℕ, zero, suc, _+_, _≤_, _<_}
 use native.Mathlib.Omega.{arith}
 use borrow.Author.Tests.{le-leb, lt-leb, eq-eqb, ne-eqb}
@@ -10,7 +10,8 @@ use lib.ListN.{length}
 use lib.Dec.{T, leb, eqb, leb→le, eqb→eq}
 use Rattle.book.specs.Choose.{refuse, choose}
 use Rattle.book.specs.Bytes.{u8At, u32At}
-use Rattle.book.specs.Open.{Opens, openRefusal, opened}
+use Rattle.book.specs.Cases.{caseOf}
+use Rattle.book.specs.Open.{Opens, openRefusal, opened, openedCase, openedNumber}
 use Rattle.book.specs.declared.Opened.{Opened}
 use Rattle.book.specs.declared.Opened.the-variants.{Body, Refused}
 use Rattle.book.proofs.Choosing.{passed, refuse-case}
@@ -70,3 +71,21 @@ opened-refused zero why e = let z : _≡_ {A = ℕ} 0 1 = cc in absurd (omega ar
 opened-refused (suc n) why e =
     let q : suc n ≡ why = cc in
     (q, omega arith)
+
+-- an answer in the paper's numbers
+pub opened-case : (n : ℕ) → openedCase (opened n) ≡ caseOf n []
+unfolding opened openedCase
+opened-case zero = refl
+opened-case (suc n) = refl
+
+pub opened-number : (n : ℕ) → openedNumber (opened n) ≡ n
+unfolding opened openedCase openedNumber
+opened-number zero = refl
+opened-number (suc n) = refl
+
+-- the number of a book that is turned back
+pub number-why : (n : ℕ) (o : Opened) (why r : ℕ) → o ≡ opened n → o ≡ Refused why → r ≡ openedNumber o → (n ≡ r) × (1 ≤ r)
+number-why n o why r e f g =
+    let q = opened-refused n why (sym e ∙ f) in
+    let z : r ≡ n = g ∙ ap openedNumber e ∙ opened-number n in
+    (sym z, omega (arith, q .0, q .1))

@@ -2,11 +2,12 @@
 -- nothing: these are definitions.
 use mathlib.Core.Path.{_≡_}
 use Prim.Native.Nat.{ℕ, zero, suc, _+_, _≤_}
-use mathlib.Core.List.{List}
+use mathlib.Core.List.{List, []}
 use lib.ListN.{length}
 use lib.Dec.{leb, eqb}
 use Rattle.book.specs.Choose.{refuse}
 use Rattle.book.specs.Bytes.{u8At, u32At}
+use Rattle.book.specs.Cases.{Case, accepted, refused}
 use Rattle.book.specs.declared.Opened.{Opened}
 use Rattle.book.specs.declared.Opened.the-variants.{Body, Refused}
 
@@ -31,3 +32,12 @@ openRefusal b header =
 unfoldable pub opened : ℕ → Opened
 opened zero = Body
 opened (suc n) = Refused (suc n)
+
+-- each case's number; there is no value beside it
+unfoldable pub openedCase : Opened → Case
+openedCase Body = accepted []
+openedCase (Refused why) = refused why 0
+
+-- the number of an answer
+unfoldable pub openedNumber : Opened → ℕ
+openedNumber o = openedCase o .number

@@ -2,7 +2,7 @@ ghost use mathlib.Core.Path.{_≡_};
 ghost use Prim.Native.Nat.{ℕ, _+_, _≤_, _<_};
 ghost use lib.ListN.{length};
 ghost use Rattle.book.specs.Bytes.{u8At, u16At, u32At, putU16, putU32};
-ghost use Rattle.book.specs.Open.{openRefusal, opened};
+ghost use Rattle.book.specs.Open.{openRefusal, opened, openedNumber};
 
 // A junction's number: a vertex of the road graph, counted from 0. Never a tree region's number.
 pub struct Junction {
@@ -67,6 +67,16 @@ pub fn put_u32(d: &mut [u8], i: usize, x: u32)
 pub enum Opened {
     Body,
     Refused(u8),
+}
+
+// The number of an answer, 0 for a book that opens.
+pub fn number(o: Opened) -> u8
+    ensures { λ r. ⌜ r ≡ openedNumber o ⌝ }
+{
+    match o {
+        Opened::Body => 0,
+        Opened::Refused(why) => why,
+    }
 }
 
 // Opens a book whose header has `header` bytes after the version: tests 1, 2 and the incomplete header of 3.

@@ -1,4 +1,5 @@
 // A range's border junctions and landmarks.
+use book::Junction;
 ghost use mathlib.Core.Path.{_≡_};
 ghost use mathlib.Core.List.{List};
 ghost use Prim.Native.Nat.{ℕ, _+_, _≤_, _<_};
@@ -8,13 +9,13 @@ ghost use Rattle.adjacency.specs.Adjacency.{Adjacency, IsAdjacency};
 ghost use Rattle.build_rules.specs.Cut.{isBorder, borders, landmark};
 
 // Whether a road leads from junction v out of the range from a with s junctions.
-fn is_border(adj: &[u16], a: usize, s: usize, v: usize) -> bool
+fn is_border(adj: &[u16], a: usize, s: usize, v: u16) -> bool
     requires { ⌜ IsAdjacency (now adj) × (v < 1024) × (a + s ≤ 1024) ⌝ }
     ensures { λ r. ⌜ ((road : List ℕ) → Adjacency road (now (adj .entry)) → r ≡ isBorder (roads road) a s v) ⌝ }
 {
-    let mut x = adjacency::head(adj, v);
+    let mut x = adjacency::head(adj, Junction { number: v });
     while x != 0 {
-        let u = adjacency::to(adj, x) as usize;
+        let u = adjacency::to(adj, x).number as usize;
         if u < a {
             return true;
         }
@@ -36,8 +37,9 @@ pub fn border_list(adj: &[u16], a: usize, s: usize, list: &mut [u16]) -> usize
     let mut n: usize = 0;
     let mut v = a;
     while v < a + s {
-        if is_border(adj, a, s, v) {
-            list[n] = v as u16;
+        let number = v as u16;
+        if is_border(adj, a, s, number) {
+            list[n] = number;
             n += 1;
         }
         v += 1;
@@ -46,14 +48,16 @@ pub fn border_list(adj: &[u16], a: usize, s: usize, list: &mut [u16]) -> usize
 }
 
 // Landmark j of m, from the border junctions of the range from a with s junctions.
-pub fn landmark_of(list: &[u16], m: usize, a: usize, s: usize, j: usize) -> u16
+pub fn landmark_of(list: &[u16], m: usize, a: usize, s: usize, j: usize) -> Junction
     requires { ⌜ (length (now list) ≤ 1024) × (j < m) × (m ≤ 4) × (a + s ≤ 1024) × (0 < s) ⌝ }
-    ensures { λ r. ⌜ r ≡ landmark m a s (now (list .entry)) j ⌝ }
+    ensures { λ r. ⌜ r .number ≡ landmark m a s (now (list .entry)) j ⌝ }
 {
     let c = list.len();
     if c == 0 {
-        return (a + j * s / m) as u16;
+        let number = (a + j * s / m) as u16;
+        return Junction { number };
     }
     let k = j * c / m;
-    list[k]
+    let number = list[k];
+    Junction { number }
 }

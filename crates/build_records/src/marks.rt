@@ -21,14 +21,14 @@ fn put_leaf_mark(
     yb: &[u8],
     from: usize,
     end: usize,
-    l: u16,
+    l: Junction,
     tree: &mut [u8],
     at: usize,
 )
     requires { ⌜ YardsUpTo (now yb) from end × (length (now row) ≡ 1024)
         × (at + leafMarkSize (end - from) ≤ length (now tree)) ⌝ }
-    ensures { λ _. ⌜ ((road : List ℕ) → now (row .entry) ≡ distances (net road) (junctions road) l
-        → now (tree .exit) ≡ write (now (tree .entry)) at (leafBytes road (now (yb .entry)) from end l)) ⌝ }
+    ensures { λ _. ⌜ ((road : List ℕ) → now (row .entry) ≡ distances (net road) (junctions road) (l .number)
+        → now (tree .exit) ≡ write (now (tree .entry)) at (leafBytes road (now (yb .entry)) from end (l .number))) ⌝ }
 {
     let mut keys = [0u64; 256];
     crate::lists::rank(row, yb, from, end, &mut keys);
@@ -43,29 +43,37 @@ fn put_inner_mark(
     yb: &[u8],
     from: usize,
     end: usize,
-    l: u16,
+    l: Junction,
     tree: &mut [u8],
     at: usize,
 )
     requires { ⌜ YardsUpTo (now yb) from end × (from < end) × (length (now row) ≡ 1024)
         × (at + innerMarkSize ≤ length (now tree)) ⌝ }
-    ensures { λ _. ⌜ ((road : List ℕ) → now (row .entry) ≡ distances (net road) (junctions road) l
-        → now (tree .exit) ≡ write (now (tree .entry)) at (innerBytes road (now (yb .entry)) from end l)) ⌝ }
+    ensures { λ _. ⌜ ((road : List ℕ) → now (row .entry) ≡ distances (net road) (junctions road) (l .number)
+        → now (tree .exit) ≡ write (now (tree .entry)) at (innerBytes road (now (yb .entry)) from end (l .number))) ⌝ }
 {
     let span = crate::spans::measure(row, yb, from, end);
     tree_encode::put_span(tree, at, l, span);
 }
 
 // Writes landmark l of a region with so many children over a range.
-pub fn put_mark(adj: &[u16], yb: &[u8], p: Part, children: u8, l: u16, tree: &mut [u8], at: usize)
-    requires { ⌜ PartReady (now adj) (now yb) p × (0 < children → p .from < p .end) × (l < countIn (now adj))
+pub fn put_mark(
+    adj: &[u16],
+    yb: &[u8],
+    p: Part,
+    children: u8,
+    l: Junction,
+    tree: &mut [u8],
+    at: usize,
+)
+    requires { ⌜ PartReady (now adj) (now yb) p × (0 < children → p .from < p .end) × (l .number < countIn (now adj))
         × (at + markSize children (p .end - p .from) ≤ length (now tree)) ⌝ }
     ensures { λ _. ⌜ ((road : List ℕ) → Adjacency road (now (adj .entry))
         → now (tree .exit) ≡ write (now (tree .entry)) at
-        (markBytes road (now (yb .entry)) (p .from) (p .end) children l)) ⌝ }
+        (markBytes road (now (yb .entry)) (p .from) (p .end) children (l .number))) ⌝ }
 {
     let mut row = [0u32; 1024];
-    road::walk::distances(adj, &mut row, Junction { number: l });
+    road::walk::distances(adj, &mut row, l);
     if children == 0 {
         put_leaf_mark(&row, yb, p.from, p.end, l, tree, at);
         return;

@@ -32,7 +32,7 @@ use Rattle.check_distances.proofs.Records.{mark-number, mark-mem, mark-
 
 -- ---- a list, with k of n elements done
 
-module _ (ds p : List ℕ) (n k d : ℕ) (e : Listed) (h : k < n) (q : e ≡ listedAt p k) (g : d ≡ at ds (e .yard)) where
+module _ (ds p : List ℕ) (n k d : ℕ) (e : Listed) (h : k < n) (q : e ≡ listedAt p k) (g : d ≡ at ds (e .yard .number)) where
   here : elementIn ds (elementAt p (6 * k)) ≡ eqb (e .distance) d
   unfolding elementIn
   here = rw (element-is p (6 * k), g, q) refl

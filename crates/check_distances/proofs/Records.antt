@@ -8,17 +8,15 @@ use lib.ListN.{length, getD, drop}
 use Rattle.book.specs.Bytes.{u8At, u16At}
 use Rattle.book.proofs.Lists.{getD-mem}
 use Rattle.tree_layout.specs.Values.{Mark, Region, noMark, noRegion, regionAt}
-use Rattle.tree_layout.specs.Decode.{readRegion, sizeAt, markSize, junctionCount, regionCount, landmarkCount, placeOf, decode}
-use Rattle.tree_layout.specs.Facts.{TreeLayout}
+use Rattle.tree_layout.specs.Decode.{readRegion, sizeAt, markSize, regionCount, landmarkCount, placeOf, decode}
 use Rattle.tree_layout.specs.Refusal.{all, treeLayoutRefusal}
 use Rattle.tree_layout.specs.Reading.{headerOf}
 use Rattle.tree_layout.specs.Marks.{marksAt, markPlace, RecordAt}
 use Rattle.tree_layout.specs.declared.Header.{Header}
 use Rattle.tree_layout.proofs.Accepting.{layout-facts}
-use Rattle.tree_layout.proofs.Places.{region-at, decode-length, record-inside, place-after}
-use Rattle.tree_layout.proofs.Formed.{at-mem}
-use Rattle.tree_layout.proofs.Reading.{region-yards}
+use Rattle.tree_layout.proofs.Places.{decode-length, place-after}
 use Rattle.tree_layout.proofs.RecordFields.{marks-count, place-is}
+use Rattle.tree_layout.proofs.RegionRecords.{layout-region, layout-whole}
 use Rattle.tree_layout.proofs.MarkPlaces.{listMark, leaf-mark-at}
 use Rattle.check_distances.proofs.Turns.{all-goes, all-stops, all-ends}
 
@@ -57,44 +55,11 @@ marks-done b at m f j e h = all-ends f (marksAt b at) j (omega (arith, marks-cou
 -- ---- region k of a book of sound layout, whose record stands at a place
 
 module _ (b : List ℕ) (ok : treeLayoutRefusal b ≡ 0) (k : ℕ) (h : k < regionCount b) (at : ℕ) (place : at ≡ placeOf b k) where
-  layout : TreeLayout b
-  layout = layout-facts b ok
-
   number : k < length (decode b .regions)
   number = omega (arith, decode-length b)
 
-  pub region-here : regionAt (decode b .regions) k ≡ readRegion b (landmarkCount b) at
-  region-here = rw place (region-at b k h)
-
-  pub region-mem : Mem (regionAt (decode b .regions) k) (decode b .regions)
-  region-mem = at-mem (decode b .regions) k number
-
-  marks-here : marksAt b at ≡ regionAt (decode b .regions) k .marks
-  marks-here = marks-read b at ∙ ap (λ (r : Region). r .marks) (sym region-here)
-
-  yards-here : u16At b (at + 5) ≡ regionAt (decode b .regions) k .yards
-  yards-here = sym (region-yards b (landmarkCount b) at) ∙ ap (λ (r : Region). r .yards) (sym region-here)
-
-  -- its landmarks are junctions
-  pub record-placed : (m : Mark) → Mem m (marksAt b at) → m .place < junctionCount b
-  record-placed m j =
-      let v = layout .values (regionAt (decode b .regions) k) region-mem in
-      omega (arith, v .placed m (rw marks-here at j) .1, v .within)
-
-  pub record-whole : at + sizeAt b (landmarkCount b) at ≤ length b
-  record-whole = rw place (record-inside b (layout .filled) k h)
-
-  pub record-here : RecordAt b at
-  record-here = record {
-    header = omega (arith, layout .opens .headed);
-    inside = record-whole;
-    landmarks = layout .landmarks;
-    some = omega (arith, yards-here, layout .values (regionAt (decode b .regions) k) region-mem .some);
-    placed = λ m j. omega (arith, record-placed m j, layout .junctions .1);
-  }
-
   pub record-end : (m size : ℕ) → m ≡ landmarkCount b → size ≡ sizeAt b m at → at + size ≤ length b
-  record-end m size em e = rw (e, em) record-whole
+  record-end m size em e = rw (e, em) (layout-whole b (layout-facts b ok) k h at place)
 
   -- the next one stands after it
   pub record-next : (m size : ℕ) → m ≡ landmarkCount b → size ≡ sizeAt b m at → at + size ≡ placeOf b (k + 1)
@@ -106,7 +71,7 @@ module _ (b : List ℕ) (ok : treeLayoutRefusal b ≡ 0) (k : ℕ) (h : k < regi
   module _ (f : Region → Bool) (m : ℕ) (em : m ≡ landmarkCount b) (r : Bool) (e : r ≡ f (readRegion b m at)) where
     answer : f (getD (decode b .regions) k noRegion) ≡ r
     unfolding regionAt
-    answer = sym (e ∙ rw em (ap f (sym region-here)))
+    answer = sym (e ∙ rw em (ap f (sym (layout-region b (layout-facts b ok) k h at place))))
 
     pub regions-on : r ≡ true → all f (drop (k + 1) (decode b .regions)) ≡ all f (drop k (decode b .regions))
     regions-on t = all-goes f (decode b .regions) noRegion k number (answer ∙ t)

@@ -16,11 +16,13 @@ use Rattle.tree_layout.specs.Accessors.{fieldsAt}
 use Rattle.tree_layout.specs.Marks.{marksAt}
 use Rattle.tree_layout.specs.Refusal.{all}
 use Rattle.tree_layout.specs.declared.Fields.{Fields}
+use Rattle.tree_layout.proofs.Accepting.{layout-facts}
 use Rattle.tree_layout.proofs.Reading.{region-first, region-after, region-children}
+use Rattle.tree_layout.proofs.RegionRecords.{layout-region, layout-member, layout-placed, layout-record}
 use Rattle.check_rules.specs.Truth.{trueList, trueSpan, within, trueBesideRegion, trueBeside}
 use Rattle.check_rules.proofs.Testing.{beside-region-test, beside-test}
 use Rattle.check_distances.specs.Beside.{Marked, Beside}
-use Rattle.check_distances.proofs.Records.{marks-read, region-here, region-mem, record-placed, record-here}
+use Rattle.check_distances.proofs.Records.{marks-read}
 
 -- ---- the region whose record is at a place, by its fields
 
@@ -74,15 +76,15 @@ module _ (adj yard tree : List ℕ) (b : Beside adj yard tree) (k : ℕ) (h : k 
   pub region-marked : Marked adj tree i
   region-marked = record {
     roads = b .roads;
-    stands = record-here tree (b .regions) k h i place;
-    placed = λ m j. omega (arith, b .counts, record-placed tree (b .regions) k h i place m j);
+    stands = layout-record tree (layout-facts tree (b .regions)) k h i place;
+    placed = λ m j. omega (arith, b .counts, layout-placed tree (layout-facts tree (b .regions)) k h i place m j);
   }
 
   pub region-held : 0 < length (within (u16At tree i) (u16At tree (i + 2)) (yardsOf yard))
   region-held =
-      let e = region-here tree (b .regions) k h i place in
+      let e = layout-region tree (layout-facts tree (b .regions)) k h i place in
       let g : 0 < length (within (readRegion tree (landmarkCount tree) i .first) (readRegion tree (landmarkCount tree) i .after) (yardsOf yard))
-      = rw e at (b .held (regionAt (decode tree .regions) k) (region-mem tree (b .regions) k h i place)) in
+      = rw e at (b .held (regionAt (decode tree .regions) k) (layout-member tree (layout-facts tree (b .regions)) k h i place)) in
       rw (region-first tree (landmarkCount tree) i, region-after tree (landmarkCount tree) i) at g
 
 -- all regions' tests are the tree's

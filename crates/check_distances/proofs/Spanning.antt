@@ -130,11 +130,11 @@ module _ (adj tree : List ℕ) (i : ℕ) (k : Marked adj tree i) (j : ℕ) (h : 
   mark = getD (marksAt tree i) j noMark
 
   -- its place is a junction
-  pub span-placed : l .place < countIn adj
+  pub span-placed : l .place .number < countIn adj
   unfolding landmarkOf
   span-placed = rw el (k .placed mark (mark-mem tree i j h))
 
-  module _ (road ds zs : List ℕ) (a : Adjacency road adj) (some : 0 < length zs) (r : Bool) (d : ds ≡ distancesFrom road (l .place))
+  module _ (road ds zs : List ℕ) (a : Adjacency road adj) (some : 0 < length zs) (r : Bool) (d : ds ≡ distancesFrom road (l .place .number))
       (e : r ≡ spanIn ds zs (l .least) (l .greatest)) where
     near : (y : ℕ) → dist road (mark .place) y ≤ far
     near y = dist-most road (passing-layout road (a .layout)) (mark .place) y (omega (arith, a .count, k .placed mark (mark-mem tree i j h)))
@@ -142,7 +142,7 @@ module _ (adj tree : List ℕ) (i : ℕ) (k : Marked adj tree i) (j : ℕ) (h : 
     answer : trueSpan (dist road) zs mark ≡ r
     unfolding landmarkOf
     answer =
-        let g : r ≡ spanIn (distancesFrom road (l .place)) zs (l .least) (l .greatest) = rw (← d) e in
+        let g : r ≡ spanIn (distancesFrom road (l .place .number)) zs (l .least) (l .greatest) = rw (← d) e in
         sym (rw el at g ∙ span-same road zs mark some near)
 
     pub spans-on : r ≡ true → all (trueSpan (dist road) zs) (drop (j + 1) (marksAt tree i)) ≡ all (trueSpan (dist road) zs) (drop j (marksAt tree i))

@@ -1,5 +1,6 @@
 // A leaf's landmarks: "a stored distance .. isn't the true one".
 use crate::walk;
+use book::Junction;
 use tree_layout::Fields;
 use tree_layout::landmarks;
 use tree_layout::records;
@@ -42,17 +43,17 @@ pub fn lists_true(adj: &[u16], tree: &[u8], f: Fields, m: usize) -> bool
 {
     let yards = f.yards as usize;
     let mut ds = [0u32; 1024];
-    let mut last: u16 = 65535;
+    let mut last = Junction { number: 65535 };
     let mut j: usize = 0;
     while j < m {
         let at = landmarks::mark_place(tree, f.at, j);
         let place = records::junction(tree, at);
-        walk::walk_from(adj, &mut ds, last, place.number);
+        walk::walk_from(adj, &mut ds, last, place);
         let list = records::list(tree, at, yards);
         if !list_true(list, yards, &ds) {
             return false;
         }
-        last = place.number;
+        last = place;
         j += 1;
     }
     true

@@ -1,5 +1,6 @@
 // An inner region's landmarks: "a stored .. least or greatest isn't the true one".
 use crate::walk;
+use book::Junction;
 use tree_layout::Fields;
 use tree_layout::Landmark;
 use tree_layout::landmarks;
@@ -18,13 +19,13 @@ ghost use Rattle.check_distances.specs.Row.{spanIn};
 ghost use Rattle.check_distances.specs.Beside.{Marked};
 
 // The lesser of x and yard y's distance, if y lies in the region's range; else x.
-fn least_with(ds: &[u32], f: Fields, x: u32, y: u16) -> u32
-    ensures { λ r. ⌜ r ≡ leastDistanceFrom (at (now (ds .entry))) x (within (f .first) (f .after) (y ∷ [])) ⌝ }
+fn least_with(ds: &[u32], f: Fields, x: u32, y: Junction) -> u32
+    ensures { λ r. ⌜ r ≡ leastDistanceFrom (at (now (ds .entry))) x (within (f .first) (f .after) (y .number ∷ [])) ⌝ }
 {
-    if y < f.first {
+    if y.number < f.first {
         return x;
     }
-    if f.after <= y {
+    if f.after <= y.number {
         return x;
     }
     let d = road::walk::distance_to(ds, y);
@@ -35,13 +36,13 @@ fn least_with(ds: &[u32], f: Fields, x: u32, y: u16) -> u32
 }
 
 // The greater of x and yard y's distance, if y lies in the region's range; else x.
-fn greatest_with(ds: &[u32], f: Fields, x: u32, y: u16) -> u32
-    ensures { λ r. ⌜ r ≡ greatestFrom (at (now (ds .entry))) x (within (f .first) (f .after) (y ∷ [])) ⌝ }
+fn greatest_with(ds: &[u32], f: Fields, x: u32, y: Junction) -> u32
+    ensures { λ r. ⌜ r ≡ greatestFrom (at (now (ds .entry))) x (within (f .first) (f .after) (y .number ∷ [])) ⌝ }
 {
-    if y < f.first {
+    if y.number < f.first {
         return x;
     }
-    if f.after <= y {
+    if f.after <= y.number {
         return x;
     }
     let d = road::walk::distance_to(ds, y);
@@ -63,8 +64,8 @@ fn span_true(ds: &[u32], yard: &[u8], f: Fields, l: Landmark) -> bool
     let mut k: usize = 0;
     while k < n {
         let y = yard::yard_at(yard, k);
-        low = least_with(ds, f, low, y.number);
-        high = greatest_with(ds, f, high, y.number);
+        low = least_with(ds, f, low, y);
+        high = greatest_with(ds, f, high, y);
         k += 1;
     }
     if l.least != low {
@@ -82,7 +83,7 @@ pub fn spans_true(adj: &[u16], yard: &[u8], tree: &[u8], f: Fields, m: usize) ->
         (marksAt (now (tree .entry)) (f .at))) ⌝ }
 {
     let mut ds = [0u32; 1024];
-    let mut last: u16 = 65535;
+    let mut last = Junction { number: 65535 };
     let mut j: usize = 0;
     while j < m {
         let l = landmarks::landmark(tree, f.at, j);

@@ -7,13 +7,13 @@ ghost use Rattle.adjacency.specs.Adjacency.{countIn, IsAdjacency};
 ghost use Rattle.check_distances.specs.Row.{RowFrom};
 
 // Makes ds the distances from a place. They are already those from `last`, if that is a junction.
-pub fn walk_from(adj: &[u16], ds: &mut [u32], last: u16, place: u16)
-    requires { ⌜ IsAdjacency (now adj) × (length (now ds) ≡ 1024) × (place < countIn (now adj))
-        × (last < countIn (now adj) → RowFrom (now adj) (now ds) last) ⌝ }
-    ensures { λ _. ⌜ RowFrom (now (adj .entry)) (now (ds .exit)) place ⌝ }
+pub fn walk_from(adj: &[u16], ds: &mut [u32], last: Junction, place: Junction)
+    requires { ⌜ IsAdjacency (now adj) × (length (now ds) ≡ 1024) × (place .number < countIn (now adj))
+        × (last .number < countIn (now adj) → RowFrom (now adj) (now ds) (last .number)) ⌝ }
+    ensures { λ _. ⌜ RowFrom (now (adj .entry)) (now (ds .exit)) (place .number) ⌝ }
 {
-    if last == place {
+    if last.number == place.number {
         return;
     }
-    road::walk::distances(adj, ds, Junction { number: place });
+    road::walk::distances(adj, ds, place);
 }

@@ -46,16 +46,16 @@ has-none ys y k h = rw (drop-of-length-le ys h) refl
 -- ---- a list, with k of n elements done
 
 module _ (ys p : List ℕ) (n k : ℕ) (e : Listed) (h : k < n) (q : e ≡ listedAt p k) where
-  list-here : knownList ys (readList p (n - k) (6 * k)) ≡ (has ys (e .yard) && knownList ys (readList p (n - (k + 1)) (6 * (k + 1))))
+  list-here : knownList ys (readList p (n - k) (6 * k)) ≡ (has ys (e .yard .number) && knownList ys (readList p (n - (k + 1)) (6 * (k + 1))))
   unfolding knownList knownElement
   list-here =
       let t : 6 * (k + 1) ≡ 6 * k + 6 = omega arith in
       rw (t, list-turn p n k (6 * k) h, all-next (knownElement ys) (elementAt p (6 * k)) (readList p (n - (k + 1)) (6 * k + 6)), element-yard p (6 * k), q) refl
 
-  pub list-unknown : has ys (e .yard) ≡ false → knownList ys (readList p (n - k) (6 * k)) ≡ false
+  pub list-unknown : has ys (e .yard .number) ≡ false → knownList ys (readList p (n - k) (6 * k)) ≡ false
   list-unknown f = list-here ∙ rw f refl
 
-  pub list-known : has ys (e .yard) ≡ true → knownList ys (readList p (n - (k + 1)) (6 * (k + 1))) ≡ knownList ys (readList p (n - k) (6 * k))
+  pub list-known : has ys (e .yard .number) ≡ true → knownList ys (readList p (n - (k + 1)) (6 * (k + 1))) ≡ knownList ys (readList p (n - k) (6 * k))
   list-known f = sym (list-here ∙ rw f refl)
 
 pub list-done : (ys p : List ℕ) (n k : ℕ) → n ≤ k → knownList ys (readList p (n - k) (6 * k)) ≡ true

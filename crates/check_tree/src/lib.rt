@@ -19,8 +19,8 @@ fn tree_refusal(adj: &[u16], yard: &[u8], tree: &[u8]) -> u8
     ensures { λ r. ⌜ ((road : List ℕ) → Adjacency road (now (adj .entry))
         → r ≡ treeRefusalBeside road (now (yard .entry)) (now (tree .entry))) ⌝ }
 {
-    let mut places = [0usize; 511];
-    let mut ends = [0usize; 511];
+    let mut places = [0usize; tree::REGIONS];
+    let mut ends = [0usize; tree::REGIONS];
     let o = tree::read(tree, &mut places, &mut ends);
     let Tree::Shaped(header) = o else {
         return tree::number(o);
@@ -61,7 +61,7 @@ fn refusal(road: &[u8], yard: &[u8], tree: &[u8], words: usize) -> u8
     if why != 0 {
         return why;
     }
-    if words < 16384 {
+    if words < work_area::WORDS {
         return 12;
     }
     0

@@ -1,4 +1,5 @@
 // Whether a tree's yards are the yard book's: "Junction counts or yards disagree between books".
+use book::Junction;
 use tree_layout::landmarks;
 use tree_layout::records;
 ghost use mathlib.Core.Path.{_≡_};
@@ -12,15 +13,15 @@ ghost use Rattle.check_tree.specs.Check.{has};
 ghost use Rattle.check_tree.specs.Known.{knownList, knownRegion, knownTree};
 
 // Whether a yard book has yard y.
-fn has_yard(yard: &[u8], y: u16) -> bool
+fn has_yard(yard: &[u8], y: Junction) -> bool
     requires { ⌜ yardRefusal (now yard) ≡ 0 ⌝ }
-    ensures { λ r. ⌜ r ≡ has (yardsOf (now (yard .entry))) y ⌝ }
+    ensures { λ r. ⌜ r ≡ has (yardsOf (now (yard .entry))) (y .number) ⌝ }
 {
     let n = yard::count(yard) as usize;
     let mut k: usize = 0;
     while k < n {
         let z = yard::yard_at(yard, k);
-        if z.number == y {
+        if z.number == y.number {
             return true;
         }
         k += 1;

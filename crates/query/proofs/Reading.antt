@@ -9,13 +9,15 @@ use borrow.Author.Tests.{le-leb, lt-leb, eq-eqb, ne-eqb}
 use lib.ListN.{length}
 use lib.Dec.{leb, eqb, leb→le, le→leb, eqb→eq}
 use Rattle.book.specs.Choose.{refuse}
+use Rattle.book.specs.Cases.{caseOf}
 use Rattle.book.specs.Bytes.{u8At, u32At}
-use Rattle.book.specs.Open.{openRefusal, opened}
-use Rattle.book.specs.declared.Opened.the-variants as Opened
+use Rattle.book.specs.Open.{openRefusal, opened, openedNumber}
+use Rattle.book.specs.declared.Opened.{Opened}
+use Rattle.book.specs.declared.Opened.the-variants.{Refused as unread}
 use Rattle.book.proofs.Choosing.{first-none, first-later, first-earlier, passes, passed, passes-if, fails-if, eq→eqb}
-use Rattle.book.proofs.Opening.{opened-refused, opens, open-zero}
+use Rattle.book.proofs.Opening.{number-why, opens, open-zero}
 use Rattle.query.specs.Query.{aggregateOf, kOf, limitOf, crewCount, crewsOf, inside, valueRefusal, queryBodyRefusal, queryRefusal, queryOf, queryBook}
-use Rattle.query.specs.Query.{queryNumber, QueryLayout}
+use Rattle.query.specs.Query.{queryValues, queryCase, queryNumber, QueryLayout}
 use Rattle.query.specs.declared.Query.{Query}
 use Rattle.query.specs.declared.QueryBook.{QueryBook}
 use Rattle.query.specs.declared.QueryBook.the-variants.{Asked, Refused}
@@ -82,12 +84,13 @@ pub answer-refused : (b : List ℕ) (n why : ℕ) → why ≡ queryRefusal b n �
 answer-refused b n why e z = rw (← e) (refused-is why (queryOf b) z)
 
 -- of a book that does not open
-pub not-opened : (b : List ℕ) (n why : ℕ) → opened (openRefusal b 7) ≡ Opened.Refused why → Refused why ≡ queryBook (queryRefusal b n) (queryOf b)
+pub not-opened : (b : List ℕ) (n : ℕ) (o : Opened) (why r : ℕ) → o ≡ opened (openRefusal b 7) → o ≡ unread why → r ≡ openedNumber o
+    → Refused r ≡ queryBook (queryRefusal b n) (queryOf b)
 unfolding queryRefusal
-not-opened b n why e =
-    let p = opened-refused (openRefusal b 7) why e in
+not-opened b n o why r e f g =
+    let p = number-why (openRefusal b 7) o why r e f g in
     let s = first-earlier (openRefusal b 7) (queryBodyRefusal b n) (omega (arith, p .0, p .1)) ∙ p .0 in
-    answer-refused b n why (sym s) (omega (arith, p .1))
+    answer-refused b n r (sym s) (omega (arith, p .1))
 
 pub answer-asked : (b : List ℕ) (n why : ℕ) (q : Query) → why ≡ queryRefusal b n → why ≡ 0 → q ≡ queryOf b
     → Asked q ≡ queryBook (queryRefusal b n) (queryOf b)
@@ -147,9 +150,15 @@ module _ (b : List ℕ) (q : Query) (e : q ≡ queryOf b) where
 
 -- the number that an answer has
 pub number-is : (x : ℕ) (q : Query) → queryNumber (queryBook x q) ≡ x
-unfolding queryNumber queryBook
+unfolding queryCase queryNumber queryBook
 number-is zero q = refl
 number-is (suc x) q = refl
+
+-- an answer in the paper's numbers
+pub case-is : (x : ℕ) (q : Query) → queryCase (queryBook x q) ≡ caseOf x (queryValues q)
+unfolding queryCase queryBook
+case-is zero q = refl
+case-is (suc x) q = refl
 
 -- ---- what passes
 

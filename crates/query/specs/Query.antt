@@ -9,6 +9,7 @@ use lib.Dec.{leb, ltb, eqb}
 use Rattle.book.specs.Choose.{refuse, firstOf}
 use Rattle.book.specs.Bytes.{u8At, u16At, u32At}
 use Rattle.book.specs.Open.{Opens, openRefusal}
+use Rattle.book.specs.Cases.{Case, accepted, refused}
 use Rattle.query.specs.declared.Query.{Query}
 use Rattle.query.specs.declared.QueryBook.{QueryBook}
 use Rattle.query.specs.declared.QueryBook.the-variants.{Asked, Refused}
@@ -75,10 +76,18 @@ unfoldable pub queryBook : ℕ → Query → QueryBook
 queryBook zero q = Asked q
 queryBook (suc n) q = Refused (suc n)
 
+-- what a query asks, in the book's order
+abbrev pub queryValues : Query → List ℕ
+queryValues q = q .aggregate ∷ q .k ∷ q .limit ∷ q .crews ∷ []
+
+-- each case's number and values: what is asked; "A refusal returns its number, with every other returned field 0"
+unfoldable pub queryCase : QueryBook → Case
+queryCase (Asked q) = accepted (queryValues q)
+queryCase (Refused why) = refused why 4
+
 -- the number of an answer: "The number of an accepted call is 0."
 unfoldable pub queryNumber : QueryBook → ℕ
-queryNumber (Asked q) = 0
-queryNumber (Refused why) = why
+queryNumber o = queryCase o .number
 
 -- a query book that no test turns back, sentence by sentence
 pub record QueryLayout (b : List ℕ) (junctions : ℕ) : Type 0 where

@@ -129,10 +129,7 @@ pub fn read(b: &[u8], n: u16) -> QueryBook
 {
     let o = book::open(b, 7);
     let Opened::Body = o else {
-        let Opened::Refused(why) = o else {
-            return QueryBook::Refused(0);
-        };
-        return QueryBook::Refused(why);
+        return QueryBook::Refused(book::number(o));
     };
     let q = header(b);
     let why = refusal(b, q, n);

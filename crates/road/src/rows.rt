@@ -9,11 +9,11 @@ ghost use Rattle.adjacency.specs.Adjacency.{countIn, Adjacency, IsAdjacency};
 ghost use Rattle.road.specs.Rows.{cell, Within, Rowed};
 
 // Row r's word for junction v.
-pub fn cell(rows: &[u32], r: usize, v: u16) -> u32
-    requires { ⌜ (r * 1024 + 1024 ≤ length (now rows)) × (v < 1024) ⌝ }
-    ensures { λ d. ⌜ d ≡ cell (now (rows .entry)) r v ⌝ }
+pub fn cell(rows: &[u32], r: usize, v: Junction) -> u32
+    requires { ⌜ (r * 1024 + 1024 ≤ length (now rows)) × (v .number < 1024) ⌝ }
+    ensures { λ d. ⌜ d ≡ cell (now (rows .entry)) r (v .number) ⌝ }
 {
-    rows[r * 1024 + v as usize]
+    rows[r * 1024 + v.number as usize]
 }
 
 // Fills in a row for each source: its distances to every junction.

@@ -19,10 +19,10 @@ pub const FAR: u32 = 4294967295;
 const ABSENT: u64 = 4398046510080;
 
 // The distance of junction v, FAR where the list has none.
-pub fn distance_to(ds: &[u32], v: u16) -> u32
-    ensures { λ r. ⌜ r ≡ at (now (ds .entry)) v ⌝ }
+pub fn distance_to(ds: &[u32], v: Junction) -> u32
+    ensures { λ r. ⌜ r ≡ at (now (ds .entry)) (v .number) ⌝ }
 {
-    let i = v as usize;
+    let i = v.number as usize;
     if ds.len() <= i {
         return FAR;
     }
@@ -30,16 +30,16 @@ pub fn distance_to(ds: &[u32], v: u16) -> u32
 }
 
 // Makes x junction v's distance and queues it, if x is shorter.
-fn shorten(row: &mut [u32], queue: &mut [u64], v: u16, x: u32)
-    requires { ⌜ (length (now row) ≡ 1024) × (length (now queue) ≡ queueWords) × (v < 1024)
+fn shorten(row: &mut [u32], queue: &mut [u64], v: Junction, x: u32)
+    requires { ⌜ (length (now row) ≡ 1024) × (length (now queue) ≡ queueWords) × (v .number < 1024)
         × Above (now row) (now queue) ⌝ }
     ensures { λ _. ⌜ reach (now (row .exit)) (now (queue .exit))
-        ≡ shortenBoth (reach (now (row .entry)) (now (queue .entry))) v x ⌝ }
+        ≡ shortenBoth (reach (now (row .entry)) (now (queue .entry))) (v .number) x ⌝ }
 {
-    let i = v as usize;
+    let i = v.number as usize;
     if x < row[i] {
         row[i] = x;
-        tournament::lower(queue, i, x as u64 * 1024 + v as u64);
+        tournament::lower(queue, i, x as u64 * 1024 + v.number as u64);
     }
 }
 
@@ -50,7 +50,7 @@ fn relax(adj: &[u16], row: &mut [u32], queue: &mut [u64], u: u16, d: u32)
     ensures { λ _. ⌜ ((b : List ℕ) → Adjacency b (now (adj .entry)) → reach (now (row .exit)) (now (queue .exit))
         ≡ relaxBoth u d (net b) (reach (now (row .entry)) (now (queue .entry)))) ⌝ }
 {
-    let mut a = adjacency::head(adj, u as usize);
+    let mut a = adjacency::head(adj, Junction { number: u });
     while a != 0 {
         let v = adjacency::to(adj, a);
         let s = adjacency::cost(adj, a);

@@ -1,19 +1,21 @@
 -- Which facts lead to which answer of `roadLayoutRefusal`. Assumes nothing.
 use mathlib.Core.Path.{_≡_, refl, sym, _∙_}
 use mathlib.Core.Bool.{true, false}
-use mathlib.Core.List.{List}
+use mathlib.Core.List.{List, [], _∷_}
 use Prim.Native.Nat.{ℕ, zero, suc, _+_, _*_, _≤_, _<_}
 use native.Mathlib.Omega.{arith}
 use borrow.Author.Tests.{le-leb, lt-leb, eq-eqb, ne-eqb}
 use lib.ListN.{length}
 use lib.Dec.{leb, eqb}
 use Rattle.book.specs.Choose.{refuse}
-use Rattle.book.specs.Open.{openRefusal, opened}
-use Rattle.book.specs.declared.Opened.the-variants as Opened
+use Rattle.book.specs.Cases.{caseOf}
+use Rattle.book.specs.Open.{openRefusal, opened, openedNumber}
+use Rattle.book.specs.declared.Opened.{Opened}
+use Rattle.book.specs.declared.Opened.the-variants.{Refused as unread}
 use Rattle.book.proofs.Choosing.{first-later, first-earlier, passes-if, fails-if}
-use Rattle.book.proofs.Opening.{opened-refused}
+use Rattle.book.proofs.Opening.{number-why}
 use Rattle.road_layout.specs.Road.{junctions, roadCount}
-use Rattle.road_layout.specs.Layout.{roadsOk, roadLayoutRefusal, told, roadNumber}
+use Rattle.road_layout.specs.Layout.{roadsOk, roadLayoutRefusal, told, roadCase, roadNumber}
 use Rattle.road_layout.specs.declared.RoadBook.the-variants.{Sound, Refused}
 
 -- a refusal's number is what is told
@@ -40,12 +42,12 @@ told-sound zero j r n m e = (refl, cc, cc)
 told-sound (suc x) j r n m e = let z : _≡_ {A = ℕ} 0 1 = cc in absurd (omega arith)
 
 -- a book that does not open
-pub unopened : (b : List ℕ) (why : ℕ) → opened (openRefusal b 4) ≡ Opened.Refused why
-    → Refused why ≡ told (roadLayoutRefusal b) (junctions b) (roadCount b)
+pub unopened : (b : List ℕ) (o : Opened) (why r : ℕ) → o ≡ opened (openRefusal b 4) → o ≡ unread why → r ≡ openedNumber o
+    → Refused r ≡ told (roadLayoutRefusal b) (junctions b) (roadCount b)
 unfolding roadLayoutRefusal
-unopened b why e =
-    let p = opened-refused (openRefusal b 4) why e in
-    rw (first-earlier (openRefusal b 4) _ (omega (arith, p .0, p .1)), p .0) (sym (told-refused why (junctions b) (roadCount b) (p .1)))
+unopened b o why r e f g =
+    let p = number-why (openRefusal b 4) o why r e f g in
+    rw (first-earlier (openRefusal b 4) _ (omega (arith, p .0, p .1)), p .0) (sym (told-refused r (junctions b) (roadCount b) (p .1)))
 
 module _ (b : List ℕ) (o : openRefusal b 4 ≡ 0) (n count : ℕ) (en : n ≡ junctions b) (ec : count ≡ roadCount b) where
   -- an answer, from the number that the tests give
@@ -87,6 +89,12 @@ module _ (b : List ℕ) (o : openRefusal b 4 ≡ 0) (n count : ℕ) (en : n ≡ 
 
 -- the number that an answer has
 pub number-told : (x j r : ℕ) → roadNumber (told x j r) ≡ x
-unfolding roadNumber told
+unfolding roadCase roadNumber told
 number-told zero j r = refl
 number-told (suc x) j r = refl
+
+-- an answer in the paper's numbers
+pub told-case : (x j r : ℕ) → roadCase (told x j r) ≡ caseOf x (j ∷ r ∷ [])
+unfolding roadCase told
+told-case zero j r = refl
+told-case (suc x) j r = refl

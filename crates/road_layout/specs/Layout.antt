@@ -1,11 +1,12 @@
 -- The road book's tests 1 to 5. Assumes nothing: these are definitions.
 use Prim.Native.Nat.{ℕ, zero, suc, _+_, _*_}
 use mathlib.Core.Bool.{Bool, true, _&&_, _||_}
-use mathlib.Core.List.{List}
+use mathlib.Core.List.{List, [], _∷_}
 use lib.ListN.{length}
 use lib.Dec.{ltb, leb, eqb}
 use Rattle.book.specs.Choose.{refuse, firstOf}
 use Rattle.book.specs.Open.{openRefusal}
+use Rattle.book.specs.Cases.{Case, accepted, refused}
 use Rattle.road_layout.specs.Road.{Road, junctions, roadCount, roadAt}
 use Rattle.road_layout.specs.declared.RoadBook.{RoadBook}
 use Rattle.road_layout.specs.declared.RoadBook.the-variants.{Sound, Refused}
@@ -44,7 +45,12 @@ unfoldable pub told : ℕ → ℕ → ℕ → RoadBook
 told zero j r = Sound j r
 told (suc n) j r = Refused (suc n)
 
+-- each case's number and values: a sound book's junctions and roads; "A refusal returns its number, with every other
+-- returned field 0"
+unfoldable pub roadCase : RoadBook → Case
+roadCase (Sound j r) = accepted (j ∷ r ∷ [])
+roadCase (Refused why) = refused why 2
+
 -- the number of an answer: "The number of an accepted call is 0."
 unfoldable pub roadNumber : RoadBook → ℕ
-roadNumber (Sound j r) = 0
-roadNumber (Refused why) = why
+roadNumber o = roadCase o .number

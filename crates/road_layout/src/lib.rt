@@ -1,3 +1,4 @@
+use book::Junction;
 use book::Opened;
 ghost use mathlib.Core.Path.{_≡_};
 ghost use Prim.Native.Nat.{_+_, _*_, _≤_};
@@ -26,8 +27,8 @@ pub fn number(o: RoadBook) -> u8
 
 // A road: its low end, its high end and its seconds.
 pub struct Road {
-    pub low: u16,
-    pub high: u16,
+    pub low: Junction,
+    pub high: Junction,
     pub seconds: u16,
 }
 
@@ -50,23 +51,31 @@ pub fn road_count(b: &[u8]) -> u16
 // Road k, counted from 0.
 pub fn road_at(b: &[u8], k: usize) -> Road
     requires { ⌜ 9 + 6 * k + 6 ≤ length (now b) ⌝ }
-    ensures { λ r. ⌜ (r .low ≡ roadAt (now (b .entry)) k .low) × (r .high ≡ roadAt (now (b .entry)) k .high)
+    ensures { λ r. ⌜ (r .low .number ≡ roadAt (now (b .entry)) k .low)
+        × (r .high .number ≡ roadAt (now (b .entry)) k .high)
         × (r .seconds ≡ roadAt (now (b .entry)) k .seconds) ⌝ }
 {
     let at = 9 + 6 * k;
+    let low = Junction {
+        number: book::u16_at(b, at),
+    };
+    let high = Junction {
+        number: book::u16_at(b, at + 2),
+    };
     Road {
-        low: book::u16_at(b, at),
-        high: book::u16_at(b, at + 2),
+        low,
+        high,
         seconds: book::u16_at(b, at + 4),
     }
 }
 
 // Whether a road fits n junctions, and its pair of ends comes after the pair (l, h).
 fn road_ok(n: u16, l: u16, h: u16, road: Road) -> bool
-    ensures { λ r. ⌜ r ≡ roadOk n l h (record { low = road .low; high = road .high; seconds = road .seconds }) ⌝ }
+    ensures { λ r. ⌜ r ≡ roadOk n l h
+        (record { low = road .low .number; high = road .high .number; seconds = road .seconds }) ⌝ }
 {
-    let low = road.low;
-    let high = road.high;
+    let low = road.low.number;
+    let high = road.high.number;
     if high <= low {
         return false;
     }
@@ -98,8 +107,8 @@ fn roads_ok(b: &[u8], count: usize, n: u16) -> bool
         if !road_ok(n, l, h, road) {
             return false;
         }
-        l = road.low;
-        h = road.high;
+        l = road.low.number;
+        h = road.high.number;
         k += 1;
     }
     true
@@ -112,10 +121,7 @@ pub fn read(b: &[u8]) -> RoadBook
 {
     let o = book::open(b, 4);
     let Opened::Body = o else {
-        let Opened::Refused(why) = o else {
-            return RoadBook::Refused(0);
-        };
-        return RoadBook::Refused(why);
+        return RoadBook::Refused(book::number(o));
     };
     let n = junction_count(b);
     let roads = road_count(b);

@@ -35,16 +35,17 @@ module _ (b : List ℕ) (h : Header) (e : h ≡ headerOf b) where
 module _ (b : List ℕ) (at : ℕ) (r : RecordAt b at) (j : ℕ) (h : j < landmarkCount b) (k : Landmark)
     (e : k ≡ landmarkOf (getD (marksAt b at) j noMark)) where
   -- the junction of landmark j
-  pub place-read : k .place ≡ getD (marksAt b at) j noMark .place
+  pub place-read : k .place .number ≡ getD (marksAt b at) j noMark .place
   unfolding landmarkOf
-  place-read = ap (λ (x : Landmark). x .place) e
+  place-read = ap (λ (x : Landmark). x .place .number) e
 
-  pub place-there : k .place < 1024
+  pub place-there : k .place .number < 1024
   place-there = rw place-read (r .placed (getD (marksAt b at) j noMark) (getD-mem (marksAt b at) j noMark (omega (arith, marks-count b at))))
 
 -- the bound of a landmark that is read is that of the landmark
 pub mark-read : (table : List ℕ) (rows q w : ℕ) (n : Mark) (k : Landmark) → k ≡ landmarkOf n
-    → w ≡ crewBound (rowsLower table rows (k .place) q) (rowsUpper table rows (k .place) q) (k .least) (k .greatest) → w ≡ rowsMark table rows q n
+    → w ≡ crewBound (rowsLower table rows (k .place .number) q) (rowsUpper table rows (k .place .number) q) (k .least) (k .greatest)
+    → w ≡ rowsMark table rows q n
 unfolding rowsMark landmarkOf
 mark-read table rows q w n k e f = rw e at f
 

@@ -23,7 +23,7 @@ use Rattle.search_bounds.specs.Rows.{tableWords}
 use Rattle.search_bounds.specs.Tables.{rootPlaces, LandmarkTable}
 use Rattle.tree_layout.proofs.RecordFields.{marks-count}
 use Rattle.search_bounds.proofs.Bounding.{count-read}
-use Rattle.search_bounds.proofs.Numbered.{layout-marks, layout-record, layout-placed}
+use Rattle.tree_layout.proofs.RegionRecords.{layout-marks, layout-record, layout-placed}
 use Rattle.search_bounds.proofs.Searching.{marks-book}
 use Rattle.search_bounds.proofs.Places.{root-length, root-at, root-each}
 

@@ -62,7 +62,7 @@ module _ (tree : List ℕ) where
 
   -- one more
   pub read-next : (root : RecordAt tree 12) (old new : List ℕ) (r : ℕ) (k : Landmark) → new ≡ overwrite rootPlace r old → r < landmarkCount tree
-      → k ≡ landmarkOf (getD (marksAt tree 12) r noMark) → set new r (k .place) ≡ overwrite rootPlace (r + 1) old
+      → k ≡ landmarkOf (getD (marksAt tree 12) r noMark) → set new r (k .place .number) ≡ overwrite rootPlace (r + 1) old
   read-next root old new r k e h f = rw (e, place-read tree 12 root r h k f) (overwrite-next rootPlace old r)
 
   -- all of them

@@ -1,6 +1,7 @@
 // The landmark that a leaf picks.
 use crate::numbers;
 use crate::rows;
+use book::Junction;
 use tree_layout::Region;
 use tree_layout::landmarks;
 use tree_layout::records;
@@ -17,14 +18,15 @@ ghost use Rattle.tree_layout.specs.Marks.{marksAt, RecordAt};
 ghost use Rattle.search_bounds.specs.Bounds.{rowsWeight, markWeight, rowsChosen, Crews};
 
 // The "sum of LB over crews" of a landmark at junction l.
-fn weight(table: &[u32], rows: usize, crews: &[u16], l: u16) -> u64
-    requires { ⌜ Rows (now table) rows × Crews (now crews) × (l < 1024) ⌝ }
-    ensures { λ x. ⌜ x ≡ rowsWeight (now (table .entry)) rows (now (crews .entry)) l ⌝ }
+fn weight(table: &[u32], rows: usize, crews: &[u16], l: Junction) -> u64
+    requires { ⌜ Rows (now table) rows × Crews (now crews) × (l .number < 1024) ⌝ }
+    ensures { λ x. ⌜ x ≡ rowsWeight (now (table .entry)) rows (now (crews .entry)) (l .number) ⌝ }
 {
     let mut x: u64 = 0;
     let mut j: usize = 0;
     while j < crews.len() {
-        let w = rows::lower(table, rows, l, crews[j]);
+        let q = Junction { number: crews[j] };
+        let w = rows::lower(table, rows, l, q);
         x = numbers::combine(0, x, w as u64);
         j += 1;
     }

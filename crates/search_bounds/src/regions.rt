@@ -1,6 +1,7 @@
 // A region's bound.
 use crate::numbers;
 use crate::rows;
+use book::Junction;
 use tree_layout::Landmark;
 use tree_layout::Region;
 use tree_layout::landmarks;
@@ -17,10 +18,10 @@ ghost use Rattle.tree_layout.specs.Marks.{marksAt, RecordAt};
 ghost use Rattle.search_bounds.specs.Bounds.{rowsCrew, rowsBound, Crews};
 
 // "the crew's bound": of crew q for a landmark.
-fn mark_bound(table: &[u32], rows: usize, k: Landmark, q: u16) -> u32
-    requires { ⌜ Rows (now table) rows × (k .place < 1024) × (q < 1024) ⌝ }
-    ensures { λ x. ⌜ x ≡ crewBound (rowsLower (now (table .entry)) rows (k .place) q)
-        (rowsUpper (now (table .entry)) rows (k .place) q) (k .least) (k .greatest) ⌝ }
+fn mark_bound(table: &[u32], rows: usize, k: Landmark, q: Junction) -> u32
+    requires { ⌜ Rows (now table) rows × (k .place .number < 1024) × (q .number < 1024) ⌝ }
+    ensures { λ x. ⌜ x ≡ crewBound (rowsLower (now (table .entry)) rows (k .place .number) (q .number))
+        (rowsUpper (now (table .entry)) rows (k .place .number) (q .number)) (k .least) (k .greatest) ⌝ }
 {
     let lb = rows::lower(table, rows, k.place, q);
     let ub = rows::upper(table, rows, k.place, q);
@@ -28,9 +29,9 @@ fn mark_bound(table: &[u32], rows: usize, k: Landmark, q: u16) -> u32
 }
 
 // "The greatest over the region's landmarks is taken": for crew q, of the record at a place.
-fn crew_region(tree: &[u8], at: usize, table: &[u32], rows: usize, q: u16) -> u32
-    requires { ⌜ RecordAt (now tree) at × Rows (now table) rows × (q < 1024) ⌝ }
-    ensures { λ x. ⌜ x ≡ rowsCrew (now (table .entry)) rows (marksAt (now (tree .entry)) at) q ⌝ }
+fn crew_region(tree: &[u8], at: usize, table: &[u32], rows: usize, q: Junction) -> u32
+    requires { ⌜ RecordAt (now tree) at × Rows (now table) rows × (q .number < 1024) ⌝ }
+    ensures { λ x. ⌜ x ≡ rowsCrew (now (table .entry)) rows (marksAt (now (tree .entry)) at) (q .number) ⌝ }
 {
     let h = records::header(tree);
     let m = h.landmarks as usize;
@@ -53,7 +54,8 @@ fn record_bound(tree: &[u8], at: usize, table: &[u32], rows: usize, code: u8, cr
     let mut x: u64 = 0;
     let mut j: usize = 0;
     while j < crews.len() {
-        let w = crew_region(tree, at, table, rows, crews[j]);
+        let q = Junction { number: crews[j] };
+        let w = crew_region(tree, at, table, rows, q);
         x = numbers::combine(code, x, w as u64);
         j += 1;
     }

@@ -24,7 +24,7 @@ fn root_places(tree: &[u8], places: &mut [u16])
     let mut r: usize = 0;
     while r < places.len() {
         let k = landmarks::landmark(tree, records::FIRST_RECORD, r);
-        places[r] = k.place;
+        places[r] = k.place.number;
         r += 1;
     }
 }

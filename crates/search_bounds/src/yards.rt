@@ -36,7 +36,7 @@ pub fn measure(drives: &[u32], crews: &[u16], code: u8, yard: Junction) -> u32
     let mut total: u64 = 0;
     let mut j: usize = 0;
     while j < crews.len() {
-        total = numbers::combine(code, total, wide(road::rows::cell(drives, j, yard.number)));
+        total = numbers::combine(code, total, wide(road::rows::cell(drives, j, yard)));
         j += 1;
     }
     total as u32
@@ -51,7 +51,7 @@ pub fn to_crews(drives: &[u32], crews: &[u16], l: Junction, out: &mut [u32])
 {
     let mut j: usize = 0;
     while j < crews.len() {
-        out[j] = road::rows::cell(drives, j, l.number);
+        out[j] = road::rows::cell(drives, j, l);
         j += 1;
     }
 }
@@ -63,16 +63,17 @@ fn crew_abs_diff(
     rows: usize,
     crews: &[u16],
     out: &[u32],
-    yard: u16,
+    yard: Junction,
     distance: u32,
     j: usize,
 ) -> u32
-    requires { ⌜ Rows (now table) rows × Crews (now crews) × (length (now out) ≡ length (now crews)) × (yard < 1024)
-        × (j < length (now crews)) ⌝ }
-    ensures { λ r. ⌜ r ≡ crewAbsDiff (now (table .entry)) rows (now (crews .entry)) (now (out .entry)) yard distance j
-        ⌝ }
+    requires { ⌜ Rows (now table) rows × Crews (now crews) × (length (now out) ≡ length (now crews))
+        × (yard .number < 1024) × (j < length (now crews)) ⌝ }
+    ensures { λ r. ⌜ r ≡ crewAbsDiff (now (table .entry)) rows (now (crews .entry)) (now (out .entry)) (yard .number)
+        distance j ⌝ }
 {
-    let lb = rows::lower(table, rows, yard, crews[j]);
+    let q = Junction { number: crews[j] };
+    let lb = rows::lower(table, rows, yard, q);
     numbers::greater(lb, numbers::abs_diff(out[j], distance))
 }
 
@@ -84,13 +85,13 @@ pub fn yard_bound(
     crews: &[u16],
     out: &[u32],
     code: u8,
-    yard: u16,
+    yard: Junction,
     distance: u32,
 ) -> u64
-    requires { ⌜ Rows (now table) rows × Crews (now crews) × (length (now out) ≡ length (now crews)) × (yard < 1024) ⌝ }
-    ensures { λ r. ⌜ r ≡ yardBoundBy code (now (table .entry)) rows (now (crews .entry)) (now (out .entry)) yard
-        distance
-        (length (now (crews .entry))) ⌝ }
+    requires { ⌜ Rows (now table) rows × Crews (now crews) × (length (now out) ≡ length (now crews))
+        × (yard .number < 1024) ⌝ }
+    ensures { λ r. ⌜ r ≡ yardBoundBy code (now (table .entry)) rows (now (crews .entry)) (now (out .entry))
+        (yard .number) distance (length (now (crews .entry))) ⌝ }
 {
     let mut total: u64 = 0;
     let mut j: usize = 0;

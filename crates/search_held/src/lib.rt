@@ -1,4 +1,5 @@
 // The held yards: the k least so far in yard order.
+use book::Junction;
 ghost use mathlib.Core.Path.{_≡_};
 ghost use mathlib.Core.List.{List, []};
 ghost use Prim.Native.Nat.{ℕ, _+_, _*_, _≤_, _<_};
@@ -29,8 +30,8 @@ pub fn none() -> Held
 }
 
 // Whether one yard with its distance comes before another, in yard order.
-fn comes_first(distance: u32, yard: u16, d: u32, y: u16) -> bool
-    ensures { λ r. ⌜ r ≡ yardFirst (element distance yard) (element d y) ⌝ }
+fn comes_first(distance: u32, yard: Junction, d: u32, y: Junction) -> bool
+    ensures { λ r. ⌜ r ≡ yardFirst (element distance (yard .number)) (element d (y .number)) ⌝ }
 {
     if distance < d {
         return true;
@@ -38,17 +39,19 @@ fn comes_first(distance: u32, yard: u16, d: u32, y: u16) -> bool
     if distance != d {
         return false;
     }
-    yard < y
+    yard.number < y.number
 }
 
 // The place of the first of n pairs that a yard with its distance comes before, or n.
-fn place(yards: &[u16], distances: &[u32], n: usize, yard: u16, distance: u32) -> usize
+fn place(yards: &[u16], distances: &[u32], n: usize, yard: Junction, distance: u32) -> usize
     requires { ⌜ (n ≤ length (now yards)) × (n ≤ length (now distances)) ⌝ }
-    ensures { λ r. ⌜ r ≡ placeIn (element distance yard) (pairs (now (yards .entry)) (now (distances .entry)) n 0) ⌝ }
+    ensures { λ r. ⌜ r
+        ≡ placeIn (element distance (yard .number)) (pairs (now (yards .entry)) (now (distances .entry)) n 0) ⌝ }
 {
     let mut j: usize = 0;
     while j < n {
-        if comes_first(distance, yard, distances[j], yards[j]) {
+        let y = Junction { number: yards[j] };
+        if comes_first(distance, yard, distances[j], y) {
             return j;
         }
         j += 1;
@@ -58,16 +61,16 @@ fn place(yards: &[u16], distances: &[u32], n: usize, yard: u16, distance: u32) -
 
 // What is held after one more yard: it goes to its place, and each from there on goes to the next; of more than k the
 // last one goes.
-pub fn hold(held: Held, k: usize, yard: u16, distance: u32) -> Held
+pub fn hold(held: Held, k: usize, yard: Junction, distance: u32) -> Held
     requires { ⌜ (held .count ≤ k) × (k ≤ 64) ⌝ }
-    ensures held { λ r. ⌜ heldOf r ≡ hold k (element distance yard) (heldOf held) ⌝ }
+    ensures held { λ r. ⌜ heldOf r ≡ hold k (element distance (yard .number)) (heldOf held) ⌝ }
     ensures room { λ r. ⌜ r .count ≤ k ⌝ }
 {
     let n = held.count;
     let mut yards = held.yards;
     let mut distances = held.distances;
     let mut j = place(&yards, &distances, n, yard, distance);
-    let mut y = yard;
+    let mut y = yard.number;
     let mut d = distance;
     while j < n {
         let next_y = yards[j];

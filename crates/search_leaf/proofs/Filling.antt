@@ -30,7 +30,7 @@ element-mem p (suc n) at (suc k) h =
     rw (z, read-list-next p n at) (tail (element-mem p n (at + 6) k (omega arith)))
 
 -- the yard of element number k is where the list's yards are
-pub yard-near : (p : List ℕ) (n k w : ℕ) (e : Listed) → k < n → e ≡ listedAt p k → Near w (readList p n 0) → e .yard < w
+pub yard-near : (p : List ℕ) (n k w : ℕ) (e : Listed) → k < n → e ≡ listedAt p k → Near w (readList p n 0) → e .yard .number < w
 yard-near p n k w e h q near =
     let z : 0 + 6 * k ≡ 6 * k = omega arith in
     rw (q, ← element-yard p (6 * k)) (near (elementAt p (6 * k)) (rw z at (element-mem p n 0 k h)))
@@ -48,8 +48,8 @@ module _ (regions junctions : ℕ) (g b : Element → ℕ) (p : List ℕ) (n : �
 
   module _ (k : ℕ) (ws₀ ws : List ℕ) (f : Filled regions junctions g b p n k ws₀ ws) where
     pub filled-more : k < n → (e : Listed) → e ≡ listedAt p k → (x y i j : ℕ)
-        → x ≡ g (record { distance = e .distance; yard = e .yard }) → y ≡ b (record { distance = e .distance; yard = e .yard })
-        → i ≡ fsAt regions junctions + e .yard → j ≡ boundsAt regions junctions + e .yard
+        → x ≡ g (record { distance = e .distance; yard = e .yard .number }) → y ≡ b (record { distance = e .distance; yard = e .yard .number })
+        → i ≡ fsAt regions junctions + e .yard .number → j ≡ boundsAt regions junctions + e .yard .number
         → Filled regions junctions g b p n (k + 1) ws₀ (set (set ws i x) j y)
     unfolding byYards
     filled-more h e q x y i j ex ey ei ej = record {
@@ -57,7 +57,7 @@ module _ (regions junctions : ℕ) (g b : Element → ℕ) (p : List ℕ) (n : �
       rest = sym step ∙ f .rest;
     }
       where
-        is : elementAt p (6 * k) ≡ record { distance = e .distance; yard = e .yard }
+        is : elementAt p (6 * k) ≡ record { distance = e .distance; yard = e .yard .number }
         is = element-is p (6 * k) ∙ rw q refl
 
         step : byYards regions junctions g b (readList p (n - k) (6 * k)) ws

@@ -41,11 +41,11 @@ module _ (p fs : List ℕ) (gone : List Bool) (n place : ℕ) (some : 1 ≤ n)
   pub next-inside : place < n
   next-inside = rw picked (pick-range (wordsOf fs gone (readList p n 0)) n some)
 
-  pub next-yard : (e : Listed) → e ≡ listedAt p place → e .yard ≡ nextIn fs gone (readList p n 0) n .yard
+  pub next-yard : (e : Listed) → e ≡ listedAt p place → e .yard .number ≡ nextIn fs gone (readList p n 0) n .yard
   unfolding nextIn
   next-yard e q =
       let z : 0 + 6 * place ≡ 6 * place = omega arith in
-      ap (λ (x : Listed). x .yard) q ∙ (sym (element-yard p (6 * place)) ∙ ap (λ (x : Element). x .yard)
+      ap (λ (x : Listed). x .yard .number) q ∙ (sym (element-yard p (6 * place)) ∙ ap (λ (x : Element). x .yard)
       (rw z at (sym (read-at p n 0 place noElement next-inside))) ∙ rw picked refl)
 
 -- the next element by its number
@@ -64,7 +64,7 @@ next-word fs gone es n place word p q = q ∙ rw p refl
 module _ (regions junctions : ℕ) (p : List ℕ) (n : ℕ) (ws : List ℕ) where
   -- the yard that was read is the one that leaves
   pub leaving-is : 1 ≤ n → (place : ℕ) → place ≡ pick (wordsOf (fsIn regions junctions ws) (goneIn regions junctions ws) (readList p n 0)) n
-      → (e : Listed) → e ≡ listedAt p place → e .yard ≡ leaving regions junctions (readList p n 0) n ws
+      → (e : Listed) → e ≡ listedAt p place → e .yard .number ≡ leaving regions junctions (readList p n 0) n ws
   unfolding leaving
   leaving-is some place picked e q = next-yard p (fsIn regions junctions ws) (goneIn regions junctions ws) n place some picked e q
 

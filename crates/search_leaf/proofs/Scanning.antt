@@ -70,7 +70,7 @@ module _ (fs : List ℕ) (gone : List Bool) where
       (λ (x : ℕ). elementWord fs gone (u16At p x)) z
 
   -- by the yard and the word that were read
-  pub words-by : (p : List ℕ) (n k x : ℕ) (e : Listed) → k < n → e ≡ listedAt p k → x ≡ elementWord fs gone (e .yard)
+  pub words-by : (p : List ℕ) (n k x : ℕ) (e : Listed) → k < n → e ≡ listedAt p k → x ≡ elementWord fs gone (e .yard .number)
       → x ≡ wordAt (wordsOf fs gone (readList p n 0)) k
   words-by p n k x e h l q = q ∙ (rw l refl ∙ sym (words-at p n k h))
 

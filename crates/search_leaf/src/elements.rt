@@ -1,6 +1,7 @@
 // A leaf's list: f and the bound of each of its yards, and which leaves next.
 use crate::Next;
 use crate::parts;
+use book::Junction;
 use search_queue::UNQUEUED;
 use tree_layout::Header;
 use tree_layout::records;
@@ -84,10 +85,10 @@ pub fn open(
 }
 
 // A yard's f, or UNQUEUED if it has left.
-fn word_of(h: Header, words: &[u64], y: u16) -> u64
-    requires { ⌜ (y < h .junctions) × (length (now words) ≡ wordCount (h .regions) (h .junctions)) ⌝ }
+fn word_of(h: Header, words: &[u64], y: Junction) -> u64
+    requires { ⌜ (y .number < h .junctions) × (length (now words) ≡ wordCount (h .regions) (h .junctions)) ⌝ }
     ensures { λ r. ⌜ r ≡ elementWord (fsIn (h .regions) (h .junctions) (now (words .entry)))
-        (goneIn (h .regions) (h .junctions) (now (words .entry))) y ⌝ }
+        (goneIn (h .regions) (h .junctions) (now (words .entry))) (y .number) ⌝ }
 {
     let g = parts::gone_at(h, y);
     if words[g] == 0 {

@@ -1,4 +1,5 @@
 // Where a search's words stand.
+use book::Junction;
 use tree_layout::Header;
 use tree_layout::Region;
 ghost use mathlib.Core.Path.{_≡_};
@@ -6,10 +7,10 @@ ghost use Prim.Native.Nat.{ℕ, _+_};
 ghost use Rattle.search_state.specs.State.{yardKeysAt, firstsAt, picksAt, fsAt, boundsAt, goneAt};
 
 // Yard y's key.
-pub fn key_at(h: Header, y: u16) -> usize
-    ensures { λ r. ⌜ r ≡ yardKeysAt (h .regions) (h .junctions) + y ⌝ }
+pub fn key_at(h: Header, y: Junction) -> usize
+    ensures { λ r. ⌜ r ≡ yardKeysAt (h .regions) (h .junctions) + y .number ⌝ }
 {
-    h.regions as usize + y as usize
+    h.regions as usize + y.number as usize
 }
 
 // Region r's first key.
@@ -27,22 +28,22 @@ pub fn pick_at(h: Header, r: Region) -> usize
 }
 
 // Yard y's f.
-pub fn f_at(h: Header, y: u16) -> usize
-    ensures { λ r. ⌜ r ≡ fsAt (h .regions) (h .junctions) + y ⌝ }
+pub fn f_at(h: Header, y: Junction) -> usize
+    ensures { λ r. ⌜ r ≡ fsAt (h .regions) (h .junctions) + y .number ⌝ }
 {
-    3 * (h.regions as usize) + h.junctions as usize + y as usize
+    3 * (h.regions as usize) + h.junctions as usize + y.number as usize
 }
 
 // Yard y's bound.
-pub fn bound_at(h: Header, y: u16) -> usize
-    ensures { λ r. ⌜ r ≡ boundsAt (h .regions) (h .junctions) + y ⌝ }
+pub fn bound_at(h: Header, y: Junction) -> usize
+    ensures { λ r. ⌜ r ≡ boundsAt (h .regions) (h .junctions) + y .number ⌝ }
 {
-    3 * (h.regions as usize) + 2 * (h.junctions as usize) + y as usize
+    3 * (h.regions as usize) + 2 * (h.junctions as usize) + y.number as usize
 }
 
 // Whether yard y has left.
-pub fn gone_at(h: Header, y: u16) -> usize
-    ensures { λ r. ⌜ r ≡ goneAt (h .regions) (h .junctions) + y ⌝ }
+pub fn gone_at(h: Header, y: Junction) -> usize
+    ensures { λ r. ⌜ r ≡ goneAt (h .regions) (h .junctions) + y .number ⌝ }
 {
-    3 * (h.regions as usize) + 3 * (h.junctions as usize) + y as usize
+    3 * (h.regions as usize) + 3 * (h.junctions as usize) + y.number as usize
 }

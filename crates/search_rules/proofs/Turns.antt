@@ -14,7 +14,7 @@ use Rattle.search_rules.specs.Order.{yardFirst}
 use Rattle.search_rules.specs.Instance.{Instance}
 use Rattle.search_rules.specs.Bounds.{combine, aggregate, greatestOf, leastFrom, leastOf, weight, best, bestOf}
 use Rattle.tree_layout.specs.Values.{noMark}
-use Rattle.search_rules.specs.Queue.{unqueued, wordAt, pick}
+use Rattle.search_rules.specs.Queue.{wordAt, pick}
 use Rattle.search_rules.specs.Held.{insert, hold, greatestHeld}
 use Rattle.search_rules.specs.Step.{left, noElement, step, settled, startSearch}
 use Rattle.search_rules.specs.Run.{words, advance, run}
@@ -128,12 +128,6 @@ unfolding wordAt
 word-at [] j d h = absurd (omega arith)
 word-at (w ∷ ws) zero d h = refl
 word-at (w ∷ ws) (suc j) d h = word-at ws j d (omega arith)
-
-pub word-past : (ws : List ℕ) (j : ℕ) → length ws ≤ j → wordAt ws j ≡ unqueued
-unfolding wordAt
-word-past [] j h = refl
-word-past (w ∷ ws) zero h = absurd (omega arith)
-word-past (w ∷ ws) (suc j) h = word-past ws j (omega arith)
 
 pub pick-none : (ws : List ℕ) → pick ws 0 ≡ 0
 unfolding pick

@@ -39,7 +39,7 @@ pub fn take(
     measured[count] = y.number;
     let total = search_bounds::yards::measure(drives, crews, asked.aggregate, y);
     let before = progress.held;
-    let held = search_held::hold(before, asked.k as usize, y.number, total);
+    let held = search_held::hold(before, asked.k as usize, y, total);
     Progress {
         held,
         measured: count + 1,

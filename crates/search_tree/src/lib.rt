@@ -10,9 +10,6 @@ ghost use Rattle.work_area.specs.Work.{workAfter};
 ghost use Rattle.search_call.specs.Call.{refused, searchRefusal, searchFound, resultsAfter};
 ghost use Rattle.search_tree.specs.Found.{foundOf};
 
-// The most regions that a tree has.
-const REGIONS: usize = 511;
-
 // What a search returns; settled is 1 or 0.
 #[repr(C)]
 pub struct Found {
@@ -55,8 +52,8 @@ pub fn search(
         (length (now (work .entry))) (now (results .entry)) ⌝ }
 {
     let mut adj = [0u16; adjacency::WORDS];
-    let mut places = [0usize; REGIONS];
-    let mut ends = [0usize; REGIONS];
+    let mut places = [0usize; tree::REGIONS];
+    let mut ends = [0usize; tree::REGIONS];
     let why = district::read(road, tree, &mut adj, &mut places, &mut ends);
     if why != 0 {
         return refused(why);

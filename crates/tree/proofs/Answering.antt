@@ -8,6 +8,7 @@ use lib.ListN.{length, getD, take}
 use lib.Seq.{length-take-le, getD-take}
 use lib.Dec.{eqb}
 use Rattle.book.proofs.Choosing.{choose-yes, choose-no, passes, fails, true-T, false-T, first-later, first-earlier, first-none}
+use Rattle.book.specs.Cases.{caseOf}
 use Rattle.book.proofs.Lists.{eq→eqb, ne→neqb}
 use Rattle.tree_layout.specs.Decode.{regionCount, placeOf, decode}
 use Rattle.tree_layout.specs.Refusal.{treeLayoutRefusal}
@@ -17,14 +18,14 @@ use Rattle.tree_layout.proofs.Reading.{refused-answer as layout-answer}
 use Rattle.tree.specs.Shape.{shaped, treeRefusal}
 use Rattle.tree.specs.Yards.{endOf}
 use Rattle.tree.specs.Arrays.{overwrite, Laid}
-use Rattle.tree_layout.specs.Reading.{headerOf, treeBook, layoutNumber as layout-number}
+use Rattle.tree_layout.specs.Reading.{headerOf, headerValues, treeBook, layoutNumber as layout-number}
 use Rattle.tree_layout.specs.declared.Header.{Header}
 use Rattle.tree_layout.specs.declared.TreeBook.{TreeBook}
 use Rattle.tree_layout.specs.declared.TreeBook.the-variants.{Refused as layout-refused}
 use Rattle.tree_layout.proofs.Refusing.{refused-number}
 use Rattle.tree.specs.declared.Tree.{Tree}
 use Rattle.tree.specs.declared.Tree.the-variants.{Shaped, Refused}
-use Rattle.tree.specs.Answer.{treeAnswer, treeNumber, treeOf, placesAfter, endsAfter}
+use Rattle.tree.specs.Answer.{treeAnswer, treeCase, treeNumber, treeOf, placesAfter, endsAfter}
 use Rattle.tree.proofs.Filling.{overwrite-length, overwrite-new}
 
 -- ---- a book that the layout's tests accept
@@ -193,9 +194,18 @@ module _ (b : List ℕ) (ok : treeRefusal b ≡ 0) where
 
 -- the number that an answer has
 pub number-is : (b : List ℕ) (o : Tree) → o ≡ treeOf b → treeNumber o ≡ treeRefusal b
-unfolding treeOf treeAnswer treeNumber
+unfolding treeOf treeAnswer treeCase treeNumber
 number-is b o e = ap treeNumber e ∙ go (treeRefusal b)
   where
     go : (n : ℕ) → treeNumber (treeAnswer n (headerOf b)) ≡ n
+    go zero = refl
+    go (suc n) = refl
+
+-- an answer in the paper's numbers
+pub case-is : (b : List ℕ) → treeCase (treeOf b) ≡ caseOf (treeRefusal b) (headerValues (headerOf b))
+unfolding treeOf treeAnswer treeCase
+case-is b = go (treeRefusal b)
+  where
+    go : (n : ℕ) → treeCase (treeAnswer n (headerOf b)) ≡ caseOf n (headerValues (headerOf b))
     go zero = refl
     go (suc n) = refl

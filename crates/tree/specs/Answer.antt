@@ -3,9 +3,10 @@ use mathlib.Core.List.{List}
 use Prim.Native.Nat.{ℕ, zero, suc}
 use lib.Dec.{eqb}
 use Rattle.book.specs.Choose.{choose}
+use Rattle.book.specs.Cases.{Case, accepted, refused}
 use Rattle.tree_layout.specs.Decode.{regionCount, placeOf, decode}
 use Rattle.tree_layout.specs.Refusal.{treeLayoutRefusal}
-use Rattle.tree_layout.specs.Reading.{headerOf}
+use Rattle.tree_layout.specs.Reading.{headerOf, headerValues}
 use Rattle.tree_layout.specs.declared.Header.{Header}
 use Rattle.tree.specs.declared.Tree.{Tree}
 use Rattle.tree.specs.declared.Tree.the-variants.{Shaped, Refused}
@@ -18,10 +19,14 @@ unfoldable pub treeAnswer : ℕ → Header → Tree
 treeAnswer zero h = Shaped h
 treeAnswer (suc n) h = Refused (suc n)
 
+-- each case's number and values: the header's counts; "A refusal returns its number, with every other returned field 0"
+unfoldable pub treeCase : Tree → Case
+treeCase (Shaped h) = accepted (headerValues h)
+treeCase (Refused why) = refused why 4
+
 -- the number of an answer: "The number of an accepted call is 0."
 unfoldable pub treeNumber : Tree → ℕ
-treeNumber (Shaped h) = 0
-treeNumber (Refused why) = why
+treeNumber o = treeCase o .number
 
 -- a book's answer
 unfoldable pub treeOf : List ℕ → Tree

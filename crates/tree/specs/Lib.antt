@@ -6,3 +6,4 @@ pub mod Arrays
 pub mod Answer
 pub mod RegionYards
 pub mod Tests
+pub mod Ends

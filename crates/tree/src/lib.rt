@@ -13,6 +13,9 @@ ghost use Rattle.tree_layout.specs.Refusal.{treeLayoutRefusal};
 ghost use Rattle.tree.specs.Shape.{treeRefusal};
 ghost use Rattle.tree.specs.Answer.{treeNumber, treeOf, placesAfter, endsAfter};
 
+// The most regions that a tree has.
+pub const REGIONS: usize = 511;
+
 // What reading a tree book finds: its header, or the number of the test that turns it back.
 pub enum Tree {
     Shaped(Header),

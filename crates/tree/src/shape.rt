@@ -4,10 +4,17 @@ use tree_layout::Fields;
 use tree_layout::Region;
 use tree_layout::records;
 ghost use mathlib.Core.Path.{_≡_};
-ghost use Prim.Native.Nat.{_+_, _<_};
+ghost use Prim.Native.Nat.{_+_, _≤_, _<_};
 ghost use Rattle.tree_layout.specs.Decode.{decode};
 ghost use Rattle.tree.specs.Shape.{childFits, siblings, subtree, shaped};
+ghost use Rattle.tree.specs.Ends.{endAt};
 ghost use Rattle.tree.specs.Arrays.{Laid};
+
+// What the descent of a subtree finds: the region after it, or that a rule of the shape doesn't hold.
+pub enum End {
+    At(Region),
+    Broken,
+}
 
 // Whether a child's range lies from low up to high, and it has no more yards than are left.
 fn child_fits(c: Fields, low: u16, high: u16, left: u16) -> bool
@@ -22,16 +29,16 @@ fn child_fits(c: Fields, low: u16, high: u16, left: u16) -> bool
     c.yards <= left
 }
 
-// The region after r's subtree, or region 0 if a rule of the shape doesn't hold, with so many levels left.
-pub fn subtree_end(b: &[u8], places: &[usize], levels: usize, r: Region) -> Region
+// The end of r's subtree, with so many levels left.
+pub fn subtree_end(b: &[u8], places: &[usize], levels: usize, r: Region) -> End
     requires { ⌜ Laid (now b) (now places) ⌝ }
-    ensures { λ e. ⌜ e .number ≡ subtree (decode (now (b .entry)) .regions) levels (r .number) ⌝ }
+    ensures { λ e. ⌜ e ≡ endAt (subtree (decode (now (b .entry)) .regions) levels (r .number)) ⌝ }
 {
     if levels == 0 {
-        return Region { number: 0 };
+        return End::Broken;
     }
     if places.len() <= r.number as usize {
-        return Region { number: 0 };
+        return End::Broken;
     }
     let f = regions::fields(b, places, r);
     let next = Region {
@@ -50,12 +57,12 @@ pub fn subtree_end(b: &[u8], places: &[usize], levels: usize, r: Region) -> Regi
         );
     }
     if !tree_leaf::leaf_ok(b, f.at) {
-        return Region { number: 0 };
+        return End::Broken;
     }
-    next
+    End::At(next)
 }
 
-// The region after the subtrees of n siblings from r on, or region 0: in a range, with the yards that are left.
+// The end of the last subtree of n siblings from r on, which is not the root: in a range, with the yards that are left.
 fn siblings_end(
     b: &[u8],
     places: &[usize],
@@ -65,28 +72,28 @@ fn siblings_end(
     low: u16,
     high: u16,
     left: u16,
-) -> Region
-    requires { ⌜ Laid (now b) (now places) ⌝ }
-    ensures { λ e. ⌜ e .number ≡ siblings (decode (now (b .entry)) .regions)
-        (subtree (decode (now (b .entry)) .regions) levels) n (r .number) low high left ⌝ }
+) -> End
+    requires { ⌜ Laid (now b) (now places) × (1 ≤ r .number) ⌝ }
+    ensures { λ e. ⌜ e ≡ endAt (siblings (decode (now (b .entry)) .regions)
+        (subtree (decode (now (b .entry)) .regions) levels) n (r .number) low high left) ⌝ }
 {
     if n == 0 {
         if left != 0 {
-            return Region { number: 0 };
+            return End::Broken;
         }
-        return r;
+        return End::At(r);
     }
     if places.len() <= r.number as usize {
-        return Region { number: 0 };
+        return End::Broken;
     }
     let f = regions::fields(b, places, r);
     if !child_fits(f, low, high, left) {
-        return Region { number: 0 };
+        return End::Broken;
     }
-    let next = subtree_end(b, places, levels, r);
-    if next.number == 0 {
-        return next;
-    }
+    let end = subtree_end(b, places, levels, r);
+    let End::At(next) = end else {
+        return End::Broken;
+    };
     siblings_end(
         b,
         places,
@@ -105,8 +112,11 @@ pub fn keeps_shape(b: &[u8], places: &[usize]) -> bool
     ensures { λ r. ⌜ r ≡ shaped (decode (now (b .entry))) ⌝ }
 {
     let root = Region { number: 0 };
-    let e = subtree_end(b, places, 8, root);
-    if e.number as usize != places.len() {
+    let end = subtree_end(b, places, 8, root);
+    let End::At(next) = end else {
+        return false;
+    };
+    if next.number as usize != places.len() {
         return false;
     }
     let f = regions::fields(b, places, root);

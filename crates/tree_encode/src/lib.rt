@@ -1,4 +1,5 @@
 // Writers of a tree book's parts. What a whole tree's bytes are, and that they read back, is in specs/ and proofs/.
+use book::Junction;
 use tree_layout::Fields;
 use tree_layout::Header;
 use tree_layout::Span;
@@ -40,29 +41,30 @@ pub fn put_fields(tree: &mut [u8], f: Fields)
 }
 
 // Writes the junction of a leaf's landmark at a place. Its list comes after it.
-pub fn put_leaf_mark_junction(tree: &mut [u8], at: usize, l: u16)
+pub fn put_leaf_mark_junction(tree: &mut [u8], at: usize, l: Junction)
     requires { ⌜ at + junctionSize ≤ length (now tree) ⌝ }
-    ensures { λ _. ⌜ now (tree .exit) ≡ write (now (tree .entry)) at (u16Bytes l) ⌝ }
+    ensures { λ _. ⌜ now (tree .exit) ≡ write (now (tree .entry)) at (u16Bytes (l .number)) ⌝ }
 {
-    book::put_u16(tree, at, l);
+    book::put_u16(tree, at, l.number);
 }
 
 // Writes an inner region's landmark at a place: its junction, and the least and the greatest distance to its yards.
-pub fn put_span(tree: &mut [u8], at: usize, l: u16, s: Span)
+pub fn put_span(tree: &mut [u8], at: usize, l: Junction, s: Span)
     requires { ⌜ at + innerMarkSize ≤ length (now tree) ⌝ }
     ensures { λ _. ⌜ now (tree .exit) ≡ write (now (tree .entry)) at
-        (encodeInnerMark (innerMark l (s .least) (s .greatest))) ⌝ }
+        (encodeInnerMark (innerMark (l .number) (s .least) (s .greatest))) ⌝ }
 {
-    book::put_u16(tree, at, l);
+    book::put_u16(tree, at, l.number);
     book::put_u32(tree, at + 2, s.least);
     book::put_u32(tree, at + 6, s.greatest);
 }
 
 // Writes an element of a leaf's list at a place: its distance and its yard.
-pub fn put_element(tree: &mut [u8], at: usize, distance: u32, yard: u16)
+pub fn put_element(tree: &mut [u8], at: usize, distance: u32, yard: Junction)
     requires { ⌜ at + elementSize ≤ length (now tree) ⌝ }
-    ensures { λ _. ⌜ now (tree .exit) ≡ write (now (tree .entry)) at (encodeElement (element distance yard)) ⌝ }
+    ensures { λ _. ⌜ now (tree .exit)
+        ≡ write (now (tree .entry)) at (encodeElement (element distance (yard .number))) ⌝ }
 {
     book::put_u32(tree, at, distance);
-    book::put_u16(tree, at + 4, yard);
+    book::put_u16(tree, at + 4, yard.number);
 }

@@ -32,9 +32,9 @@ module _ (p : List ℕ) (k : ℕ) (x : Listed) (e : x ≡ listedAt p k) where
   unfolding elementAt
   listed-distance = ap (λ (z : Listed). z .distance) e
 
-  pub listed-yard : x .yard ≡ elementAt p (elementSize * k) .yard
+  pub listed-yard : x .yard .number ≡ elementAt p (elementSize * k) .yard
   unfolding elementAt
-  listed-yard = ap (λ (z : Listed). z .yard) e
+  listed-yard = ap (λ (z : Listed). z .yard .number) e
 
 -- a list is as long as its elements
 pub part-length : (b : List ℕ) (n at : ℕ) → at + leafMarkSize n ≤ length b → length (listPart b n (at + junctionSize)) ≡ elementSize * n

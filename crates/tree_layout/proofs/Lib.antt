@@ -17,5 +17,6 @@ pub mod Rising
 pub mod MarkFields
 pub mod Numbered
 pub mod RecordFields
+pub mod RegionRecords
 pub mod Accessing
 pub mod FirstFailing

@@ -9,7 +9,7 @@ use Rattle.book.specs.Bytes.{u8At, u16At}
 use Rattle.tree_layout.specs.Values.{Element, leafMark, innerMark}
 use Rattle.tree_layout.specs.Decode.{elementAt, readList, listPart, readLists, readRegion, junctionCount, regionCount, treeYardCount, landmarkCount}
 use Rattle.tree_layout.specs.Refusal.{all}
-use Rattle.tree_layout.specs.Reading.{layoutNumber, headerOf}
+use Rattle.tree_layout.specs.Reading.{layoutCase, layoutNumber, headerOf}
 use Rattle.tree_layout.specs.declared.TreeBook.the-variants.{Refused}
 use Rattle.tree_layout.proofs.Formed.{marks-lists}
 
@@ -120,7 +120,7 @@ module _ (b : List ℕ) where
 -- ---- the reader's answer
 
 pub refused-answer : (why : ℕ) → layoutNumber (Refused why) ≡ why
-unfolding layoutNumber
+unfolding layoutCase layoutNumber
 refused-answer why = refl
 
 pub header-junctions : (b : List ℕ) → headerOf b .junctions ≡ junctionCount b

@@ -74,14 +74,14 @@ module _ (b : List ℕ) (at : ℕ) (r : RecordAt b at) where
 -- ---- its fields
 
 landmark : (place least greatest : ℕ) → Landmark
-landmark place least greatest = record { place = place; least = least; greatest = greatest }
+landmark place least greatest = record { place = record { number = place }; least = least; greatest = greatest }
 
 same-landmark : (u a z a′ z′ : ℕ) → a ≡ a′ → z ≡ z′ → landmark u a z ≡ landmark u a′ z′
 same-landmark u a z a′ z′ e f = rw (e, f) refl
 
 -- of a list of n pairs
 pub list-ends : (p : List ℕ) (u n a z : ℕ) → 1 ≤ n → a ≡ u32At p 0 → z ≡ u32At p (6 * (n - 1)) → (l : Landmark)
-    → l ≡ record { place = u; least = a; greatest = z } → l ≡ landmarkOf (leafMark u (readList p n 0))
+    → l ≡ record { place = record { number = u }; least = a; greatest = z } → l ≡ landmarkOf (leafMark u (readList p n 0))
 unfolding landmarkOf landmark
 list-ends p u zero a z h e f l g = absurd (omega arith)
 list-ends p u (suc n) a z h e f l g =
@@ -93,7 +93,7 @@ list-ends p u (suc n) a z h e f l g =
 
 -- of a span
 pub span-ends : (b : List ℕ) (at u a z : ℕ) → u ≡ u16At b at → a ≡ u32At b (at + 2) → z ≡ u32At b (at + 6) → (l : Landmark)
-    → l ≡ record { place = u; least = a; greatest = z }
+    → l ≡ record { place = record { number = u }; least = a; greatest = z }
     → l ≡ landmarkOf (innerMark (u16At b at) (u32At b (at + 2)) (u32At b (at + 6)))
 unfolding landmarkOf
 span-ends b at u a z eu ea ez l g = g ∙ rw (inner-is (u16At b at) (u32At b (at + 2)) (u32At b (at + 6)), eu, ea, ez) refl

@@ -6,11 +6,12 @@ use Prim.Native.Nat.{ℕ, zero, suc, _≤_}
 use native.Mathlib.Omega.{arith}
 use Rattle.book.specs.Choose.{refuse}
 use Rattle.book.specs.Bytes.{u8At, u16At}
+use Rattle.book.specs.Cases.{caseOf}
 use Rattle.book.specs.Open.{openRefusal}
 use Rattle.book.proofs.Choosing.{passes, fails, true-T, false-T, first-earlier, first-later}
 use Rattle.tree_layout.specs.Decode.{readRegions, decode, junctionCount, regionCount, treeYardCount, landmarkCount}
 use Rattle.tree_layout.specs.Refusal.{between, all, recordsOk, regionOk, valuesOk, treeLayoutRefusal}
-use Rattle.tree_layout.specs.Reading.{headerOf, treeBook}
+use Rattle.tree_layout.specs.Reading.{headerOf, headerValues, treeBook, layoutCase}
 use Rattle.tree_layout.specs.declared.Header.{Header}
 use Rattle.tree_layout.specs.declared.TreeBook.the-variants.{Laid, Refused}
 
@@ -141,6 +142,12 @@ refused-number zero h why e = let z : _≡_ {A = ℕ} 0 1 = cc in absurd (omega 
 refused-number (suc n) h why e =
     let q : suc n ≡ why = cc in
     (q, omega arith)
+
+-- an answer in the paper's numbers
+pub case-is : (n : ℕ) (h : Header) → layoutCase (treeBook n h) ≡ caseOf n (headerValues h)
+unfolding layoutCase treeBook
+case-is zero h = refl
+case-is (suc n) h = refl
 
 -- what a reader answers for the number that it found
 pub answers-refused : (b : List ℕ) (why : ℕ) → why ≡ treeLayoutRefusal b → (why ≡ 0 → ⊥) → Refused why ≡ treeBook (treeLayoutRefusal b) (headerOf b)

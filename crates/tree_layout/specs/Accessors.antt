@@ -22,4 +22,4 @@ spanAt b at = record { least = u32At b (at + 2); greatest = u32At b (at + 6) }
 
 -- element number k of a list
 abbrev pub listedAt : List ℕ → ℕ → Listed
-listedAt p k = record { distance = u32At p (6 * k); yard = u16At p (6 * k + 4) }
+listedAt p k = record { distance = u32At p (6 * k); yard = record { number = u16At p (6 * k + 4) } }

@@ -17,7 +17,7 @@ marksAt b at = readRegion b (landmarkCount b) at .marks
 
 -- a landmark as the code keeps it: its junction, least and greatest
 unfoldable pub landmarkOf : Mark → Landmark
-landmarkOf k = record { place = k .place; least = k .least; greatest = k .greatest }
+landmarkOf k = record { place = record { number = k .place }; least = k .least; greatest = k .greatest }
 
 -- a record at a place lies in the book, has at most four landmarks, at least one yard, and its landmarks are junctions
 pub record RecordAt (b : List ℕ) (at : ℕ) : Type 0 where

@@ -1,6 +1,7 @@
 -- Values of the numbers that the reader's functions are handed. Assumes nothing: these are definitions.
-use mathlib.Core.List.{List, []}
+use mathlib.Core.List.{List, [], _∷_}
 use Prim.Native.Nat.{ℕ, zero, suc}
+use Rattle.book.specs.Cases.{Case, accepted, refused}
 use Rattle.tree_layout.specs.Values.{Element, Region}
 use Rattle.tree_layout.specs.Decode.{junctionCount, regionCount, treeYardCount, landmarkCount}
 use Rattle.tree_layout.specs.declared.Header.{Header}
@@ -29,7 +30,15 @@ unfoldable pub treeBook : ℕ → Header → TreeBook
 treeBook zero h = Laid h
 treeBook (suc n) h = Refused (suc n)
 
+-- a header's counts, in the book's order
+abbrev pub headerValues : Header → List ℕ
+headerValues h = h .junctions ∷ h .regions ∷ h .yards ∷ h .landmarks ∷ []
+
+-- each case's number and values: the header's counts; "A refusal returns its number, with every other returned field 0"
+unfoldable pub layoutCase : TreeBook → Case
+layoutCase (Laid h) = accepted (headerValues h)
+layoutCase (Refused why) = refused why 4
+
 -- the number of an answer: "The number of an accepted call is 0."
 unfoldable pub layoutNumber : TreeBook → ℕ
-layoutNumber (Laid h) = 0
-layoutNumber (Refused why) = why
+layoutNumber o = layoutCase o .number

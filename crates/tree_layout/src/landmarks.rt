@@ -1,5 +1,6 @@
 // A region's landmarks, read from the tree book.
 use crate::Landmark;
+use book::Junction;
 ghost use mathlib.Core.Path.{_≡_};
 ghost use Prim.Native.Nat.{_+_, _*_, _≤_, _<_};
 ghost use lib.ListN.{length, getD};
@@ -29,12 +30,12 @@ pub fn mark_place(tree: &[u8], at: usize, j: usize) -> usize
 }
 
 // A leaf's landmark: "in a leaf, its list's first and last".
-fn of_list(place: u16, p: &[u8], n: usize) -> Landmark
+fn of_list(place: Junction, p: &[u8], n: usize) -> Landmark
     requires { ⌜ (1 ≤ n) × (6 * n ≤ length (now p)) ⌝ }
-    ensures { λ r. ⌜ r ≡ landmarkOf (leafMark place (readList (now (p .entry)) n 0)) ⌝ }
+    ensures { λ r. ⌜ r ≡ landmarkOf (leafMark (place .number) (readList (now (p .entry)) n 0)) ⌝ }
 {
     Landmark {
-        place: place,
+        place,
         least: book::u32_at(p, 0),
         greatest: book::u32_at(p, 6 * (n - 1)),
     }
@@ -46,8 +47,11 @@ fn of_span(tree: &[u8], at: usize) -> Landmark
     ensures { λ r. ⌜ r ≡ landmarkOf (innerMark (u16At (now (tree .entry)) at)
         (u32At (now (tree .entry)) (at + 2)) (u32At (now (tree .entry)) (at + 6))) ⌝ }
 {
+    let place = Junction {
+        number: book::u16_at(tree, at),
+    };
     Landmark {
-        place: book::u16_at(tree, at),
+        place,
         least: book::u32_at(tree, at + 2),
         greatest: book::u32_at(tree, at + 6),
     }
@@ -65,6 +69,8 @@ pub fn landmark(tree: &[u8], at: usize, j: usize) -> Landmark
     let yards = book::u16_at(tree, at + 5) as usize;
     let a = p + 2;
     let e = a + 6 * yards;
-    let place = book::u16_at(tree, p);
+    let place = Junction {
+        number: book::u16_at(tree, p),
+    };
     of_list(place, &tree[a..e], yards)
 }

@@ -2,6 +2,7 @@
 pub mod landmarks; // landmarks.rt: a region's landmarks
 pub mod records; // records.rt: where a tree book's fields stand
 
+use book::Junction;
 use book::Opened;
 ghost use mathlib.Core.Path.{_≡_};
 ghost use mathlib.Core.Bool.{true};
@@ -46,12 +47,12 @@ pub struct Span {
 // An element of a leaf's list: a yard and its distance from the landmark.
 pub struct Listed {
     pub distance: u32,
-    pub yard: u16,
+    pub yard: Junction,
 }
 
 // A region's landmark: its junction, and the least and the greatest distance from it to the region's yards.
 pub struct Landmark {
-    pub place: u16,
+    pub place: Junction,
     pub least: u32,
     pub greatest: u32,
 }
@@ -118,8 +119,8 @@ fn records_ok(b: &[u8], m: usize, n: usize) -> bool
 }
 
 // Whether the pair (distance, yard) comes after the pair (d, y).
-pub fn after(d: u32, y: u16, distance: u32, yard: u16) -> bool
-    ensures { λ r. ⌜ r ≡ comes (element d y) (element distance yard) ⌝ }
+fn after(d: u32, y: Junction, distance: u32, yard: Junction) -> bool
+    ensures { λ r. ⌜ r ≡ comes (element d (y .number)) (element distance (yard .number)) ⌝ }
 {
     if d < distance {
         return true;
@@ -127,7 +128,7 @@ pub fn after(d: u32, y: u16, distance: u32, yard: u16) -> bool
     if d != distance {
         return false;
     }
-    y < yard
+    y.number < yard.number
 }
 
 // Whether n pairs' distances are within their limit, and the pairs rise.
@@ -136,14 +137,18 @@ fn list_ok(p: &[u8], n: usize) -> bool
     ensures { λ r. ⌜ r ≡ listOk (readList (now (p .entry)) n 0) ⌝ }
 {
     let mut d = book::u32_at(p, 0);
-    let mut y = book::u16_at(p, 4);
+    let mut y = Junction {
+        number: book::u16_at(p, 4),
+    };
     if 67042305 < d {
         return false;
     }
     let mut k: usize = 1;
     while k < n {
         let distance = book::u32_at(p, 6 * k);
-        let yard = book::u16_at(p, 6 * k + 4);
+        let yard = Junction {
+            number: book::u16_at(p, 6 * k + 4),
+        };
         if 67042305 < distance {
             return false;
         }
@@ -288,10 +293,7 @@ pub fn layout(b: &[u8]) -> u8
 {
     let o = book::open(b, 7);
     let Opened::Body = o else {
-        let Opened::Refused(why) = o else {
-            return 0;
-        };
-        return why;
+        return book::number(o);
     };
     let junctions = book::u16_at(b, 5);
     let regions = book::u16_at(b, 7);

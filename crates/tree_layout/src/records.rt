@@ -105,8 +105,9 @@ pub fn element(p: &[u8], k: usize) -> Listed
     requires { ⌜ elementSize * k + elementSize ≤ length (now p) ⌝ }
     ensures { λ e. ⌜ e ≡ listedAt (now (p .entry)) k ⌝ }
 {
-    Listed {
-        distance: book::u32_at(p, 6 * k),
-        yard: book::u16_at(p, 6 * k + 4),
-    }
+    let distance = book::u32_at(p, 6 * k);
+    let yard = Junction {
+        number: book::u16_at(p, 6 * k + 4),
+    };
+    Listed { distance, yard }
 }

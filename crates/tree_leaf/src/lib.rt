@@ -35,14 +35,14 @@ fn fill_members(p: &[u8], f: Fields, members: &mut [bool]) -> bool
     let mut k = f.yards as usize;
     while k != 0 {
         k -= 1;
-        let e = records::element(p, k);
-        if e.yard < f.first {
+        let y = records::element(p, k).yard.number;
+        if y < f.first {
             return false;
         }
-        if f.after <= e.yard {
+        if f.after <= y {
             return false;
         }
-        let i = e.yard as usize;
+        let i = y as usize;
         if members[i] {
             return false;
         }
@@ -58,8 +58,7 @@ fn all_in(p: &[u8], n: usize, members: &[bool]) -> bool
 {
     let mut k: usize = 0;
     while k < n {
-        let e = records::element(p, k);
-        let i = e.yard as usize;
+        let i = records::element(p, k).yard.number as usize;
         if members.len() <= i {
             return false;
         }

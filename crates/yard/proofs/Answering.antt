@@ -1,10 +1,11 @@
 -- What the readers answer for the numbers that they found. Assumes nothing.
 use mathlib.Core.Path.{_≡_, refl, sym, ap, _∙_}
-use mathlib.Core.List.{List}
+use mathlib.Core.List.{List, [], _∷_}
 use Prim.Native.Nat.{ℕ, zero, suc, _-_, _≤_, _<_}
 use native.Mathlib.Omega.{arith}
 use lib.ListN.{getD}
-use Rattle.yard.specs.Yards.{yardCount, yardsOf, yardRefusal, yardRefusalIn, yardBook, yardNumber}
+use Rattle.book.specs.Cases.{caseOf}
+use Rattle.yard.specs.Yards.{yardCount, yardsOf, yardRefusal, yardRefusalIn, yardBook, yardCase, yardNumber}
 use Rattle.yard.specs.declared.YardBook.{YardBook}
 use Rattle.yard.specs.declared.YardBook.the-variants.{Yards, Refused}
 use Rattle.yard.proofs.YardLayout.{last-inside, last-outside, own-tests, outside, within}
@@ -35,9 +36,15 @@ refused-number (suc n) count why e =
 
 -- the number that an answer has
 pub number-is : (n count : ℕ) → yardNumber (yardBook n count) ≡ n
-unfolding yardNumber yardBook
+unfolding yardCase yardNumber yardBook
 number-is zero count = refl
 number-is (suc n) count = refl
+
+-- an answer in the paper's numbers
+pub case-is : (n count : ℕ) → yardCase (yardBook n count) ≡ caseOf n (count ∷ [])
+unfolding yardCase yardBook
+case-is zero count = refl
+case-is (suc n) count = refl
 
 -- what a reader answers for the number that it found
 pub answers-refused : (b : List ℕ) (why : ℕ) → why ≡ yardRefusal b → (why ≡ 0 → ⊥) → Refused why ≡ yardBook (yardRefusal b) (yardCount b)

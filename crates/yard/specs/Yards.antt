@@ -9,6 +9,7 @@ use lib.Dec.{leb, ltb, eqb}
 use Rattle.book.specs.Choose.{refuse, firstOf}
 use Rattle.book.specs.Bytes.{u16At}
 use Rattle.book.specs.Open.{Opens, openRefusal}
+use Rattle.book.specs.Cases.{Case, accepted, refused}
 use Rattle.yard.specs.declared.YardBook.{YardBook}
 use Rattle.yard.specs.declared.YardBook.the-variants.{Yards, Refused}
 
@@ -70,10 +71,14 @@ unfoldable pub yardBook : ℕ → ℕ → YardBook
 yardBook zero count = Yards count
 yardBook (suc n) count = Refused (suc n)
 
+-- each case's number and value: the count of yards; "A refusal returns its number, with every other returned field 0"
+unfoldable pub yardCase : YardBook → Case
+yardCase (Yards count) = accepted (count ∷ [])
+yardCase (Refused why) = refused why 1
+
 -- the number of an answer: "The number of an accepted call is 0."
 unfoldable pub yardNumber : YardBook → ℕ
-yardNumber (Yards count) = 0
-yardNumber (Refused why) = why
+yardNumber o = yardCase o .number
 
 -- a yard book that no test turns back, sentence by sentence
 pub record YardLayout (b : List ℕ) : Type 0 where

@@ -50,10 +50,7 @@ fn refusal(b: &[u8]) -> u8
 {
     let o = book::open(b, 2);
     let Opened::Body = o else {
-        let Opened::Refused(why) = o else {
-            return 0;
-        };
-        return why;
+        return book::number(o);
     };
     let count = book::u16_at(b, 5) as usize;
     if count < 1 {

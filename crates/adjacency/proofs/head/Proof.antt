@@ -4,6 +4,9 @@ use Rattle.adjacency.specs.Adjacency.{headAt}
 use Rattle.adjacency.proofs.head.Statement.{statement}
 use Rattle.adjacency.proofs.head.Tie as tie
 
+cast-result : tie.Need-cast-result
+cast-result c = search needs
+
 add-result : tie.Need-add-result
 add-result c = search needs
 
@@ -18,4 +21,9 @@ unfolding headAt
 returns c = refl
 
 pub head-spec : {M : Type 1} → statement M
-head-spec = tie.close (tie.spec add-result mul-result shared-slice-read-result returns)
+head-spec = tie.close (tie.spec
+    cast-result
+    add-result
+    mul-result
+    shared-slice-read-result
+    returns)

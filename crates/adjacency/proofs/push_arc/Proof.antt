@@ -12,6 +12,9 @@ mul-i c = search needs
 add-i : tie.Need-add-i
 add-i c = search needs
 
+cast-j : tie.Need-cast-j
+cast-j c = search needs
+
 add-j : tie.Need-add-j
 add-j c = search needs
 
@@ -64,6 +67,7 @@ push-arc-spec =
     (tie.spec
     mul-i
     add-i
+    cast-j
     add-j
     mul-adj
     slice-read-adj

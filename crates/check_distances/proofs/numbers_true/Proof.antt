@@ -13,8 +13,9 @@ use Rattle.tree_layout.specs.Refusal.{all}
 use Rattle.tree_layout.proofs.Accepting.{layout-facts}
 use Rattle.tree_layout.proofs.Places.{place-first}
 use Rattle.tree_layout.proofs.RecordFields.{fields-inside}
+use Rattle.tree_layout.proofs.RegionRecords.{layout-record}
 use Rattle.check_rules.specs.Truth.{trueBesideRegion, trueBeside}
-use Rattle.check_distances.proofs.Records.{header-counts, record-here, record-end, record-next, regions-on, regions-off, regions-done}
+use Rattle.check_distances.proofs.Records.{header-counts, record-end, record-next, regions-on, regions-off, regions-done}
 use Rattle.check_distances.proofs.Regions.{region-marked, region-held, tree-test}
 use Rattle.check_distances.proofs.numbers_true.Statement.{statement}
 use Rattle.check_distances.proofs.numbers_true.Tie as tie
@@ -76,7 +77,7 @@ size-at-requires c κs =
     let p = c .before .before .before .before .before .before .before .before .before .before .pre in
     let l = c .before .before in
     let h = l .before .before .before .before in
-    let r = record-here _ (p .regions) _ (number l) _ (l .before .loop .inv .1) in
+    let r = layout-record _ (layout-facts _ (p .regions)) _ (number l) _ (l .before .loop .inv .1) in
     (omega (arith, landmarks h, layout-facts _ (p .regions) .landmarks), fields-inside _ _ r)
 
 add-at : tie.Need-add-at Inv-loop μ-loop

@@ -1,4 +1,4 @@
-use Rattle.query.specs.Query.{queryNumber}
+use Rattle.query.specs.Query.{queryCase, queryNumber}
 use borrow.Author.Needs.{needs}
 use Rattle.query.proofs.number.Statement.{statement}
 use Rattle.query.proofs.number.Tie as tie
@@ -10,11 +10,11 @@ enum-known-o : tie.Need-enum-known-o
 enum-known-o c = search needs
 
 returns : tie.Need-returns
-unfolding queryNumber
+unfolding queryCase queryNumber
 returns c = search needs
 
 returns-2 : tie.Need-returns-2
-unfolding queryNumber
+unfolding queryCase queryNumber
 returns-2 c = search needs
 
 pub number-spec : {M : Type 1} → statement M

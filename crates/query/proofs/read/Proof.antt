@@ -17,22 +17,14 @@ open-requires c κs = search needs
 enum-told : tie.Need-enum-told
 enum-told c = search needs
 
-enum-known-o : tie.Need-enum-known-o
-enum-known-o c = search needs
-
-enum-known-o-2 : tie.Need-enum-known-o-2
-enum-known-o-2 c = search needs
-
 enum-told-2 : tie.Need-enum-told-2
 enum-told-2 c = search needs
 
-returns : tie.Need-returns
-returns c = search needs
+number-requires : tie.Need-number-requires
+number-requires c κs = search needs
 
-returns-2 : tie.Need-returns-2
-returns-2 c =
-    not-opened _ _ _ (sym (c .before .before .before .before .before .before .«open» .ensures) ∙ c .before .before .before .before .o .given .1
-    ∙ c .before .o2 .given .1)
+returns : tie.Need-returns
+returns c = not-opened _ _ _ _ _ (c .before .before .before .«open» .ensures) (c .before .enum-told2 .given .1) (c .number .ensures)
 
 header-requires : tie.Need-header-requires
 header-requires c κs = omega (arith, opens _ _ (body c) .headed)
@@ -40,11 +32,11 @@ header-requires c κs = omega (arith, opens _ _ (body c) .headed)
 refusal-requires : tie.Need-refusal-requires
 refusal-requires c κs = (body (c .before), c .header .ensures)
 
-returns-3 : tie.Need-returns-3
-returns-3 c = answer-refused _ _ _ (c .before .refusal .ensures) (c .if1 .taken)
+returns-2 : tie.Need-returns-2
+returns-2 c = answer-refused _ _ _ (c .before .refusal .ensures) (c .if1 .taken)
 
-returns-4 : tie.Need-returns-4
-returns-4 c = answer-asked _ _ _ _ (c .before .refusal .ensures) (c .if1 .left) (c .before .before .header .ensures)
+returns-3 : tie.Need-returns-3
+returns-3 c = answer-asked _ _ _ _ (c .before .refusal .ensures) (c .if1 .left) (c .before .before .header .ensures)
 
 pub read-spec : {M : Type 1} → statement M
 read-spec =
@@ -52,12 +44,10 @@ read-spec =
     (tie.spec
     open-requires
     enum-told
-    enum-known-o
-    enum-known-o-2
     enum-told-2
+    number-requires
     returns
-    returns-2
     header-requires
     refusal-requires
-    returns-3
-    returns-4)
+    returns-2
+    returns-3)

@@ -1,4 +1,4 @@
-use Rattle.road_layout.specs.Layout.{roadNumber}
+use Rattle.road_layout.specs.Layout.{roadCase, roadNumber}
 use borrow.Author.Needs.{needs}
 use Rattle.road_layout.proofs.number.Statement.{statement}
 use Rattle.road_layout.proofs.number.Tie as tie
@@ -10,11 +10,11 @@ enum-known-o : tie.Need-enum-known-o
 enum-known-o c = search needs
 
 returns : tie.Need-returns
-unfolding roadNumber
+unfolding roadCase roadNumber
 returns c = search needs
 
 returns-2 : tie.Need-returns-2
-unfolding roadNumber
+unfolding roadCase roadNumber
 returns-2 c = search needs
 
 pub number-spec : {M : Type 1} → statement M

@@ -18,22 +18,14 @@ open-requires c κs = search needs
 enum-told : tie.Need-enum-told
 enum-told c = search needs
 
-enum-known-o : tie.Need-enum-known-o
-enum-known-o c = search needs
-
-enum-known-o-2 : tie.Need-enum-known-o-2
-enum-known-o-2 c = search needs
-
 enum-told-2 : tie.Need-enum-told-2
 enum-told-2 c = search needs
 
-returns : tie.Need-returns
-returns c = search needs
+number-requires : tie.Need-number-requires
+number-requires c κs = search needs
 
-returns-2 : tie.Need-returns-2
-returns-2 c =
-    let o = c .before .before .before .before in
-    unopened _ _ (sym (o .before .before .«open» .ensures) ∙ o .o .given .1 ∙ c .before .o2 .given .1)
+returns : tie.Need-returns
+returns c = unopened _ _ _ _ (c .before .before .before .«open» .ensures) (c .before .enum-told2 .given .1) (c .number .ensures)
 
 junction-count-requires : tie.Need-junction-count-requires
 junction-count-requires c κs = omega (arith, opens _ _ (body c) .headed)
@@ -41,22 +33,22 @@ junction-count-requires c κs = omega (arith, opens _ _ (body c) .headed)
 road-count-requires : tie.Need-road-count-requires
 road-count-requires c κs = omega (arith, opens _ _ (body (c .before)) .headed)
 
-returns-3 : tie.Need-returns-3
-returns-3 c =
+returns-2 : tie.Need-returns-2
+returns-2 c =
     let o = body (c .before .before .before) in
     let n = c .before .before .junction-count .ensures in
     let r = c .before .road-count .ensures in
     refused _ o _ _ n r 3 (no-junction _ o _ _ n r (c .if1 .taken)) (omega arith)
 
-returns-4 : tie.Need-returns-4
-returns-4 c =
+returns-3 : tie.Need-returns-3
+returns-3 c =
     let o = body (c .before .before .before .before) in
     let n = c .before .before .before .junction-count .ensures in
     let r = c .before .before .road-count .ensures in
     refused _ o _ _ n r 3 (many-junctions _ o _ _ n r (omega arith) (omega (arith, c .if2 .taken))) (omega arith)
 
-returns-5 : tie.Need-returns-5
-returns-5 c =
+returns-4 : tie.Need-returns-4
+returns-4 c =
     let o = body (c .before .before .before .before .before) in
     let n = c .before .before .before .before .junction-count .ensures in
     let r = c .before .before .before .road-count .ensures in
@@ -71,8 +63,8 @@ mul-if4 c = search needs
 add-if4 : tie.Need-add-if4
 add-if4 c = search needs
 
-returns-6 : tie.Need-returns-6
-returns-6 c =
+returns-5 : tie.Need-returns-5
+returns-5 c =
     let o = body (c .before .before .before .before .before .before) in
     let n = c .before .before .before .before .before .junction-count .ensures in
     let r = c .before .before .before .before .road-count .ensures in
@@ -81,16 +73,16 @@ returns-6 c =
 roads-ok-requires : tie.Need-roads-ok-requires
 roads-ok-requires c κs = search needs
 
-returns-7 : tie.Need-returns-7
-returns-7 c =
+returns-6 : tie.Need-returns-6
+returns-6 c =
     let o = body (c .before .before .before .before .before .before .before .before) in
     let n = c .before .before .before .before .before .before .before .junction-count .ensures in
     let r = c .before .before .before .before .before .before .road-count .ensures in
     let v = sym (c .before .roads-ok .ensures) ∙ not-true _ (c .if5 .taken) in
     refused _ o _ _ n r 5 (wrong _ o _ _ n r (omega arith) (omega arith) (omega arith) (omega arith) v) (omega arith)
 
-returns-8 : tie.Need-returns-8
-returns-8 c =
+returns-7 : tie.Need-returns-7
+returns-7 c =
     let o = body (c .before .before .before .before .before .before .before .before) in
     let n = c .before .before .before .before .before .before .before .junction-count .ensures in
     let r = c .before .before .before .before .before .before .road-count .ensures in
@@ -103,20 +95,18 @@ read-spec =
     (tie.spec
     open-requires
     enum-told
-    enum-known-o
-    enum-known-o-2
     enum-told-2
+    number-requires
     returns
-    returns-2
     junction-count-requires
     road-count-requires
+    returns-2
     returns-3
     returns-4
-    returns-5
     cast-count
     mul-if4
     add-if4
-    returns-6
+    returns-5
     roads-ok-requires
-    returns-7
-    returns-8)
+    returns-6
+    returns-7)

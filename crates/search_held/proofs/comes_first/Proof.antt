@@ -10,7 +10,7 @@ returns-2 : tie.Need-returns-2
 returns-2 c = simp (first-is, le-ltb, ne-eqb, c .before .if1 .left, c .if2 .taken)
 
 returns-3 : tie.Need-returns-3
-returns-3 c = simp (first-is, le-ltb, eq-eqb _ _ (c .if2 .left), c .before .if1 .left)
+returns-3 c = simp (first-is, le-ltb, eq-eqb _ _ (c .before .before .if2 .left), c .before .before .before .if1 .left)
 
 pub comes-first-spec : {M : Type 1} → statement M
 comes-first-spec = tie.close (tie.spec returns returns-2 returns-3)

@@ -10,11 +10,11 @@ use Rattle.search_held.proofs.hold.Statement.{statement}
 use Rattle.search_held.proofs.hold.Tie as tie
 
 abbrev Inv-loop : tie.InvT-loop
-Inv-loop k yard distance n yards₀ distances₀ j₀ y₀ d₀ yards distances j y d = (n ≤ k) × (k ≤ 64)
-    × Carrying (element distance yard) (pairs yards₀ distances₀ n 0) n yards distances j y d
+Inv-loop k distance n yards₀ distances₀ j₀ y₀ d₀ yards distances j y d = (n ≤ k) × (k ≤ 64)
+    × Carrying (element d₀ y₀) (pairs yards₀ distances₀ n 0) n yards distances j y d
 
 abbrev μ-loop : tie.MeasureT-loop
-μ-loop k yard distance n yards₀ distances₀ j₀ y₀ d₀ yards distances j y d = n - j
+μ-loop k distance n yards₀ distances₀ j₀ y₀ d₀ yards distances j y d = n - j
 
 slice-aggregate-place : tie.Need-slice-aggregate-place Inv-loop μ-loop
 slice-aggregate-place c = search needs

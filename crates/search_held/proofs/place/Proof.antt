@@ -9,7 +9,7 @@ use Rattle.search_held.proofs.place.Statement.{statement}
 use Rattle.search_held.proofs.place.Tie as tie
 
 abbrev Inv-loop : tie.InvT-loop
-Inv-loop yards distances n yard distance j₀ j = (j ≤ n) × Seen (element distance yard) yards distances n j
+Inv-loop yards distances n yard distance j₀ j = (j ≤ n) × Seen (element distance (yard .number)) yards distances n j
 
 abbrev μ-loop : tie.MeasureT-loop
 μ-loop yards distances n yard distance j₀ j = n - j
@@ -17,20 +17,20 @@ abbrev μ-loop : tie.MeasureT-loop
 loop-holds : tie.Need-loop-holds Inv-loop μ-loop
 loop-holds c = (omega arith, seen-none _ _ _ _)
 
+mul-t9 : tie.Need-mul-t9 Inv-loop μ-loop
+mul-t9 c = search needs
+
+shared-slice-read-t11 : tie.Need-shared-slice-read-t11 Inv-loop μ-loop
+shared-slice-read-t11 c = search needs
+
 mul-comes-first : tie.Need-mul-comes-first Inv-loop μ-loop
 mul-comes-first c = search needs
 
 shared-slice-read-comes-first : tie.Need-shared-slice-read-comes-first Inv-loop μ-loop
 shared-slice-read-comes-first c = search needs
 
-mul-comes-first-2 : tie.Need-mul-comes-first-2 Inv-loop μ-loop
-mul-comes-first-2 c = search needs
-
-shared-slice-read-comes-first-2 : tie.Need-shared-slice-read-comes-first-2 Inv-loop μ-loop
-shared-slice-read-comes-first-2 c = search needs
-
-after-requires : tie.Need-comes-first-requires Inv-loop μ-loop
-after-requires c κs = search needs
+comes-first-requires : tie.Need-comes-first-requires Inv-loop μ-loop
+comes-first-requires c κs = search needs
 
 returns : tie.Need-returns Inv-loop μ-loop
 returns c = seen-here _ _ _ _ (c .before .before .before .before .before .loop .j) (omega arith) (c .before .before .before .before .before .loop .inv .1) (sym
@@ -59,11 +59,11 @@ place-spec =
     Inv-loop
     μ-loop
     loop-holds
+    mul-t9
+    shared-slice-read-t11
     mul-comes-first
     shared-slice-read-comes-first
-    mul-comes-first-2
-    shared-slice-read-comes-first-2
-    after-requires
+    comes-first-requires
     returns
     add-j
     loop-less

@@ -1,4 +1,4 @@
-use Rattle.tree.specs.Answer.{treeNumber}
+use Rattle.tree.specs.Answer.{treeCase, treeNumber}
 use borrow.Author.Needs.{needs}
 use Rattle.tree.proofs.number.Statement.{statement}
 use Rattle.tree.proofs.number.Tie as tie
@@ -10,11 +10,11 @@ enum-known-o : tie.Need-enum-known-o
 enum-known-o c = search needs
 
 returns : tie.Need-returns
-unfolding treeNumber
+unfolding treeCase treeNumber
 returns c = search needs
 
 returns-2 : tie.Need-returns-2
-unfolding treeNumber
+unfolding treeCase treeNumber
 returns-2 c = search needs
 
 pub number-spec : {M : Type 1} → statement M

@@ -13,7 +13,7 @@ returns-2 c = simp (le-ltb, ne-eqb, c .before .if1 .left, c .if2 .taken)
 
 returns-3 : tie.Need-returns-3
 unfolding comes
-returns-3 c = simp (le-ltb, eq-eqb _ _ (c .if2 .left), c .before .if1 .left)
+returns-3 c = simp (le-ltb, eq-eqb _ _ (c .before .before .if2 .left), c .before .before .before .if1 .left)
 
 pub after-spec : {M : Type 1} → statement M
 after-spec = tie.close (tie.spec returns returns-2 returns-3)

@@ -6,7 +6,7 @@ use borrow.Author.Tests.{not-true, not-false}
 use lib.ListN.{length}
 use Rattle.book.specs.Open.{openRefusal}
 use Rattle.book.proofs.Choosing.{true-T}
-use Rattle.book.proofs.Opening.{opened-body, opened-refused, opens}
+use Rattle.book.proofs.Opening.{opened-body, number-why, opens}
 use Rattle.tree_layout.specs.Decode.{junctionCount, regionCount, treeYardCount, landmarkCount}
 use Rattle.tree_layout.specs.Refusal.{between, recordsOk}
 use Rattle.tree_layout.proofs.Tests.{between-both}
@@ -69,22 +69,15 @@ open-requires c κs = search needs
 enum-told : tie.Need-enum-told
 enum-told c = search needs
 
-enum-known-o : tie.Need-enum-known-o
-enum-known-o c = search needs
-
-enum-known-o-2 : tie.Need-enum-known-o-2
-enum-known-o-2 c = search needs
-
 enum-told-2 : tie.Need-enum-told-2
 enum-told-2 c = search needs
 
-returns : tie.Need-returns
-returns c = search needs
+number-requires : tie.Need-number-requires
+number-requires c κs = search needs
 
-returns-2 : tie.Need-returns-2
-returns-2 c =
-    let o = c .before .before .before .before in
-    let q = opened-refused _ _ (sym (o .before .before .«open» .ensures) ∙ o .o .given .1 ∙ c .before .o2 .given .1) in
+returns : tie.Need-returns
+returns c =
+    let q = number-why _ _ _ _ (c .before .before .before .«open» .ensures) (c .before .enum-told2 .given .1) (c .number .ensures) in
     sym (unopened _ _ (q .0) (q .1))
 
 u16-at-requires : tie.Need-u16-at-requires
@@ -102,15 +95,15 @@ cast-landmarks c = search needs
 within-requires : tie.Need-within-requires
 within-requires c κs = search needs
 
-returns-3 : tie.Need-returns-3
-returns-3 c = sym (junctions-out _ (body (c .before .before .before .before .before))
+returns-2 : tie.Need-returns-2
+returns-2 c = sym (junctions-out _ (body (c .before .before .before .before .before))
     (limit _ _ _ _ _ _ (c .before .within .ensures) (c .before .before .before .before .u16-at .ensures ∙ junctions-read _) (not-true _ (c .if1 .taken))))
 
 within-requires-2 : tie.Need-within-requires-2
 within-requires-2 c κs = search needs
 
-returns-4 : tie.Need-returns-4
-returns-4 c = sym (regions-out _ (body (c .before .before .before .before .before .before .before)) (junctions-in (c .before .before))
+returns-3 : tie.Need-returns-3
+returns-3 c = sym (regions-out _ (body (c .before .before .before .before .before .before .before)) (junctions-in (c .before .before))
     (limit _ _ _ _ _ _ (c .before .within2 .ensures) (c .before .before .before .before .before .u16-at2 .ensures
     ∙ regions-read _) (not-true _ (c .if2 .taken))))
 
@@ -120,8 +113,8 @@ u16-at-requires-3 c κs = omega (arith, whole (c .before .before .before .before
 within-requires-3 : tie.Need-within-requires-3
 within-requires-3 c κs = search needs
 
-returns-5 : tie.Need-returns-5
-returns-5 c =
+returns-4 : tie.Need-returns-4
+returns-4 c =
     let p = c .before .before .before in
     sym (yards-out _ (body (p .before .before .before .before .before .before .before)) (junctions-in (p .before .before)) (regions-in p)
     (limit _ _ _ _ _ _ (c .before .within3 .ensures) (c .before .before .u16-at3 .ensures ∙ yards-read _) (not-true _ (c .if3 .taken))))
@@ -129,8 +122,8 @@ returns-5 c =
 within-requires-4 : tie.Need-within-requires-4
 within-requires-4 c κs = search needs
 
-returns-6 : tie.Need-returns-6
-returns-6 c =
+returns-5 : tie.Need-returns-5
+returns-5 c =
     let q = c .before .before in
     let p = q .before .before .before in
     sym (landmarks-out _ (body (p .before .before .before .before .before .before .before)) (junctions-in (p .before .before)) (regions-in p) (yards-in q)
@@ -147,8 +140,8 @@ records-ok-requires : tie.Need-records-ok-requires
 records-ok-requires c κs =
     (omega (arith, few c), whole (c .before .before .before .before .before .before .before .before .before .before .before .before))
 
-returns-7 : tie.Need-returns-7
-returns-7 c =
+returns-6 : tie.Need-returns-6
+returns-6 c =
     let s = c .before .before in
     let q = s .before .before in
     let p = q .before .before .before in
@@ -162,8 +155,8 @@ values-ok-requires : tie.Need-values-ok-requires
 values-ok-requires c κs =
     (omega (arith, few (c .before .before)), sym (c .before .records-ok .ensures) ∙ not-false _ (c .if5 .left))
 
-returns-8 : tie.Need-returns-8
-returns-8 c =
+returns-7 : tie.Need-returns-7
+returns-7 c =
     let t = c .before .before in
     let s = t .before .before in
     let q = s .before .before in
@@ -176,8 +169,8 @@ returns-8 c =
     _ (s .before .before .before .before .before .before .before .before .before .before .before .u16-at .ensures
     ∙ junctions-read _) (c .before .values-ok .ensures)))
 
-returns-9 : tie.Need-returns-9
-returns-9 c =
+returns-8 : tie.Need-returns-8
+returns-8 c =
     let t = c .before .before in
     let s = t .before .before in
     let q = s .before .before in
@@ -196,28 +189,26 @@ layout-spec =
     (tie.spec
     open-requires
     enum-told
-    enum-known-o
-    enum-known-o-2
     enum-told-2
+    number-requires
     returns
-    returns-2
     u16-at-requires
     u16-at-requires-2
     u8-at-requires
     cast-landmarks
     within-requires
-    returns-3
+    returns-2
     within-requires-2
-    returns-4
+    returns-3
     u16-at-requires-3
     within-requires-3
-    returns-5
+    returns-4
     within-requires-4
-    returns-6
+    returns-5
     cast-m
     cast-n
     records-ok-requires
-    returns-7
+    returns-6
     values-ok-requires
-    returns-8
-    returns-9)
+    returns-7
+    returns-8)

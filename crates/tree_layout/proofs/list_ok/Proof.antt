@@ -11,7 +11,7 @@ use Rattle.tree_layout.proofs.list_ok.Statement.{statement}
 use Rattle.tree_layout.proofs.list_ok.Tie as tie
 
 abbrev Inv-loop : tie.InvT-loop
-Inv-loop p n d₀ y₀ k₀ d y k = (k ≤ n) × (listRest (element d y) (readList p (n - k) (6 * k)) ≡ listOk (readList p n 0))
+Inv-loop p n d₀ y₀ k₀ d y k = (k ≤ n) × (listRest (element d (y .number)) (readList p (n - k) (6 * k)) ≡ listOk (readList p n 0))
 
 abbrev μ-loop : tie.MeasureT-loop
 μ-loop p n d₀ y₀ k₀ d y k = n - k

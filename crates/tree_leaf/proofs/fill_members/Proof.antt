@@ -41,7 +41,7 @@ same-length c = search needs
 
 returns : tie.Need-returns Inv-loop μ-loop
 returns c =
-    let w = c .before .before .before in
+    let w = c .before .before in
     let l = w .before in
     let z : 1 ≤ l .before .loop .k = omega (arith, l .loop-test .taken) in
     failed _ _ _ _ _ (fails-low _ _ _ _ _ _ z (l .before .loop .inv .0) (listed-yard _ _ _ (w .element .ensures)) (omega (arith, c .if1 .taken)))
@@ -51,8 +51,8 @@ same-length-2 c = search needs
 
 returns-2 : tie.Need-returns-2 Inv-loop μ-loop
 returns-2 c =
-    let d = c .before .before .before in
-    let w = d .before .before .before in
+    let d = c .before .before in
+    let w = d .before .before in
     let l = w .before in
     let z : 1 ≤ l .before .loop .k = omega (arith, l .loop-test .taken) in
     failed _ _ _ _ _ (fails-high _ _ _ _ _ _ z (l .before .loop .inv .0) (listed-yard _ _ _ (w .element .ensures)) (omega (arith, d .if1 .left)) (omega
@@ -69,11 +69,12 @@ same-length-3 c = search needs
 
 returns-3 : tie.Need-returns-3 Inv-loop μ-loop
 returns-3 c =
-    let e = c .before .before .before in
-    let w = e .before .before .before .before .before .before in
+    let e = c .before .before in
+    let w = e .before .before .before .before in
     let l = w .before in
     let z : 1 ≤ l .before .loop .k = omega (arith, l .loop-test .taken) in
-    let v : w .element .result .yard < 1024 = omega (arith, e .if2 .left, l .before .before .before .before .before .before .before .before .before .pre .1) in
+    let p = l .before .before .before .before .before .before .before .before .before .pre in
+    let v : w .element .result .yard .number < 1024 = omega (arith, e .if2 .left, p .1) in
     failed _ _ _ _ _ (fails-twice _ _ _ _ _ _ z (l .before .loop .inv .0) (listed-yard _ _ _ (w .element .ensures)) _ (l .before .loop .inv .2) v
     (c .if3 .taken))
 
@@ -85,12 +86,12 @@ loop-less c = search needs
 
 loop-again : tie.Need-loop-again Inv-loop μ-loop
 loop-again c =
-    let e = c .before .before .before in
-    let d = e .before .before .before in
-    let w = d .before .before .before in
+    let e = c .before .before in
+    let d = e .before .before in
+    let w = d .before .before in
     let l = w .before in
     let z : 1 ≤ l .before .loop .k = omega (arith, l .loop-test .taken) in
-    let v : w .element .result .yard < 1024 = omega
+    let v : w .element .result .yard .number < 1024 = omega
     (arith, e .if2 .left, l .before .before .before .before .before .before .before .before .before .pre .1) in (
       omega arith,
       simp length-set (omega arith),

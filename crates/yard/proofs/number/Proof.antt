@@ -1,4 +1,4 @@
-use Rattle.yard.specs.Yards.{yardNumber}
+use Rattle.yard.specs.Yards.{yardCase, yardNumber}
 use borrow.Author.Needs.{needs}
 use Rattle.yard.proofs.number.Statement.{statement}
 use Rattle.yard.proofs.number.Tie as tie
@@ -10,11 +10,11 @@ enum-known-o : tie.Need-enum-known-o
 enum-known-o c = search needs
 
 returns : tie.Need-returns
-unfolding yardNumber
+unfolding yardCase yardNumber
 returns c = search needs
 
 returns-2 : tie.Need-returns-2
-unfolding yardNumber
+unfolding yardCase yardNumber
 returns-2 c = search needs
 
 pub number-spec : {M : Type 1} → statement M

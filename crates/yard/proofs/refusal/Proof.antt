@@ -2,7 +2,7 @@ use native.Mathlib.Omega.{arith}
 use mathlib.Core.Path.{_≡_, sym, _∙_}
 use borrow.Author.Tests.{not-true, not-false}
 use Rattle.book.specs.Open.{openRefusal}
-use Rattle.book.proofs.Opening.{opened-body, opened-refused, opens}
+use Rattle.book.proofs.Opening.{opened-body, number-why, opens}
 use Rattle.yard.proofs.Refusing.{unopened, none, many, unsized, unordered, sound}
 use borrow.Author.Needs.{needs}
 use Rattle.yard.proofs.refusal.Statement.{statement}
@@ -18,22 +18,15 @@ open-requires c κs = search needs
 enum-told : tie.Need-enum-told
 enum-told c = search needs
 
-enum-known-o : tie.Need-enum-known-o
-enum-known-o c = search needs
-
-enum-known-o-2 : tie.Need-enum-known-o-2
-enum-known-o-2 c = search needs
-
 enum-told-2 : tie.Need-enum-told-2
 enum-told-2 c = search needs
 
-returns : tie.Need-returns
-returns c = search needs
+number-requires : tie.Need-number-requires
+number-requires c κs = search needs
 
-returns-2 : tie.Need-returns-2
-returns-2 c =
-    let o = c .before .before .before .before in
-    let q = opened-refused _ _ (sym (o .before .before .«open» .ensures) ∙ o .o .given .1 ∙ c .before .o2 .given .1) in
+returns : tie.Need-returns
+returns c =
+    let q = number-why _ _ _ _ (c .before .before .before .«open» .ensures) (c .before .enum-told2 .given .1) (c .number .ensures) in
     sym (unopened _ _ (q .0) (q .1))
 
 u16-at-requires : tie.Need-u16-at-requires
@@ -42,13 +35,13 @@ u16-at-requires c κs = opens _ _ (body c) .headed
 cast-count : tie.Need-cast-count
 cast-count c = search needs
 
-returns-3 : tie.Need-returns-3
-returns-3 c =
+returns-2 : tie.Need-returns-2
+returns-2 c =
     let w = c .before in
     sym (none _ (body (w .before)) _ (w .u16-at .ensures) (omega (arith, c .if1 .taken)))
 
-returns-4 : tie.Need-returns-4
-returns-4 c =
+returns-3 : tie.Need-returns-3
+returns-3 c =
     let w = c .before .before in
     sym (many _ (body (w .before)) _ (w .u16-at .ensures) (omega (arith, c .before .if1 .left)) (omega (arith, c .if2 .taken)))
 
@@ -58,8 +51,8 @@ mul-if3 c = search needs
 add-if3 : tie.Need-add-if3
 add-if3 c = search needs
 
-returns-5 : tie.Need-returns-5
-returns-5 c =
+returns-4 : tie.Need-returns-4
+returns-4 c =
     let w = c .before .before .before in
     sym (unsized _ (body (w .before)) _ (w .u16-at .ensures) (omega (arith, c .before .before .if1 .left)) (omega (arith, c .before .if2 .left))
     (c .if3 .taken))
@@ -67,16 +60,16 @@ returns-5 c =
 yards-rise-requires : tie.Need-yards-rise-requires
 yards-rise-requires c κs = search needs
 
-returns-6 : tie.Need-returns-6
-returns-6 c =
+returns-5 : tie.Need-returns-5
+returns-5 c =
     let v = c .before .before in
     let w = v .before .before .before in
     sym (unordered _ (body (w .before)) _ (w .u16-at .ensures) (omega (arith, v .before .before .if1 .left)) (omega (arith, v .before .if2 .left))
     (v .if3 .left)
     (sym (c .before .yards-rise .ensures) ∙ not-true _ (c .if4 .taken)))
 
-returns-7 : tie.Need-returns-7
-returns-7 c =
+returns-6 : tie.Need-returns-6
+returns-6 c =
     let v = c .before .before in
     let w = v .before .before .before in
     sym (sound _ (body (w .before)) _ (w .u16-at .ensures) (omega (arith, v .before .before .if1 .left)) (omega (arith, v .before .if2 .left)) (v .if3 .left)
@@ -88,18 +81,16 @@ refusal-spec =
     (tie.spec
     open-requires
     enum-told
-    enum-known-o
-    enum-known-o-2
     enum-told-2
+    number-requires
     returns
-    returns-2
     u16-at-requires
     cast-count
+    returns-2
     returns-3
-    returns-4
     mul-if3
     add-if3
-    returns-5
+    returns-4
     yards-rise-requires
-    returns-6
-    returns-7)
+    returns-5
+    returns-6)

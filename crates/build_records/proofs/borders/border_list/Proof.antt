@@ -26,11 +26,11 @@ loop-holds c = λ road b. bordering-start _ _ _ _ (c .before .before .pre .2)
 add-loop : tie.Need-add-loop Inv-loop μ-loop
 add-loop c = omega (arith, c .before .before .before .pre .1)
 
+cast-number : tie.Need-cast-number Inv-loop μ-loop
+cast-number c = omega (arith, c .loop-test .taken, c .before .before .before .before .pre .1)
+
 is-border-requires : tie.Need-is-border-requires Inv-loop μ-loop
 is-border-requires c κs = let p = c .before .before .before .before .pre in (p .0, omega (arith, c .loop-test .taken, p .1), p .1)
-
-cast-list : tie.Need-cast-list Inv-loop μ-loop
-cast-list c = omega (arith, c .before .before .loop-test .taken, c .before .before .before .before .before .before .pre .1)
 
 mul-list : tie.Need-mul-list Inv-loop μ-loop
 mul-list c = omega (arith, known (c .before .before) .few, c .before .before .loop-test .taken, c .before .before .before .before .before .before .pre .1)
@@ -82,8 +82,8 @@ border-list-spec =
     μ-loop
     loop-holds
     add-loop
+    cast-number
     is-border-requires
-    cast-list
     mul-list
     slice-write-list
     add-n

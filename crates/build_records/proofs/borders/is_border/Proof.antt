@@ -45,29 +45,30 @@ cast-u : tie.Need-cast-u Inv-loop μ-loop
 cast-u c = search needs
 
 returns : tie.Need-returns Inv-loop μ-loop
-returns c = λ road a. sym (facts (c .before .before) road a .stop (border-low _ _ _ _ (c .before .to .ensures) (omega (arith, c .if1 .taken))))
+returns c = λ road a. sym (facts (c .before .before .before) road a .stop (border-low _ _ _ _ (c .before .before .to .ensures) (omega (arith, c .if1 .taken))))
 
 add-if2 : tie.Need-add-if2 Inv-loop μ-loop
-add-if2 c = omega (arith, c .before .before .before .before .before .before .pre .2)
+add-if2 c = omega (arith, c .before .before .before .before .before .before .before .pre .2)
 
 returns-2 : tie.Need-returns-2 Inv-loop μ-loop
 returns-2 c =
-    λ road a. sym (facts (c .before .before .before) road a .stop (border-high _ _ _ _ (c .before .before .to .ensures) (omega (arith, c .if2 .taken))))
+    λ road a. sym (facts (c .before .before .before .before) road a .stop (border-high _ _ _ _ (c .before .before .before .to .ensures)
+    (omega (arith, c .if2 .taken))))
 
 next-requires : tie.Need-next-requires Inv-loop μ-loop
 next-requires c κs = (
-  c .before .before .before .before .before .before .before .pre .0 .adjacent .size,
-  known (c .before .before .before) .some,
+  c .before .before .before .before .before .before .before .before .pre .0 .adjacent .size,
+  known (c .before .before .before .before) .some,
   known
-      (c .before .before .before) .inside,
+      (c .before .before .before .before) .inside,
 )
 
 loop-less : tie.Need-loop-less Inv-loop μ-loop
-loop-less c = omega (arith, known (c .before .before .before .before) .falls, c .next .ensures)
+loop-less c = omega (arith, known (c .before .before .before .before .before) .falls, c .next .ensures)
 
 loop-again : tie.Need-loop-again Inv-loop μ-loop
 loop-again c =
-    λ road a. border-on _ _ _ _ _ _ _ _ (facts (c .before .before .before .before) road a) (c .before .before .before .to .ensures)
+    λ road a. border-on _ _ _ _ _ _ _ _ (facts (c .before .before .before .before .before) road a) (c .before .before .before .before .to .ensures)
     (omega (arith, c .before .before .if1 .left)) (omega (arith, c .before .if2 .left)) (c .next .ensures)
 
 returns-3 : tie.Need-returns-3 Inv-loop μ-loop

@@ -7,17 +7,17 @@ use Rattle.build_records.proofs.Scanning.{landmark-from, landmark-at, p
 use Rattle.build_records.proofs.borders.landmark_of.Statement.{statement}
 use Rattle.build_records.proofs.borders.landmark_of.Tie as tie
 
-mul-result : tie.Need-mul-result
-mul-result c = let p = c .before .pre in let a = c .before .args in omega (arith, product-small (a .j) (a .m) (a .s) (p .1) (p .2) (omega (arith, p .3)))
+mul-number : tie.Need-mul-number
+mul-number c = let p = c .before .pre in let a = c .before .args in omega (arith, product-small (a .j) (a .m) (a .s) (p .1) (p .2) (omega (arith, p .3)))
 
-div-result : tie.Need-div-result
-div-result c = search needs
+div-number : tie.Need-div-number
+div-number c = search needs
 
-add-result : tie.Need-add-result
-add-result c = let p = c .before .pre in let a = c .before .args in omega (arith, share (a .j) (a .m) (a .s) (p .1) (p .4), p .3)
+add-number : tie.Need-add-number
+add-number c = let p = c .before .pre in let a = c .before .args in omega (arith, share (a .j) (a .m) (a .s) (p .1) (p .4), p .3)
 
-cast-result : tie.Need-cast-result
-cast-result c = let p = c .before .pre in let a = c .before .args in omega (arith, share (a .j) (a .m) (a .s) (p .1) (p .4), p .3)
+cast-number : tie.Need-cast-number
+cast-number c = let p = c .before .pre in let a = c .before .args in omega (arith, share (a .j) (a .m) (a .s) (p .1) (p .4), p .3)
 
 returns : tie.Need-returns
 returns c = landmark-from _ _ _ _ _ _ (c .if1 .taken) refl
@@ -28,12 +28,12 @@ mul-k c = let p = c .before .pre in let a = c .before .args in omega (arith, pro
 div-k : tie.Need-div-k
 div-k c = search needs
 
-mul-result-2 : tie.Need-mul-result-2
-mul-result-2 c =
+mul-number-2 : tie.Need-mul-number-2
+mul-number-2 c =
     let p = c .before .pre in let a = c .before .args in omega (arith, share (a .j) (a .m) (length (a .list .now)) (p .1) (omega (arith, c .if1 .left)), p .0)
 
-shared-slice-read-result : tie.Need-shared-slice-read-result
-shared-slice-read-result c =
+shared-slice-read-number : tie.Need-shared-slice-read-number
+shared-slice-read-number c =
     let p = c .before .before .pre in let a = c .before .before .args in omega (
       arith,
       share (a .j) (a .m) (length (a .list .now)) (p .1)
@@ -47,13 +47,13 @@ pub landmark-of-spec : {M : Type 1} → statement M
 landmark-of-spec =
     tie.close
     (tie.spec
-    mul-result
-    div-result
-    add-result
-    cast-result
+    mul-number
+    div-number
+    add-number
+    cast-number
     returns
     mul-k
     div-k
-    mul-result-2
-    shared-slice-read-result
+    mul-number-2
+    shared-slice-read-number
     returns-2)

@@ -20,7 +20,7 @@ use Rattle.check_distances.proofs.lists.lists_true.Tie as tie
 
 abbrev Inv-loop : tie.InvT-loop
 Inv-loop adj tree f m yards ds₀ last₀ j₀ ds last j =
-    (j ≤ m) × (length ds ≡ 1024) × (last < countIn adj → RowFrom adj ds last)
+    (j ≤ m) × (length ds ≡ 1024) × (last .number < countIn adj → RowFrom adj ds (last .number))
     × ((road : List ℕ) → Adjacency road adj → all (trueList (dist road)) (drop j (marksAt tree (f .at))) ≡ all (trueList (dist road)) (marksAt tree (f .at)))
 
 abbrev μ-loop : tie.MeasureT-loop

@@ -21,7 +21,7 @@ use Rattle.check_distances.proofs.spans.spans_true.Tie as tie
 
 abbrev Inv-loop : tie.InvT-loop
 Inv-loop adj yard tree f m ds₀ last₀ j₀ ds last j =
-    (j ≤ m) × (length ds ≡ 1024) × (last < countIn adj → RowFrom adj ds last)
+    (j ≤ m) × (length ds ≡ 1024) × (last .number < countIn adj → RowFrom adj ds (last .number))
     × ((road : List ℕ) → Adjacency road adj → all (trueSpan (dist road) (within (f .first) (f .after) (yardsOf yard))) (drop j (marksAt tree (f .at)))
     ≡ all (trueSpan (dist road) (within (f .first) (f .after) (yardsOf yard))) (marksAt tree (f .at)))
 
@@ -70,7 +70,7 @@ loop-less c = search needs
 
 loop-again : tie.Need-loop-again Inv-loop μ-loop
 loop-again c =
-    let w = c .before .before .before .before in
+    let w = c .before .before .before .before .before in
     let l = w .before .before .before in
     let p = l .before .before .before .before .before .pre in
     let i = l .before .loop .inv in (
@@ -78,7 +78,7 @@ loop-again c =
       w .walk-from .kept .1 .0 ∙ i .1,
       (λ h. w .walk-from .ensures),
       (λ road a. spans-on _ _ _ (p .0) _ (number l) _ (w .before .before .landmark .ensures) road _ _ a (p .2) _ (w .walk-from .ensures road a)
-          (c .before .span-true .ensures) (not-false _ (c .if1 .left)) ∙ i .3 road a),
+          (c .before .before .span-true .ensures) (not-false _ (c .before .if1 .left)) ∙ i .3 road a),
     )
 
 returns-2 : tie.Need-returns-2 Inv-loop μ-loop

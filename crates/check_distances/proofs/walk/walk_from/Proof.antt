@@ -5,7 +5,7 @@ use Rattle.check_distances.proofs.walk.walk_from.Tie as tie
 
 returns : tie.Need-returns
 returns c =
-    let p = c .before .before .before .pre in
+    let p = c .before .before .before .before .before .pre in
     already _ _ _ _ (c .if1 .taken) (p .2) (p .3)
 
 distances-requires : tie.Need-distances-requires

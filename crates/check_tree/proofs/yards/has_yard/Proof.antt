@@ -11,7 +11,7 @@ use Rattle.check_tree.proofs.yards.has_yard.Statement.{statement}
 use Rattle.check_tree.proofs.yards.has_yard.Tie as tie
 
 abbrev Inv-loop : tie.InvT-loop
-Inv-loop yard y n k₀ k = (k ≤ n) × (has (drop k (yardsOf yard)) y ≡ has (yardsOf yard) y)
+Inv-loop yard y n k₀ k = (k ≤ n) × (has (drop k (yardsOf yard)) (y .number) ≡ has (yardsOf yard) (y .number))
 
 abbrev μ-loop : tie.MeasureT-loop
 μ-loop yard y n k₀ k = n - k
@@ -41,8 +41,8 @@ yard-at-requires c κs = search needs
 
 returns : tie.Need-returns Inv-loop μ-loop
 returns c =
-    let l = c .before .before .before in
-    sym (has-found _ _ _ _ (left l) (c .before .before .yard-at .ensures) (c .if1 .taken)) ∙ l .before .loop .inv .1
+    let l = c .before .before .before .before in
+    sym (has-found _ _ _ _ (left l) (c .before .before .before .yard-at .ensures) (c .if1 .taken)) ∙ l .before .loop .inv .1
 
 add-k : tie.Need-add-k Inv-loop μ-loop
 add-k c = search needs
@@ -52,8 +52,8 @@ loop-less c = search needs
 
 loop-again : tie.Need-loop-again Inv-loop μ-loop
 loop-again c =
-    let l = c .before .before .before in
-    (omega arith, has-next _ _ _ _ (left l) (c .before .before .yard-at .ensures) (c .if1 .left) ∙ l .before .loop .inv .1)
+    let l = c .before .before .before .before in
+    (omega arith, has-next _ _ _ _ (left l) (c .before .before .before .yard-at .ensures) (c .if1 .left) ∙ l .before .loop .inv .1)
 
 returns-2 : tie.Need-returns-2 Inv-loop μ-loop
 returns-2 c = sym (has-none _ _ _ (done c)) ∙ c .before .loop .inv .1

@@ -10,7 +10,8 @@ use Rattle.tree_layout.specs.Refusal.{all}
 use Rattle.tree_layout.proofs.Accepting.{layout-facts}
 use Rattle.tree_layout.proofs.Places.{place-first}
 use Rattle.tree_layout.proofs.RecordFields.{fields-inside}
-use Rattle.check_distances.proofs.Records.{header-counts, record-here, record-end, record-next, regions-on, regions-off, regions-done}
+use Rattle.tree_layout.proofs.RegionRecords.{layout-record}
+use Rattle.check_distances.proofs.Records.{header-counts, record-end, record-next, regions-on, regions-off, regions-done}
 use Rattle.check_tree.specs.Known.{knownRegion, knownTree}
 use Rattle.check_tree.proofs.Knowing.{tree-known}
 use Rattle.check_tree.proofs.yards.yards_known.Statement.{statement}
@@ -53,7 +54,7 @@ loop-holds c = (omega arith, sym (place-first _), tree-known _ _)
 region-known-requires : tie.Need-region-known-requires Inv-loop μ-loop
 region-known-requires c κs =
     let p = c .before .before .before .before .before .before .before .pre in
-    (p .0, record-here _ (p .1) _ (number c) _ (c .before .loop .inv .1))
+    (p .0, layout-record _ (layout-facts _ (p .1)) _ (number c) _ (c .before .loop .inv .1))
 
 returns : tie.Need-returns Inv-loop μ-loop
 returns c =
@@ -66,7 +67,7 @@ size-at-requires : tie.Need-size-at-requires Inv-loop μ-loop
 size-at-requires c κs =
     let l = c .before .before in
     let p = l .before .before .before .before .before .before .before .pre in
-    let r = record-here _ (p .1) _ (number l) _ (l .before .loop .inv .1) in
+    let r = layout-record _ (layout-facts _ (p .1)) _ (number l) _ (l .before .loop .inv .1) in
     (omega (arith, landmarks (l .before .before .before .before), layout-facts _ (p .1) .landmarks), fields-inside _ _ r)
 
 add-at : tie.Need-add-at Inv-loop μ-loop

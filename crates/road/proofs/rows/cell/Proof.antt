@@ -6,6 +6,9 @@ use Rattle.road.proofs.rows.cell.Tie as tie
 mul-result : tie.Need-mul-result
 mul-result c = search needs
 
+cast-result : tie.Need-cast-result
+cast-result c = search needs
+
 add-result : tie.Need-add-result
 add-result c = search needs
 
@@ -20,4 +23,10 @@ returns c = cell-is _ _ _
 
 pub cell-spec : {M : Type 1} → statement M
 cell-spec =
-    tie.close (tie.spec mul-result add-result mul-result-2 shared-slice-read-result returns)
+    tie.close (tie.spec
+    mul-result
+    cast-result
+    add-result
+    mul-result-2
+    shared-slice-read-result
+    returns)

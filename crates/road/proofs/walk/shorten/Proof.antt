@@ -4,6 +4,9 @@ use Rattle.road.proofs.Shortening.{shortened, short-enough, word-falls}
 use Rattle.road.proofs.walk.shorten.Statement.{statement}
 use Rattle.road.proofs.walk.shorten.Tie as tie
 
+cast-i : tie.Need-cast-i
+cast-i c = search needs
+
 mul-if1 : tie.Need-mul-if1
 mul-if1 c = search needs
 
@@ -19,12 +22,15 @@ slice-write-row c = search needs
 mul-lower : tie.Need-mul-lower
 mul-lower c = search needs
 
+cast-lower : tie.Need-cast-lower
+cast-lower c = search needs
+
 add-lower : tie.Need-add-lower
 add-lower c = search needs
 
 lower-requires : tie.Need-lower-requires
 lower-requires c κs =
-    let p = c .before .before .before .before .before .pre in
+    let p = c .before .before .before .before .before .before .before .pre in
     (p .1, p .2, p .3 .tournament, word-falls _ _ _ _ (p .2) (p .0) (p .3) (omega arith))
 
 same-length : tie.Need-same-length
@@ -43,11 +49,13 @@ pub shorten-spec : {M : Type 1} → statement M
 shorten-spec =
     tie.close
     (tie.spec
+    cast-i
     mul-if1
     slice-read-if1
     mul-row
     slice-write-row
     mul-lower
+    cast-lower
     add-lower
     lower-requires
     same-length

@@ -10,7 +10,7 @@ use Rattle.search_bounds.proofs.picks.weight.Tie as tie
 
 abbrev Inv-loop : tie.InvT-loop
 Inv-loop table rows crews l x₀ j₀ x j =
-    Summed 0 (rowsLower table rows l) crews j x
+    Summed 0 (rowsLower table rows (l .number)) crews j x
 
 abbrev μ-loop : tie.MeasureT-loop
 μ-loop table rows crews l x₀ j₀ x j = length crews - j
@@ -18,11 +18,11 @@ abbrev μ-loop : tie.MeasureT-loop
 loop-holds : tie.Need-loop-holds Inv-loop μ-loop
 loop-holds c = summed-none _ _ _
 
-mul-lower : tie.Need-mul-lower Inv-loop μ-loop
-mul-lower c = search needs
+mul-t9 : tie.Need-mul-t9 Inv-loop μ-loop
+mul-t9 c = search needs
 
-shared-slice-read-lower : tie.Need-shared-slice-read-lower Inv-loop μ-loop
-shared-slice-read-lower c = search needs
+shared-slice-read-t12 : tie.Need-shared-slice-read-t12 Inv-loop μ-loop
+shared-slice-read-t12 c = search needs
 
 lower-requires : tie.Need-lower-requires Inv-loop μ-loop
 lower-requires c κs =
@@ -58,8 +58,8 @@ weight-spec =
     Inv-loop
     μ-loop
     loop-holds
-    mul-lower
-    shared-slice-read-lower
+    mul-t9
+    shared-slice-read-t12
     lower-requires
     cast-combine
     combine-requires

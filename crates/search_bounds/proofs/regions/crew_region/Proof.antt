@@ -10,7 +10,7 @@ use Rattle.search_bounds.proofs.regions.crew_region.Tie as tie
 
 abbrev Inv-loop : tie.InvT-loop
 Inv-loop tree at table rows q m x₀ j₀ x j =
-    Greatest (rowsMark table rows q) (marksAt tree at) j x
+    Greatest (rowsMark table rows (q .number)) (marksAt tree at) j x
 
 abbrev μ-loop : tie.MeasureT-loop
 μ-loop tree at table rows q m x₀ j₀ x j = m - j

@@ -19,11 +19,11 @@ abbrev μ-loop : tie.MeasureT-loop
 loop-holds : tie.Need-loop-holds Inv-loop μ-loop
 loop-holds c = summed-none _ _ _
 
-mul-crew-region : tie.Need-mul-crew-region Inv-loop μ-loop
-mul-crew-region c = search needs
+mul-t11 : tie.Need-mul-t11 Inv-loop μ-loop
+mul-t11 c = search needs
 
-shared-slice-read-crew-region : tie.Need-shared-slice-read-crew-region Inv-loop μ-loop
-shared-slice-read-crew-region c = search needs
+shared-slice-read-t14 : tie.Need-shared-slice-read-t14 Inv-loop μ-loop
+shared-slice-read-t14 c = search needs
 
 crew-region-requires : tie.Need-crew-region-requires Inv-loop μ-loop
 crew-region-requires c κs =
@@ -59,8 +59,8 @@ record-bound-spec =
     Inv-loop
     μ-loop
     loop-holds
-    mul-crew-region
-    shared-slice-read-crew-region
+    mul-t11
+    shared-slice-read-t14
     crew-region-requires
     cast-combine
     combine-requires

@@ -9,7 +9,7 @@ use Rattle.search_bounds.proofs.rows.lower.Tie as tie
 
 abbrev Inv-loop : tie.InvT-loop
 Inv-loop table rows l q x₀ r₀ x r =
-    (r ≤ rows) × (x ≡ rowsLower table r l q)
+    (r ≤ rows) × (x ≡ rowsLower table r (l .number) (q .number))
 
 abbrev μ-loop : tie.MeasureT-loop
 μ-loop table rows l q x₀ r₀ x r = rows - r

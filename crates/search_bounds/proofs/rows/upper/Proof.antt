@@ -9,7 +9,7 @@ use Rattle.search_bounds.proofs.rows.upper.Tie as tie
 
 abbrev Inv-loop : tie.InvT-loop
 Inv-loop table rows l q x₀ r₀ x r =
-    (0 < r) × (r ≤ rows) × (x ≡ rowsUpper table r l q)
+    (0 < r) × (r ≤ rows) × (x ≡ rowsUpper table r (l .number) (q .number))
 
 abbrev μ-loop : tie.MeasureT-loop
 μ-loop table rows l q x₀ r₀ x r = rows - r

@@ -5,11 +5,11 @@ use borrow.Author.Needs.{needs}
 use Rattle.search_bounds.proofs.yards.crew_abs_diff.Statement.{statement}
 use Rattle.search_bounds.proofs.yards.crew_abs_diff.Tie as tie
 
-mul-lower : tie.Need-mul-lower
-mul-lower c = search needs
+mul-t10 : tie.Need-mul-t10
+mul-t10 c = search needs
 
-shared-slice-read-lower : tie.Need-shared-slice-read-lower
-shared-slice-read-lower c = search needs
+shared-slice-read-t12 : tie.Need-shared-slice-read-t12
+shared-slice-read-t12 c = search needs
 
 lower-requires : tie.Need-lower-requires
 lower-requires c κs = let s = c .before .before .before .before in (s .pre .0, s .pre .3, s .pre .1 .there _ (getD-mem _ (s .args .j) 0 (s .pre .4)))
@@ -33,8 +33,8 @@ pub crew-abs-diff-spec : {M : Type 1} → statement M
 crew-abs-diff-spec =
     tie.close
     (tie.spec
-    mul-lower
-    shared-slice-read-lower
+    mul-t10
+    shared-slice-read-t12
     lower-requires
     mul-abs-diff
     shared-slice-read-abs-diff

@@ -7,7 +7,7 @@ use Rattle.search_bounds.proofs.yards.yard_bound.Statement.{statement}
 use Rattle.search_bounds.proofs.yards.yard_bound.Tie as tie
 
 abbrev Inv-loop : tie.InvT-loop
-Inv-loop table rows crews out code yard distance total₀ j₀ total j = Bounding code table rows crews out yard distance j total
+Inv-loop table rows crews out code yard distance total₀ j₀ total j = Bounding code table rows crews out (yard .number) distance j total
 
 abbrev μ-loop : tie.MeasureT-loop
 μ-loop table rows crews out code yard distance total₀ j₀ total j = length crews - j

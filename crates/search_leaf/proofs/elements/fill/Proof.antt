@@ -24,16 +24,16 @@ element-requires : tie.Need-element-requires Inv-loop μ-loop
 element-requires c κs = omega (arith, c .loop-test .taken, c .before .before .before .before .before .before .before .before .pre .0)
 
 f-of-requires : tie.Need-f-of-requires Inv-loop μ-loop
-f-of-requires c κs = let s = c .before .before .before .before .before .before .before .before .before in omega (arith, s .pre .2 .few, s .pre .3)
+f-of-requires c κs = let s = c .before .before .before .before .before .before .before .before .before .before in omega (arith, s .pre .2 .few, s .pre .3)
 
 yard-bound-requires : tie.Need-yard-bound-requires Inv-loop μ-loop
 yard-bound-requires c κs =
-    let start = c .before .before .before .before .before .before .before .before .before .before in (
+    let start = c .before .before .before .before .before .before .before .before .before .before .before in (
       start .pre .1,
       start .pre .2,
       start .pre .3,
       omega
-          (arith, start .pre .5, yard-near _ _ _ _ _ (c .before .before .loop-test .taken) (c .before .element .ensures) (start .pre .4)),
+          (arith, start .pre .5, yard-near _ _ _ _ _ (c .before .before .before .loop-test .taken) (c .before .before .element .ensures) (start .pre .4)),
     )
 
 f-at-requires : tie.Need-f-at-requires Inv-loop μ-loop
@@ -47,7 +47,7 @@ mul-words c = search needs
 
 slice-write-words : tie.Need-slice-write-words Inv-loop μ-loop
 slice-write-words c =
-    let at-element = c .before .before .before .before in
+    let at-element = c .before .before .before .before .before in
     let start = at-element .before .before .before .before .before .before .before .before .before in
     omega (
       arith,
@@ -63,7 +63,7 @@ mul-words-2 c = search needs
 
 slice-write-words-2 : tie.Need-slice-write-words-2 Inv-loop μ-loop
 slice-write-words-2 c =
-    let at-element = c .before .before .before .before in
+    let at-element = c .before .before .before .before .before in
     let start = at-element .before .before .before .before .before .before .before .before .before in
     simp length-set (omega (
       arith,
@@ -83,8 +83,8 @@ loop-less c = search needs
 loop-again : tie.Need-loop-again Inv-loop μ-loop
 loop-again c =
     let at-f-of = c .before .before .before in
-    let at-loop = at-f-of .before .before .before in
-    filled-more _ _ _ _ _ _ _ _ _ (at-loop .loop .inv) (at-f-of .before .before .loop-test .taken) _ (at-f-of .before .element .ensures) _ _ _ _
+    let at-loop = at-f-of .before .before .before .before in
+    filled-more _ _ _ _ _ _ _ _ _ (at-loop .loop .inv) (at-f-of .before .before .before .loop-test .taken) _ (at-f-of .before .before .element .ensures) _ _ _ _
     (at-f-of .f-of .ensures) (c .before .before .yard-bound .ensures) (c .before .f-at .ensures) (c .bound-at .ensures)
 
 same-length : tie.Need-same-length Inv-loop μ-loop

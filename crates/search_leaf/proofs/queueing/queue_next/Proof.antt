@@ -31,14 +31,14 @@ mul-bound c = search needs
 
 slice-read-bound : tie.Need-slice-read-bound
 slice-read-bound c =
-    let at-next-element = c .before .before .before in
+    let at-next-element = c .before .before .before .before in
     let start = at-next-element .before .before .before .before .before .before in
     omega (
       arith,
       start .pre .3,
       c .before .bound-at .ensures,
       yard-near _ _ _ _ _
-          (next-inside _ _ _ _ _ (start .pre .0) (at-next-element .next-element .ensures .0)) (c .before .before .element .ensures) (start .pre .2),
+          (next-inside _ _ _ _ _ (start .pre .0) (at-next-element .next-element .ensures .0)) (c .before .before .before .element .ensures) (start .pre .2),
     )
 
 gone-at-requires : tie.Need-gone-at-requires
@@ -49,7 +49,7 @@ mul-words c = search needs
 
 slice-write-words : tie.Need-slice-write-words
 slice-write-words c =
-    let at-element = c .before .before .before in
+    let at-element = c .before .before .before .before in
     let start = at-element .before .before .before .before .before .before .before in
     omega (
       arith,
@@ -70,7 +70,7 @@ mul-words-2 c = search needs
 
 slice-write-words-2 : tie.Need-slice-write-words-2
 slice-write-words-2 c =
-    let at-element = c .before .before .before .before .before in
+    let at-element = c .before .before .before .before .before .before in
     let start = at-element .before .before .before .before .before .before .before in
     simp length-set (omega (
       arith,
@@ -94,7 +94,7 @@ mul-words-3 c = search needs
 
 slice-write-words-3 : tie.Need-slice-write-words-3
 slice-write-words-3 c =
-    let start = c .before .before .before .before .before .before .before .before .before .before .before .before .before .before .before .before in
+    let start = c .before .before .before .before .before .before .before .before .before .before .before .before .before .before .before .before .before in
     simp length-set (omega (arith, start .pre .3, start .pre .4))
 
 same-length : tie.Need-same-length
@@ -105,11 +105,11 @@ returns c =
     let at-next-element2 = c .before .before in
     let at-key-at = at-next-element2 .before .before .before in
     let at-bound-at = at-key-at .before .before .before in
-    let at-first-at = at-bound-at .before .before .before .before .before in
+    let at-first-at = at-bound-at .before .before .before .before .before .before in
     let start = at-first-at .before .before .before in
     queued-is (start .args .h .regions) (start .args .h .junctions) _ _ (start .args .words .now) (start .args .r .number) _
-    (leaving-is _ _ _ _ (start .args .words .now) (start .pre .0) _ (at-bound-at .before .before .next-element .ensures .0) _
-    (at-bound-at .before .element .ensures))
+    (leaving-is _ _ _ _ (start .args .words .now) (start .pre .0) _ (at-bound-at .before .before .before .next-element .ensures .0) _
+    (at-bound-at .before .before .element .ensures))
     _ _ _ _ (at-first-at .first-at .ensures) (at-bound-at .bound-at .ensures) (at-key-at .before .gone-at .ensures) (at-key-at .key-at .ensures) _
     (at-next-element2 .before .before .greater64 .ensures)
     _ _ _ (at-next-element2 .next-element2 .ensures .0) (at-next-element2 .next-element2 .ensures .1) (c .before .again-key .ensures)

@@ -1,4 +1,7 @@
+use native.Mathlib.Omega.{arith}
+use mathlib.Core.Path.{sym}
 use Rattle.tree_layout.proofs.Accessing.{its-yards}
+use Rattle.tree.proofs.EndNumbers.{broken-zero, reached-number}
 use Rattle.tree.proofs.Fielding.{laid-header}
 use Rattle.tree.proofs.Recursing.{not-all, takes-all}
 use borrow.Author.Needs.{needs}
@@ -8,25 +11,52 @@ use Rattle.tree.proofs.shape.keeps_shape.Tie as tie
 subtree-end-requires : tie.Need-subtree-end-requires
 subtree-end-requires c κs = search needs
 
+enum-known-end : tie.Need-enum-known-end
+enum-known-end c = search needs
+
+enum-told : tie.Need-enum-told
+enum-told c = search needs
+
+returns : tie.Need-returns
+returns c =
+    let d = c .before .before in
+    let p = d .before .before .before .pre in
+    not-all _ _ p 0 (sym (broken-zero _ _ (d .subtree-end .ensures) (c .enum-told .given .1))) (λ e. omega (arith, p .count, p .layout .regions .0))
+
 cast-if1 : tie.Need-cast-if1
 cast-if1 c = search needs
 
-returns : tie.Need-returns
-returns c = not-all _ _ (c .before .before .before .before .before .pre) _ (c .before .before .subtree-end .ensures) (c .if1 .taken)
+returns-2 : tie.Need-returns-2
+returns-2 c =
+    let o = c .before .before .before in
+    let d = o .before .before in
+    let q = reached-number _ _ _ (d .subtree-end .ensures) (o .end .given .1) in
+    not-all _ _ (d .before .before .before .pre) _ (q .0) (c .if1 .taken)
 
 fields-requires : tie.Need-fields-requires
 fields-requires c κs = search needs
 
 header-requires : tie.Need-header-requires
-header-requires c κs = laid-header _ _ (c .before .before .before .before .before .before .pre)
+header-requires c κs = laid-header _ _ (c .before .before .before .before .before .before .before .before .before .pre)
 
-returns-2 : tie.Need-returns-2
-returns-2 c =
-    takes-all _ _ (c .before .before .before .before .before .before .before .before .before .pre) _
-    (c .before .before .before .before .before .before .subtree-end .ensures) (c .before .before .before .before .if1 .left) _
+returns-3 : tie.Need-returns-3
+returns-3 c =
+    let o = c .before .before .before .before .before .before .before in
+    let d = o .before .before in
+    let q = reached-number _ _ _ (d .subtree-end .ensures) (o .end .given .1) in
+    takes-all _ _ (d .before .before .before .pre) _ (q .0) (c .before .before .before .before .if1 .left) _
     (c .before .before .before .fields .ensures) _ (its-yards _ _ (c .before .before .header .ensures))
 
 pub keeps-shape-spec : {M : Type 1} → statement M
 keeps-shape-spec =
     tie.close
-    (tie.spec subtree-end-requires cast-if1 returns fields-requires header-requires returns-2)
+    (tie.spec
+    subtree-end-requires
+    enum-known-end
+    enum-told
+    returns
+    cast-if1
+    returns-2
+    fields-requires
+    header-requires
+    returns-3)
