@@ -1,7 +1,7 @@
 use borrow.Author.Needs.{needs}
 use Rattle.list.specs.Input.{bookEnd}
-use Rattle.list.proofs.book_end.Statement.{statement}
-use Rattle.list.proofs.book_end.Tie as tie
+use Rattle.list.proofs.books.book_end.Statement.{statement}
+use Rattle.list.proofs.books.book_end.Tie as tie
 
 returns : tie.Need-returns
 unfolding bookEnd
