@@ -10,7 +10,8 @@ ghost use Rattle.build_tree.specs.Facts.{writtenBook};
 ghost use Rattle.search_call.specs.Call.{searchRefusal, searchFound, resultsAfter};
 ghost use Rattle.search_tree.specs.Found.{foundOf};
 
-// Builds a tree and checks it: the check's answer, which is the build's if that is accepted, and the tree's length.
+// Builds a tree and checks it: the check's answer, which is the build's if that is accepted, and the tree's length. The
+// work area is left as by two calls with the build's answer.
 pub fn build_checked(
     road: &[u8],
     yard: &[u8],
@@ -23,8 +24,11 @@ pub fn build_checked(
         (length (now (work .entry))) (length (now (tree .entry))) ⌝ }
     ensures length { λ r. ⌜ r .length ≡ builtLength (now (road .entry)) (now (yard .entry)) m limit
         (length (now (work .entry))) (length (now (tree .entry))) ⌝ }
-    ensures work { λ _. ⌜ now (work .exit) ≡ workAfter (buildAnswer (now (road .entry)) (now (yard .entry)) m limit
-        (length (now (work .entry))) (length (now (tree .entry)))) (now (work .entry)) ⌝ }
+    ensures work { λ _. ⌜ now (work .exit)
+        ≡ workAfter (buildAnswer (now (road .entry)) (now (yard .entry)) m limit
+        (length (now (work .entry))) (length (now (tree .entry))))
+        (workAfter (buildAnswer (now (road .entry)) (now (yard .entry)) m limit
+        (length (now (work .entry))) (length (now (tree .entry)))) (now (work .entry))) ⌝ }
     ensures tree { λ _. ⌜ now (tree .exit) ≡ treeAfter (now (road .entry)) (now (yard .entry)) m limit
         (length (now (work .entry))) (now (tree .entry)) ⌝ }
 {
@@ -58,7 +62,9 @@ pub fn build_and_search(
         (writtenBook (now (road .entry)) (now (yard .entry)) m limit (length (now (work .entry))) (now (tree .entry)))
         (now (query .entry)) (length (now (work .entry))) (length (now (results .entry))))
         (workAfter (buildAnswer (now (road .entry)) (now (yard .entry)) m limit
-        (length (now (work .entry))) (length (now (tree .entry)))) (now (work .entry))) ⌝ }
+        (length (now (work .entry))) (length (now (tree .entry))))
+        (workAfter (buildAnswer (now (road .entry)) (now (yard .entry)) m limit
+        (length (now (work .entry))) (length (now (tree .entry)))) (now (work .entry)))) ⌝ }
     ensures tree { λ _. ⌜ now (tree .exit) ≡ treeAfter (now (road .entry)) (now (yard .entry)) m limit
         (length (now (work .entry))) (now (tree .entry)) ⌝ }
     ensures results { λ _. ⌜ now (results .exit) ≡ resultsAfter (now (road .entry))

@@ -1,68 +1,77 @@
 use borrow.Author.Needs.{needs}
-use native.Mathlib.Omega.{arith}
-use Rattle.adjacency.proofs.Linking.{few-junctions}
 use Rattle.eccentricity.proofs.row.Statement.{statement}
 use Rattle.eccentricity.proofs.row.Tie as tie
+use Rattle.eccentricity.proofs.row.Reads as reads
+use Rattle.eccentricity.proofs.row.Lts as lts
+use Rattle.adjacency.proofs.junctions.Reads as junctions-reads
+use Rattle.eccentricity.proofs.furthest.Reads as furthest-reads
+use Rattle.eccentricity.proofs.total.Reads as total-reads
+use Rattle.road.proofs.walk.distances.Reads as distances-reads
+use Rattle.text.proofs.put_number.Reads as put-number-reads
 
+-- src/main.rt:63:32
 slice-aggregate-distances : tie.Need-slice-aggregate-distances
 slice-aggregate-distances c = search needs
 
+-- src/main.rt:63:5
 distances-requires : tie.Need-distances-requires
 distances-requires c κs = search needs
 
+-- src/main.rt:64:13
 junctions-requires : tie.Need-junctions-requires
 junctions-requires c κs = search needs
 
+-- src/main.rt:64:13
 cast-n : tie.Need-cast-n
 cast-n c = search needs
 
-print-decimal-requires : tie.Need-print-decimal-requires
-print-decimal-requires c κs = search needs
+-- src/main.rt:65:53
+slice-aggregate-put-number : tie.Need-slice-aggregate-put-number
+slice-aggregate-put-number c = search needs
 
-slice-aggregate-write-all : tie.Need-slice-aggregate-write-all
-slice-aggregate-write-all c = search needs
+-- src/main.rt:65:9
+put-number-requires : tie.Need-put-number-requires
+put-number-requires c κs = search needs
 
-write-all-requires : tie.Need-write-all-requires
-write-all-requires c κs = search needs
-
+-- src/main.rt:66:56
 slice-aggregate-furthest : tie.Need-slice-aggregate-furthest
 slice-aggregate-furthest c = search needs
 
+-- src/main.rt:66:47
 furthest-requires : tie.Need-furthest-requires
-furthest-requires c κs =
-    let few = few-junctions (c .before .before .before .before .before .before .before .before .before .pre .0 .adjacent) in
-    omega (arith, c .before .before .before .before .junctions .ensures, c .before .before .before .before .before .before .distances .kept)
+furthest-requires c κs = ?
 
-print-decimal-requires-2 : tie.Need-print-decimal-requires-2
-print-decimal-requires-2 c κs = search needs
+-- src/main.rt:66:65
+slice-aggregate-put-number-2 : tie.Need-slice-aggregate-put-number-2
+slice-aggregate-put-number-2 c = search needs
 
-slice-aggregate-write-all-2 : tie.Need-slice-aggregate-write-all-2
-slice-aggregate-write-all-2 c = search needs
+-- src/main.rt:66:9
+put-number-requires-2 : tie.Need-put-number-requires-2
+put-number-requires-2 c κs = search needs
 
-write-all-requires-2 : tie.Need-write-all-requires-2
-write-all-requires-2 c κs = search needs
-
+-- src/main.rt:67:41
 slice-aggregate-total : tie.Need-slice-aggregate-total
 slice-aggregate-total c = search needs
 
+-- src/main.rt:67:35
 total-requires : tie.Need-total-requires
-total-requires c κs =
-    let far = c .before .before .before .before .before .before .before .before in
-    let few = few-junctions (far .before .before .before .before .before .before .pre .0 .adjacent) in
-    let e = far .before .junctions .ensures in
-    (omega (arith, few, e, far .before .before .before .distances .kept), omega (arith, few, e))
+total-requires c κs = ?
 
-print-decimal-requires-3 : tie.Need-print-decimal-requires-3
-print-decimal-requires-3 c κs = search needs
+-- src/main.rt:67:50
+slice-aggregate-put-number-3 : tie.Need-slice-aggregate-put-number-3
+slice-aggregate-put-number-3 c = search needs
 
-slice-aggregate-write-all-3 : tie.Need-slice-aggregate-write-all-3
-slice-aggregate-write-all-3 c = search needs
+-- src/main.rt:67:5
+put-number-requires-3 : tie.Need-put-number-requires-3
+put-number-requires-3 c κs = search needs
 
-write-all-requires-3 : tie.Need-write-all-requires-3
-write-all-requires-3 c κs = search needs
+-- src/main.rt:56:1
+same-length : tie.Need-same-length
+same-length c = search needs
 
+-- src/main.rt:56:1
 returns : tie.Need-returns
-returns c = search needs
+returns c = ?
 
 pub row-spec : {M : Type 1} → statement M
 row-spec =
@@ -72,17 +81,15 @@ row-spec =
     distances-requires
     junctions-requires
     cast-n
-    print-decimal-requires
-    slice-aggregate-write-all
-    write-all-requires
+    slice-aggregate-put-number
+    put-number-requires
     slice-aggregate-furthest
     furthest-requires
-    print-decimal-requires-2
-    slice-aggregate-write-all-2
-    write-all-requires-2
+    slice-aggregate-put-number-2
+    put-number-requires-2
     slice-aggregate-total
     total-requires
-    print-decimal-requires-3
-    slice-aggregate-write-all-3
-    write-all-requires-3
+    slice-aggregate-put-number-3
+    put-number-requires-3
+    same-length
     returns)
