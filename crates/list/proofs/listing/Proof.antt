@@ -1,34 +1,34 @@
 use borrow.Author.Needs.{needs}
+use mathlib.Core.Path.{refl, _∙_}
+use native.Mathlib.Omega.{arith}
+use Rattle.list.proofs.Taking.{room}
+use Rattle.list.proofs.Printing.{printed}
 use Rattle.list.proofs.listing.Statement.{statement}
 use Rattle.list.proofs.listing.Tie as tie
-use Rattle.list.proofs.listing.Reads as reads
-use Rattle.list.proofs.listing.Lts as lts
-use Rattle.list.proofs.answer.put.Reads as put-reads
-use Rattle.list.proofs.books.find.Reads as find-reads
 
--- src/main.rt:19:36
 slice-aggregate-find : tie.Need-slice-aggregate-find
 slice-aggregate-find c = search needs
 
--- src/main.rt:19:9
 find-requires : tie.Need-find-requires
 find-requires c κs = search needs
 
--- src/main.rt:20:24
 slice-aggregate-put : tie.Need-slice-aggregate-put
 slice-aggregate-put c = search needs
 
--- src/main.rt:20:5
 put-requires : tie.Need-put-requires
-put-requires c κs = ?
+put-requires c κs = 
+    let f = c .before .before .before .find in
+    let enough = room _ _ _ (f .ensures .0) in
+    (omega (arith, enough, f .kept .1 .0), omega (arith, f .kept .1 .0), search needs)
 
--- src/main.rt:13:1
 same-length : tie.Need-same-length
 same-length c = search needs
 
--- src/main.rt:13:1
 returns : tie.Need-returns
-returns c = ?
+returns c = 
+    let f = c .before .before .before .before .before .before .find .ensures in
+    let p = c .before .before .put .ensures in
+    (p .0 ∙ printed _ _ _ _ (f .0) refl (f .1), p .1)
 
 pub listing-spec : {M : Type 1} → statement M
 listing-spec =

@@ -1,70 +1,53 @@
 use borrow.Author.Needs.{needs}
+use mathlib.Core.Path.{ap}
+use native.Mathlib.Omega.{arith}
+use lib.ListN.{length-take}
+use Rattle.streams.specs.Moved.{bytesIn}
 use Rattle.list.proofs.main.Statement.{statement}
 use Rattle.list.proofs.main.Tie as tie
-use Rattle.list.proofs.main.Reads as reads
-use Rattle.list.proofs.main.Lts as lts
-use Rattle.io.proofs.large_buffer.Reads as large-buffer-reads
-use Rattle.list.proofs.listing.Reads as listing-reads
-use Rattle.streams.proofs.read_input.Reads as read-input-reads
-use Rattle.streams.proofs.write_output.Reads as write-output-reads
 
--- src/main.rt:24:21
 large-buffer-requires : tie.Need-large-buffer-requires
 large-buffer-requires c κs = search needs
 
--- src/main.rt:25:46
 slice-aggregate-read-input : tie.Need-slice-aggregate-read-input
 slice-aggregate-read-input c = search needs
 
--- src/main.rt:25:26
 read-input-requires : tie.Need-read-input-requires
 read-input-requires c κs = search needs
 
--- src/main.rt:25:21
 enum-known-n : tie.Need-enum-known-n
 enum-known-n c = search needs
 
--- src/main.rt:26:9
 enum-told : tie.Need-enum-told
 enum-told c = search needs
 
--- src/main.rt:26:9
 returns : tie.Need-returns
 returns c = search needs
 
--- src/main.rt:28:19
 large-buffer-requires-2 : tie.Need-large-buffer-requires-2
 large-buffer-requires-2 c κs = search needs
 
--- src/main.rt:29:23
 array-share-prefix-input : tie.Need-array-share-prefix-input
-array-share-prefix-input c = ?
+array-share-prefix-input c = omega (arith, ap bytesIn (c .before .before .n .given .1), c .before .before .before .before .before .read-input .ensures, c .before .before .before .before .before .read-input .kept .0, c .before .before .before .before .before .before .before .large-buffer .ensures)
 
--- src/main.rt:29:23
 slice-aggregate-listing : tie.Need-slice-aggregate-listing
-slice-aggregate-listing c = ?
+slice-aggregate-listing c = simp length-take (omega (arith, ap bytesIn (c .before .before .before .n .given .1), c .before .before .before .before .before .before .read-input .ensures, c .before .before .before .before .before .before .read-input .kept .0, c .before .before .before .before .before .before .before .before .large-buffer .ensures))
 
--- src/main.rt:29:36
 slice-aggregate-listing-2 : tie.Need-slice-aggregate-listing-2
 slice-aggregate-listing-2 c = search needs
 
--- src/main.rt:29:9
 listing-requires : tie.Need-listing-requires
 listing-requires c κs = search needs
 
--- src/main.rt:30:27
 array-share-prefix-out : tie.Need-array-share-prefix-out
 array-share-prefix-out c = search needs
 
--- src/main.rt:30:27
 slice-aggregate-write-output : tie.Need-slice-aggregate-write-output
-slice-aggregate-write-output c = ?
+slice-aggregate-write-output c = simp length-take (omega (arith, c .before .before .listing .ensures .1, c .before .before .listing .kept .1 .0, c .before .before .before .before .before .large-buffer2 .ensures))
 
--- src/main.rt:30:5
 write-output-requires : tie.Need-write-output-requires
 write-output-requires c κs = search needs
 
--- src/main.rt:23:1
 returns-2 : tie.Need-returns-2
 returns-2 c = search needs
 
