@@ -2,10 +2,12 @@
 use mathlib.Core.Path.{_≡_, sym, ap, _∙_}
 use mathlib.Core.List.{List, _++_}
 use Prim.Native.Nat.{ℕ}
+use lib.ListN.{take}
 use lib.Dec.{eqb}
 use Rattle.book.proofs.Choosing.{choose-yes, choose-no}
 use Rattle.book.proofs.Lists.{eq→eqb, ne→neqb}
-use Rattle.text.specs.Text.{inTurn, refusedText}
+use Rattle.text.specs.Text.{inTurn, refusedText, Appended}
+use Rattle.text.proofs.Appending.{append-as, append-then, append-whole}
 use Rattle.road_layout.specs.Road.{junctions, roadCount}
 use Rattle.road_layout.specs.Layout.{told, roadNumber}
 use Rattle.road_layout.specs.declared.RoadBook.{RoadBook}
@@ -33,3 +35,8 @@ module _ (b : List ℕ) (o : RoadBook) (why : ℕ) (read : o ≡ told (roadRefus
   pub table-is : why ≡ 0 → heading ++ inTurn (rowText b) (junctions b) ≡ eccentricityText b
   unfolding eccentricityText
   table-is e = sym (choose-yes (eqb (roadRefusal b) 0) _ _ (eq→eqb (roadRefusal b) 0 (sym why-is ∙ e)))
+
+-- the heading, and the rows of all junctions
+pub table-held : (b : List ℕ) {old mid out : List ℕ} {j k u : ℕ} → Appended old 0 heading mid j → Appended mid j (inTurn (rowText b) u) out k
+    → u ≡ junctions b → take k out ≡ heading ++ inTurn (rowText b) (junctions b)
+table-held b p q e = append-whole (append-then p (append-as (ap (λ (n : ℕ). inTurn (rowText b) n) e) q))

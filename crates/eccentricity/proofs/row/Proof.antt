@@ -1,77 +1,77 @@
 use borrow.Author.Needs.{needs}
+use mathlib.Core.Path.{_∙_}
+use native.Mathlib.Omega.{arith}
+use Rattle.adjacency.proofs.Linking.{few-junctions}
+use Rattle.text.proofs.Appending.{append-as, append-then}
+use Rattle.eccentricity.specs.Output.{lineOf}
+use Rattle.eccentricity.proofs.Printing.{row-is}
 use Rattle.eccentricity.proofs.row.Statement.{statement}
 use Rattle.eccentricity.proofs.row.Tie as tie
-use Rattle.eccentricity.proofs.row.Reads as reads
-use Rattle.eccentricity.proofs.row.Lts as lts
-use Rattle.adjacency.proofs.junctions.Reads as junctions-reads
-use Rattle.eccentricity.proofs.furthest.Reads as furthest-reads
-use Rattle.eccentricity.proofs.total.Reads as total-reads
-use Rattle.road.proofs.walk.distances.Reads as distances-reads
-use Rattle.text.proofs.put_number.Reads as put-number-reads
 
--- src/main.rt:63:32
 slice-aggregate-distances : tie.Need-slice-aggregate-distances
 slice-aggregate-distances c = search needs
 
--- src/main.rt:63:5
 distances-requires : tie.Need-distances-requires
 distances-requires c κs = search needs
 
--- src/main.rt:64:13
 junctions-requires : tie.Need-junctions-requires
 junctions-requires c κs = search needs
 
--- src/main.rt:64:13
 cast-n : tie.Need-cast-n
 cast-n c = search needs
 
--- src/main.rt:65:53
 slice-aggregate-put-number : tie.Need-slice-aggregate-put-number
 slice-aggregate-put-number c = search needs
 
--- src/main.rt:65:9
 put-number-requires : tie.Need-put-number-requires
 put-number-requires c κs = search needs
 
--- src/main.rt:66:56
 slice-aggregate-furthest : tie.Need-slice-aggregate-furthest
 slice-aggregate-furthest c = search needs
 
--- src/main.rt:66:47
 furthest-requires : tie.Need-furthest-requires
-furthest-requires c κs = ?
+furthest-requires c κs = 
+    let few = few-junctions (c .before .before .before .before .before .before .before .before .before .before .before .before .before .pre .0 .adjacent) in
+    omega (arith, few, c .before .before .before .before .before .before .before .junctions .ensures, c .before .before .before .before .before .before .before .before .before .distances .kept)
 
--- src/main.rt:66:65
 slice-aggregate-put-number-2 : tie.Need-slice-aggregate-put-number-2
 slice-aggregate-put-number-2 c = search needs
 
--- src/main.rt:66:9
 put-number-requires-2 : tie.Need-put-number-requires-2
 put-number-requires-2 c κs = search needs
 
--- src/main.rt:67:41
 slice-aggregate-total : tie.Need-slice-aggregate-total
 slice-aggregate-total c = search needs
 
--- src/main.rt:67:35
 total-requires : tie.Need-total-requires
-total-requires c κs = ?
+total-requires c κs = 
+    let few = few-junctions (c .before .before .before .before .before .before .before .before .before .before .before .before .before .before .before .before .before .before .before .before .pre .0 .adjacent) in
+    let e = c .before .before .before .before .before .before .before .before .before .before .before .before .before .before .junctions .ensures in
+    (omega (arith, few, e, c .before .before .before .before .before .before .before .before .before .before .before .before .before .before .before .before .distances .kept), omega (arith, few, e))
 
--- src/main.rt:67:50
 slice-aggregate-put-number-3 : tie.Need-slice-aggregate-put-number-3
 slice-aggregate-put-number-3 c = search needs
 
--- src/main.rt:67:5
 put-number-requires-3 : tie.Need-put-number-requires-3
 put-number-requires-3 c κs = search needs
 
--- src/main.rt:56:1
 same-length : tie.Need-same-length
 same-length c = search needs
 
--- src/main.rt:56:1
 returns : tie.Need-returns
-returns c = ?
+unfolding lineOf
+returns c = 
+    let p = c .before .before .before .before .before .before .before .before .before .before .before .before .before .before .before .before .put-number .ensures in
+    let q = c .before .before .before .before .before .before .before .before .before .put-number2 .ensures in
+    let r = c .before .before .put-number3 .ensures in
+    let d = c .before .before .before .before .before .before .before .before .before .before .before .before .before .before .before .before .before .before .before .before .before .distances .ensures in
+    let n = c .before .before .before .before .before .before .before .before .before .before .before .before .before .before .before .before .before .before .before .junctions .ensures in
+    (
+      λ b ad.
+          append-as (row-is b _ _ _ _ _ (d b ad) (n ∙ ad .count) (c .before .before .before .before .before .before .before .before .before .before .before .furthest .ensures) (c .before .before .before .before .total .ensures))
+          (append-then (append-then (p .0) (q .0)) (r .0)),
+      omega (arith, p .1, q .1, r .1),
+    )
 
 pub row-spec : {M : Type 1} → statement M
 row-spec =
