@@ -84,9 +84,10 @@ fn listing() -> Vec<u8> {
 }
 
 /// A road book of some junctions and no road, beside net N's tree.
-fn no_road(name: &str, junctions: u16) -> String {
+fn no_road(junctions: u16) -> String {
     let book = road::write(junctions, &[]);
-    line(name, &book, &tree(&n_road()), &listing())
+    let name = format!("junctions {junctions}, no road");
+    line(&name, &book, &tree(&n_road()), &listing())
 }
 
 #[test]
@@ -95,9 +96,9 @@ fn examples_that_are_executed() {
         seconds(0),
         seconds(65_535),
         junctions(1_024),
-        no_road("junctions 0", 0),
+        no_road(0),
         junctions(1_025),
-        no_road("two junctions, no road", 2),
+        no_road(2),
         crews(16),
         crews(17),
     ];

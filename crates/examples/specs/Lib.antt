@@ -1,3 +1,4 @@
 pub mod Books
 pub mod Starred
 pub mod InTurn
+pub mod Output

@@ -1,11 +1,13 @@
 // The paper's examples that are not starred, executed: a line for each, with what a search by its books answers. The
 // starred ones are proved, as the rows of one result (specs/Starred.antt).
-use libc::STDOUT_FILENO;
 ghost use mathlib.Core.Path.{_≡_};
 ghost use mathlib.Core.List.{_∷_, []};
 ghost use Prim.Native.Nat.{_+_, _*_, _≤_, _<_};
 ghost use lib.ListN.{length};
+ghost use Rattle.text.specs.Text.{Appended};
+ghost use Rattle.search_call.specs.Call.{searchRefusal};
 ghost use Rattle.examples.specs.Books.{roadN, treeN, asking};
+ghost use Rattle.examples.specs.Output.{exampleLine};
 
 // Net N's road book.
 fn road_n() -> [u8; 33]
@@ -28,37 +30,32 @@ fn query_n() -> [u8; 16]
     *b"\0\0\0\x0c\x01\0\x02\0\0\0\x06\x02\0\0\0\x02"
 }
 
-// Writes an example's name, and that a search by its books is accepted or by which number it is refused.
-fn answer(name: &[u8], road: &[u8], tree: &[u8], query: &[u8]) {
+// The number by which a search by an example's books is refused, or 0.
+fn refusal(road: &[u8], tree: &[u8], query: &[u8]) -> u32
+    ensures { λ r. ⌜ r ≡ searchRefusal (now (road .entry)) (now (tree .entry)) (now (query .entry)) 16384 128 ⌝ }
+{
     let mut work = [0u32; work_area::WORDS];
     let mut results = [0u32; 128];
     let found = search_tree::search(road, tree, query, &mut work, &mut results);
-    io::write_all(STDOUT_FILENO, name);
-    if found.refusal == 0 {
-        io::write_all(STDOUT_FILENO, b": accepted\n");
-        return;
-    }
-    io::write_all(STDOUT_FILENO, b": refused ");
-    io::print_decimal(STDOUT_FILENO, found.refusal as u64);
-    io::write_all(STDOUT_FILENO, b"\n");
+    found.refusal
 }
 
 // Net N with its first road of so many seconds.
-fn seconds(name: &[u8], s: u16) {
+fn seconds(s: u16) -> u32 {
     let mut road = road_n();
     book::put_u16(&mut road, 13, s);
     let tree = tree_n();
     let query = query_n();
-    answer(name, &road, &tree, &query);
+    refusal(&road, &tree, &query)
 }
 
 // A road book of n junctions and no road.
-fn no_road(name: &[u8], n: u16) {
+fn no_road(n: u16) -> u32 {
     let mut road = *b"\0\0\0\x05\x01\0\0\0\0";
     book::put_u16(&mut road, 5, n);
     let tree = tree_n();
     let query = query_n();
-    answer(name, &road, &tree, &query);
+    refusal(&road, &tree, &query)
 }
 
 // Puts road number i of a chain, from junction i to the next, into a road book.
@@ -86,7 +83,7 @@ fn put_roads(b: &mut [u8], roads: u16)
 }
 
 // Net N's chain drawn out to n junctions; its tree with so many junctions, which is still a true one.
-fn junctions(name: &[u8], n: u16)
+fn junctions(n: u16) -> u32
     requires { ⌜ (5 ≤ n) × (n ≤ 1025) ⌝ }
 {
     let roads = n - 1;
@@ -102,11 +99,11 @@ fn junctions(name: &[u8], n: u16)
     book::put_u16(&mut tree, 14, n);
     let query = query_n();
     let end = 4 + size;
-    answer(name, &road[..end], &tree, &query);
+    refusal(&road[..end], &tree, &query)
 }
 
 // Net N and the listing's query with n crews, all at junction 0.
-fn crews(name: &[u8], n: u8)
+fn crews(n: u8) -> u32
     requires { ⌜ n ≤ 17 ⌝ }
 {
     let road = road_n();
@@ -118,16 +115,62 @@ fn crews(name: &[u8], n: u8)
     query[10] = 6;
     query[11] = n;
     let end = 12 + 2 * (n as usize);
-    answer(name, &road, &tree, &query[..end]);
+    refusal(&road, &tree, &query[..end])
+}
+
+// Puts an example's line: a name, the number that was tried, and what the search answers.
+fn line(out: &mut [u8], at: usize, name: &[u8], n: u16, then: &[u8], why: u32) -> usize
+    requires { ⌜ (length (now name) ≤ 20) × (length (now then) ≤ 20) × (at + 100 ≤ length (now out)) ⌝ }
+    ensures added { λ r. ⌜ Appended (now (out .entry)) at (exampleLine (now (name .entry)) n (now (then .entry)) why)
+        (now (out .exit)) r ⌝ }
+    ensures short { λ r. ⌜ r ≤ at + 100 ⌝ }
+{
+    let first = text::put(out, at, name);
+    let second = text::put_number(out, first, n as u64, then);
+    if why == 0 {
+        return text::put(out, second, b"accepted\n");
+    }
+    text::put_refused(out, second, why)
+}
+
+// Each example's line has the number that it tries.
+fn put_seconds(out: &mut [u8], at: usize, s: u16) -> usize
+    requires { ⌜ at + 100 ≤ length (now out) ⌝ }
+    ensures { λ r. ⌜ r ≤ at + 100 ⌝ }
+{
+    line(out, at, b"seconds ", s, b": ", seconds(s))
+}
+
+fn put_no_road(out: &mut [u8], at: usize, n: u16) -> usize
+    requires { ⌜ at + 100 ≤ length (now out) ⌝ }
+    ensures { λ r. ⌜ r ≤ at + 100 ⌝ }
+{
+    line(out, at, b"junctions ", n, b", no road: ", no_road(n))
+}
+
+fn put_junctions(out: &mut [u8], at: usize, n: u16) -> usize
+    requires { ⌜ (5 ≤ n) × (n ≤ 1025) × (at + 100 ≤ length (now out)) ⌝ }
+    ensures { λ r. ⌜ r ≤ at + 100 ⌝ }
+{
+    line(out, at, b"junctions ", n, b": ", junctions(n))
+}
+
+fn put_crews(out: &mut [u8], at: usize, n: u8) -> usize
+    requires { ⌜ (n ≤ 17) × (at + 100 ≤ length (now out)) ⌝ }
+    ensures { λ r. ⌜ r ≤ at + 100 ⌝ }
+{
+    line(out, at, b"crews ", n as u16, b": ", crews(n))
 }
 
 fn main() {
-    seconds(b"seconds 0", 0);
-    seconds(b"seconds 65535", 65535);
-    junctions(b"junctions 1024", 1024);
-    no_road(b"junctions 0", 0);
-    junctions(b"junctions 1025", 1025);
-    no_road(b"two junctions, no road", 2);
-    crews(b"crews 16", 16);
-    crews(b"crews 17", 17);
+    let mut out = io::buffer();
+    let mut end = put_seconds(&mut out, 0, 0);
+    end = put_seconds(&mut out, end, 65535);
+    end = put_junctions(&mut out, end, 1024);
+    end = put_no_road(&mut out, end, 0);
+    end = put_junctions(&mut out, end, 1025);
+    end = put_no_road(&mut out, end, 2);
+    end = put_crews(&mut out, end, 16);
+    end = put_crews(&mut out, end, 17);
+    streams::write_output(&out[..end]);
 }

@@ -1,18 +1,29 @@
--- What writing an outline asks of the arrays that reading a tree book fills in. Assumes nothing.
-use mathlib.Core.Path.{_≡_, sym, ap, _∙_}
-use mathlib.Core.List.{List}
-use Prim.Native.Nat.{ℕ, _≤_}
-use lib.ListN.{length, take}
+-- What writing an outline asks of the arrays that reading a tree book fills in, and what is then written. Assumes nothing.
+use mathlib.Core.Path.{_≡_, refl, sym, ap, _∙_}
+use mathlib.Core.List.{List, _++_}
+use Prim.Native.Nat.{ℕ, _≤_, _<_}
+use native.Mathlib.Omega.{arith}
+use lib.ListN.{length, take, getD}
 use lib.Seq.{length-take-le}
-use Rattle.tree_layout.specs.Decode.{regionCount}
+use lib.Dec.{eqb}
+use Rattle.book.proofs.Choosing.{choose-yes, choose-no}
+use Rattle.book.proofs.Lists.{eq→eqb, ne→neqb}
+use Rattle.text.specs.Text.{inTurn, refusedText}
+use Rattle.tree_layout.specs.Decode.{regionCount, decode}
+use Rattle.tree_layout.specs.Reading.{headerOf}
 use Rattle.tree_layout.specs.declared.Header.{Header}
+use Rattle.tree_layout.specs.declared.Fields.{Fields}
 use Rattle.tree_layout.proofs.Reading.{header-regions}
 use Rattle.tree.specs.declared.Tree.{Tree}
-use Rattle.tree.specs.declared.Tree.the-variants.{Shaped}
+use Rattle.tree.specs.declared.Tree.the-variants.{Shaped, Refused}
 use Rattle.tree.specs.Shape.{treeRefusal}
-use Rattle.tree.specs.Arrays.{Laid}
-use Rattle.tree.specs.Answer.{treeOf, placesAfter, endsAfter}
-use Rattle.tree.proofs.Answering.{shaped-found, accepted-laid, accepted-slots, accepted-room}
+use Rattle.tree.specs.Arrays.{Laid, fieldsOf}
+use Rattle.tree.specs.Yards.{endOf, levelBy, levelOf}
+use Rattle.tree.specs.Answer.{treeOf, treeNumber, placesAfter, endsAfter}
+use Rattle.tree.proofs.Answering.{shaped-found, shaped-answer, accepted-laid, accepted-slots, accepted-room, accepted-ends, number-is}
+use Rattle.outline.specs.Known.{Known}
+use Rattle.outline.specs.Output.{headerText, lineOf, regionText, outlineText}
+use Rattle.outline.proofs.Levels.{level-same}
 
 module _ (b : List ℕ) (o : Tree) (h : Header) (read : o ≡ treeOf b) (shaped : o ≡ Shaped h) where
   accepted : treeRefusal b ≡ 0
@@ -37,3 +48,34 @@ module _ (b : List ℕ) (o : Tree) (h : Header) (read : o ≡ treeOf b) (shaped 
 
     pub end-length : h .regions ≡ length (take (h .regions) new)
     end-length = sym (length-take-le (h .regions) new end-room)
+
+  module _ (ps qs es fs : List ℕ) (wide : 511 ≤ length ps) (placed : qs ≡ placesAfter b ps) (room : 511 ≤ length es) (ended : fs ≡ endsAfter b es) where
+    pub arrays-known : Known b (take (h .regions) qs) (take (h .regions) fs)
+    arrays-known = record {
+      laid = places-laid ps qs wide placed;
+      count = sym (end-length es fs room ended) ∙ place-length ps qs wide placed;
+      ended = λ i k. accepted-ends b accepted (h .regions) count es fs room ended i (omega (arith, end-length es fs room ended));
+    }
+
+  -- the text of a book that is read
+  pub shaped-text : headerText h ++ inTurn (regionText b) (h .regions) ≡ outlineText b
+  unfolding outlineText
+  shaped-text =
+      let same = shaped-found b o h read shaped .1 in
+      cc (choose-yes (eqb (treeRefusal b) 0) (headerText (headerOf b) ++ inTurn (regionText b) (regionCount b)) (refusedText (treeRefusal b))
+      (eq→eqb (treeRefusal b) 0 accepted), same, count)
+
+-- the text of one that is refused
+pub refused-text : (b : List ℕ) (o : Tree) (w why : ℕ) → o ≡ treeOf b → o ≡ Refused w → why ≡ treeNumber o → refusedText why ≡ outlineText b
+unfolding outlineText
+refused-text b o w why read told number =
+    let none : treeRefusal b ≡ 0 → ⊥ = λ e. let s = shaped-answer b (treeRefusal b) (headerOf b) refl e refl in let z : _≡_ {A = ℕ} 0 1 = cc in omega arith in
+    ap refusedText (number ∙ number-is b o read) ∙ sym (choose-no (eqb (treeRefusal b) 0) _ _ (ne→neqb (treeRefusal b) 0 none))
+
+-- a region's line, by its level among the ends and its fields
+pub region-is : (b places ends : List ℕ) (i level : ℕ) (f : Fields) → Known b places ends → i < length places → f ≡ fieldsOf b i
+    → level ≡ levelBy (λ j. getD ends j 0) i → lineOf level f ≡ regionText b i
+unfolding regionText levelOf
+region-is b places ends i level f k h e l =
+    let same = level-same (λ j. getD ends j 0) (endOf (decode b .regions)) i (λ x p. k .ended x (omega (arith, k .count))) in
+    cc (l ∙ same)

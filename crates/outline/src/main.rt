@@ -1,74 +1,95 @@
-// Reads a tree book from standard input; writes `refused` and a number, or its header and a line for each region.
-use libc::STDOUT_FILENO;
+// Reads a tree book from standard input; writes `refused` and a number, or its header and a line for each region. The
+// whole text is made first, and then written.
+use streams::Read;
 use tree::Tree;
+use tree_layout::Fields;
 use tree_layout::Header;
 use tree_layout::Region;
 ghost use mathlib.Core.Path.{_≡_};
-ghost use Prim.Native.Nat.{_≤_, _<_};
-ghost use lib.ListN.{length};
-ghost use Rattle.tree.specs.Arrays.{Laid};
+ghost use Prim.Native.Nat.{_+_, _*_, _≤_, _<_};
+ghost use lib.ListN.{length, take};
+ghost use Rattle.text.specs.Text.{inTurn, Appended};
+ghost use Rattle.outline.specs.Output.{headerText, lineOf, regionText, outlineText};
+ghost use Rattle.outline.specs.Known.{Known};
 
-// Writes a number, and some bytes after it.
-fn put(x: u64, then: &[u8]) {
-    io::print_decimal(STDOUT_FILENO, x);
-    io::write_all(STDOUT_FILENO, then);
+// Puts the header's numbers, and the names of the columns, at the start of an array.
+fn header(out: &mut [u8], h: Header) -> usize
+    requires { ⌜ 151 ≤ length (now out) ⌝ }
+    ensures added { λ r. ⌜ Appended (now (out .entry)) 0 (headerText h) (now (out .exit)) r ⌝ }
+    ensures short { λ r. ⌜ r ≤ 151 ⌝ }
+{
+    let first = text::put(out, 0, b"junctions ");
+    let second = text::put_number(out, first, h.junctions as u64, b" regions ");
+    let third = text::put_number(out, second, h.regions as u64, b" yards ");
+    let fourth = text::put_number(out, third, h.yards as u64, b" landmarks ");
+    let fifth = text::put_number(out, fourth, h.landmarks as u64, b"\n");
+    text::put(out, fifth, b"level first after children yards\n")
 }
 
-// Writes `refused` and the number.
-fn refused(why: u8) {
-    io::write_all(STDOUT_FILENO, b"refused ");
-    put(why as u64, b"\n");
+// Puts a region's line, by its level and its fields.
+fn line(out: &mut [u8], at: usize, level: usize, f: Fields) -> usize
+    requires { ⌜ at + 105 ≤ length (now out) ⌝ }
+    ensures added { λ r. ⌜ Appended (now (out .entry)) at (lineOf level f) (now (out .exit)) r ⌝ }
+    ensures short { λ r. ⌜ r ≤ at + 105 ⌝ }
+{
+    let first = text::put_number(out, at, level as u64, b" ");
+    let second = text::put_number(out, first, f.first as u64, b" ");
+    let third = text::put_number(out, second, f.after as u64, b" ");
+    let fourth = text::put_number(out, third, f.children as u64, b" ");
+    text::put_number(out, fourth, f.yards as u64, b"\n")
 }
 
-// Writes the header's numbers, and the names of the columns.
-fn header(h: Header) {
-    io::write_all(STDOUT_FILENO, b"junctions ");
-    put(h.junctions as u64, b" regions ");
-    put(h.regions as u64, b" yards ");
-    put(h.yards as u64, b" landmarks ");
-    put(h.landmarks as u64, b"\n");
-    io::write_all(STDOUT_FILENO, b"level first after children yards\n");
-}
-
-// Writes region r's line.
-fn line(b: &[u8], places: &[usize], ends: &[usize], r: Region)
-    requires { ⌜ Laid (now b) (now places) × (r .number < length (now places)) × (r .number < length (now ends)) ⌝ }
+// Puts region r's line.
+fn region(out: &mut [u8], at: usize, b: &[u8], places: &[usize], ends: &[usize], r: Region) -> usize
+    requires { ⌜ Known (now b) (now places) (now ends) × (r .number < length (now places))
+        × (at + 105 ≤ length (now out)) ⌝ }
+    ensures added { λ n. ⌜ Appended (now (out .entry)) at (regionText (now (b .entry)) (r .number)) (now (out .exit)) n ⌝ }
+    ensures short { λ n. ⌜ n ≤ at + 105 ⌝ }
 {
     let f = tree::regions::fields(b, places, r);
-    put(tree::regions::level(ends, r) as u64, b" ");
-    put(f.first as u64, b" ");
-    put(f.after as u64, b" ");
-    put(f.children as u64, b" ");
-    put(f.yards as u64, b"\n");
+    let level = tree::regions::level(ends, r);
+    line(out, at, level, f)
 }
 
-// Writes a line for each region, in preorder.
-fn lines(b: &[u8], places: &[usize], ends: &[usize], n: u16)
-    requires { ⌜ Laid (now b) (now places) × (n ≤ length (now places)) × (n ≤ length (now ends)) ⌝ }
+// Puts a line for each of n regions, in preorder.
+fn lines(out: &mut [u8], at: usize, b: &[u8], places: &[usize], ends: &[usize], n: u16) -> usize
+    requires { ⌜ Known (now b) (now places) (now ends) × (n ≤ length (now places))
+        × (at + 105 * n ≤ length (now out)) ⌝ }
+    ensures added { λ r. ⌜ Appended (now (out .entry)) at (inTurn (regionText (now (b .entry))) n) (now (out .exit)) r ⌝ }
+    ensures short { λ r. ⌜ r ≤ at + 105 * n ⌝ }
 {
+    let mut end = at;
     let mut i: u16 = 0;
     while i < n {
-        line(b, places, ends, Region { number: i });
+        end = region(out, end, b, places, ends, Region { number: i });
         i += 1;
     }
+    end
 }
 
-// Writes the outline of a tree book.
-fn report(b: &[u8]) {
+// Makes the text that a tree book's bytes lead to, at the start of an array, and answers its length.
+fn report(b: &[u8], out: &mut [u8]) -> usize
+    requires { ⌜ 65536 ≤ length (now out) ⌝ }
+    ensures text { λ r. ⌜ take r (now (out .exit)) ≡ outlineText (now (b .entry)) ⌝ }
+    ensures fits { λ r. ⌜ r ≤ 65536 ⌝ }
+{
     let mut places = [0usize; 511];
     let mut ends = [0usize; 511];
     let o = tree::read(b, &mut places, &mut ends);
     let Tree::Shaped(h) = o else {
-        refused(tree::number(o));
-        return;
+        return text::put_refused(out, 0, tree::number(o) as u32);
     };
-    header(h);
+    let at = header(out, h);
     let n = h.regions as usize;
-    lines(b, &places[..n], &ends[..n], h.regions);
+    lines(out, at, b, &places[..n], &ends[..n], h.regions)
 }
 
 fn main() {
     let mut input = io::large_buffer();
-    let n = io::read_full(0, &mut input);
-    report(&input[..n]);
+    let Read::Bytes(n) = streams::read_input(&mut input) else {
+        return;
+    };
+    let mut out = io::large_buffer();
+    let end = report(&input[..n], &mut out);
+    streams::write_output(&out[..end]);
 }

@@ -1,5 +1,8 @@
 use borrow.Author.Needs.{needs}
-use Rattle.road.proofs.Answering.{read-sound}
+use mathlib.Core.Path.{sym, _∙_}
+use native.Mathlib.Omega.{arith}
+use Rattle.text.proofs.Appending.{append-whole}
+use Rattle.eccentricity.proofs.Printing.{why-is, refused-is, table-is}
 use Rattle.eccentricity.proofs.report.Statement.{statement}
 use Rattle.eccentricity.proofs.report.Tie as tie
 
@@ -9,37 +12,43 @@ slice-aggregate-read c = search needs
 read-requires : tie.Need-read-requires
 read-requires c κs = search needs
 
-enum-told : tie.Need-enum-told
-enum-told c = search needs
+number-requires : tie.Need-number-requires
+number-requires c κs = search needs
 
-enum-known-read : tie.Need-enum-known-read
-enum-known-read c = search needs
+cast-put-refused : tie.Need-cast-put-refused
+cast-put-refused c = search needs
 
-enum-known-read-2 : tie.Need-enum-known-read-2
-enum-known-read-2 c = search needs
+put-refused-requires : tie.Need-put-refused-requires
+put-refused-requires c κs = search needs
 
-enum-told-2 : tie.Need-enum-told-2
-enum-told-2 c = search needs
+same-length : tie.Need-same-length
+same-length c = search needs
 
 returns : tie.Need-returns
-returns c = search needs
-
-refused-requires : tie.Need-refused-requires
-refused-requires c κs = search needs
-
-returns-2 : tie.Need-returns-2
-returns-2 c = search needs
+returns c = 
+    let p = c .before .before .put-refused .ensures in
+    let r = c .before .before .before .before .before .before .before .read .ensures in
+    (append-whole (p .0) ∙ refused-is _ _ _ (r .0) (c .before .before .before .before .before .number .ensures) (c .before .before .before .before .if1 .taken), omega (arith, p .1))
 
 slice-aggregate-rows : tie.Need-slice-aggregate-rows
 slice-aggregate-rows c = search needs
 
 rows-requires : tie.Need-rows-requires
-rows-requires c κs =
-    let r = c .before .before .before .before .read .ensures in
-    record { book = _; adjacent = r .1 (read-sound _ _ _ _ (r .0) (c .before .enum-told .given .1) .0) }
+rows-requires c κs = 
+    let r = c .before .before .before .before .before .read .ensures in
+    let none = sym (why-is _ _ _ (r .0) (c .before .before .before .number .ensures)) ∙ c .before .before .if1 .left in
+    (record { book = _; adjacent = r .1 none }, c .before .before .before .before .before .before .before .before .before .pre)
 
-returns-3 : tie.Need-returns-3
-returns-3 c = search needs
+same-length-2 : tie.Need-same-length-2
+same-length-2 c = search needs
+
+returns-2 : tie.Need-returns-2
+returns-2 c = 
+    let r = c .before .before .before .before .before .before .before .before .read .ensures in
+    let n = c .before .before .before .before .before .before .number .ensures in
+    let none = sym (why-is _ _ _ (r .0) n) ∙ c .before .before .before .before .before .if1 .left in
+    let w = c .before .before .rows .ensures in
+    (w .0 _ (r .1 none) ∙ table-is _ _ _ (r .0) n (c .before .before .before .before .before .if1 .left), w .1)
 
 pub report-spec : {M : Type 1} → statement M
 report-spec =
@@ -47,13 +56,12 @@ report-spec =
     (tie.spec
     slice-aggregate-read
     read-requires
-    enum-told
-    enum-known-read
-    enum-known-read-2
-    enum-told-2
+    number-requires
+    cast-put-refused
+    put-refused-requires
+    same-length
     returns
-    refused-requires
-    returns-2
     slice-aggregate-rows
     rows-requires
-    returns-3)
+    same-length-2
+    returns-2)

@@ -1,6 +1,10 @@
 use borrow.Author.Needs.{needs}
+use mathlib.Core.Path.{_∙_}
 use native.Mathlib.Omega.{arith}
 use Rattle.adjacency.proofs.Linking.{few-junctions}
+use Rattle.text.proofs.Appending.{append-as, append-then}
+use Rattle.eccentricity.specs.Output.{lineOf}
+use Rattle.eccentricity.proofs.Printing.{row-is}
 use Rattle.eccentricity.proofs.row.Statement.{statement}
 use Rattle.eccentricity.proofs.row.Tie as tie
 
@@ -16,53 +20,58 @@ junctions-requires c κs = search needs
 cast-n : tie.Need-cast-n
 cast-n c = search needs
 
-print-decimal-requires : tie.Need-print-decimal-requires
-print-decimal-requires c κs = search needs
+slice-aggregate-put-number : tie.Need-slice-aggregate-put-number
+slice-aggregate-put-number c = search needs
 
-slice-aggregate-write-all : tie.Need-slice-aggregate-write-all
-slice-aggregate-write-all c = search needs
-
-write-all-requires : tie.Need-write-all-requires
-write-all-requires c κs = search needs
+put-number-requires : tie.Need-put-number-requires
+put-number-requires c κs = search needs
 
 slice-aggregate-furthest : tie.Need-slice-aggregate-furthest
 slice-aggregate-furthest c = search needs
 
 furthest-requires : tie.Need-furthest-requires
-furthest-requires c κs =
-    let few = few-junctions (c .before .before .before .before .before .before .before .before .before .pre .0 .adjacent) in
-    omega (arith, c .before .before .before .before .junctions .ensures, c .before .before .before .before .before .before .distances .kept)
+furthest-requires c κs = 
+    let few = few-junctions (c .before .before .before .before .before .before .before .before .before .before .before .before .before .pre .0 .adjacent) in
+    omega (arith, few, c .before .before .before .before .before .before .before .junctions .ensures, c .before .before .before .before .before .before .before .before .before .distances .kept)
 
-print-decimal-requires-2 : tie.Need-print-decimal-requires-2
-print-decimal-requires-2 c κs = search needs
+slice-aggregate-put-number-2 : tie.Need-slice-aggregate-put-number-2
+slice-aggregate-put-number-2 c = search needs
 
-slice-aggregate-write-all-2 : tie.Need-slice-aggregate-write-all-2
-slice-aggregate-write-all-2 c = search needs
-
-write-all-requires-2 : tie.Need-write-all-requires-2
-write-all-requires-2 c κs = search needs
+put-number-requires-2 : tie.Need-put-number-requires-2
+put-number-requires-2 c κs = search needs
 
 slice-aggregate-total : tie.Need-slice-aggregate-total
 slice-aggregate-total c = search needs
 
 total-requires : tie.Need-total-requires
-total-requires c κs =
-    let far = c .before .before .before .before .before .before .before .before in
-    let few = few-junctions (far .before .before .before .before .before .before .pre .0 .adjacent) in
-    let e = far .before .junctions .ensures in
-    (omega (arith, few, e, far .before .before .before .distances .kept), omega (arith, few, e))
+total-requires c κs = 
+    let few = few-junctions (c .before .before .before .before .before .before .before .before .before .before .before .before .before .before .before .before .before .before .before .before .pre .0 .adjacent) in
+    let e = c .before .before .before .before .before .before .before .before .before .before .before .before .before .before .junctions .ensures in
+    (omega (arith, few, e, c .before .before .before .before .before .before .before .before .before .before .before .before .before .before .before .before .distances .kept), omega (arith, few, e))
 
-print-decimal-requires-3 : tie.Need-print-decimal-requires-3
-print-decimal-requires-3 c κs = search needs
+slice-aggregate-put-number-3 : tie.Need-slice-aggregate-put-number-3
+slice-aggregate-put-number-3 c = search needs
 
-slice-aggregate-write-all-3 : tie.Need-slice-aggregate-write-all-3
-slice-aggregate-write-all-3 c = search needs
+put-number-requires-3 : tie.Need-put-number-requires-3
+put-number-requires-3 c κs = search needs
 
-write-all-requires-3 : tie.Need-write-all-requires-3
-write-all-requires-3 c κs = search needs
+same-length : tie.Need-same-length
+same-length c = search needs
 
 returns : tie.Need-returns
-returns c = search needs
+unfolding lineOf
+returns c = 
+    let p = c .before .before .before .before .before .before .before .before .before .before .before .before .before .before .before .before .put-number .ensures in
+    let q = c .before .before .before .before .before .before .before .before .before .put-number2 .ensures in
+    let r = c .before .before .put-number3 .ensures in
+    let d = c .before .before .before .before .before .before .before .before .before .before .before .before .before .before .before .before .before .before .before .before .before .distances .ensures in
+    let n = c .before .before .before .before .before .before .before .before .before .before .before .before .before .before .before .before .before .before .before .junctions .ensures in
+    (
+      λ b ad.
+          append-as (row-is b _ _ _ _ _ (d b ad) (n ∙ ad .count) (c .before .before .before .before .before .before .before .before .before .before .before .furthest .ensures) (c .before .before .before .before .total .ensures))
+          (append-then (append-then (p .0) (q .0)) (r .0)),
+      omega (arith, p .1, q .1, r .1),
+    )
 
 pub row-spec : {M : Type 1} → statement M
 row-spec =
@@ -72,17 +81,15 @@ row-spec =
     distances-requires
     junctions-requires
     cast-n
-    print-decimal-requires
-    slice-aggregate-write-all
-    write-all-requires
+    slice-aggregate-put-number
+    put-number-requires
     slice-aggregate-furthest
     furthest-requires
-    print-decimal-requires-2
-    slice-aggregate-write-all-2
-    write-all-requires-2
+    slice-aggregate-put-number-2
+    put-number-requires-2
     slice-aggregate-total
     total-requires
-    print-decimal-requires-3
-    slice-aggregate-write-all-3
-    write-all-requires-3
+    slice-aggregate-put-number-3
+    put-number-requires-3
+    same-length
     returns)

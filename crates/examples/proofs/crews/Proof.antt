@@ -37,20 +37,20 @@ mul-end c = search needs
 add-end : tie.Need-add-end
 add-end c = search needs
 
-slice-aggregate-answer : tie.Need-slice-aggregate-answer
-slice-aggregate-answer c = search needs
+slice-aggregate-refusal : tie.Need-slice-aggregate-refusal
+slice-aggregate-refusal c = search needs
 
-slice-aggregate-answer-2 : tie.Need-slice-aggregate-answer-2
-slice-aggregate-answer-2 c = search needs
+slice-aggregate-refusal-2 : tie.Need-slice-aggregate-refusal-2
+slice-aggregate-refusal-2 c = search needs
 
 array-share-prefix-query : tie.Need-array-share-prefix-query
 array-share-prefix-query c = search needs
 
-slice-aggregate-answer-3 : tie.Need-slice-aggregate-answer-3
-slice-aggregate-answer-3 c = sym (length-take-le _ _ (search needs))
+slice-aggregate-refusal-3 : tie.Need-slice-aggregate-refusal-3
+slice-aggregate-refusal-3 c = sym (length-take-le _ _ (search needs))
 
-answer-requires : tie.Need-answer-requires
-answer-requires c κs = search needs
+refusal-requires : tie.Need-refusal-requires
+refusal-requires c κs = search needs
 
 returns : tie.Need-returns
 returns c = search needs
@@ -70,9 +70,9 @@ crews-spec =
     array-write-query-5
     mul-end
     add-end
-    slice-aggregate-answer
-    slice-aggregate-answer-2
+    slice-aggregate-refusal
+    slice-aggregate-refusal-2
     array-share-prefix-query
-    slice-aggregate-answer-3
-    answer-requires
+    slice-aggregate-refusal-3
+    refusal-requires
     returns)

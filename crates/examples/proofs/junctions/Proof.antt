@@ -70,17 +70,17 @@ add-end c = search needs
 array-share-prefix-road : tie.Need-array-share-prefix-road
 array-share-prefix-road c = search needs
 
-slice-aggregate-answer : tie.Need-slice-aggregate-answer
-slice-aggregate-answer c = sym (length-take-le _ _ (search needs))
+slice-aggregate-refusal : tie.Need-slice-aggregate-refusal
+slice-aggregate-refusal c = sym (length-take-le _ _ (search needs))
 
-slice-aggregate-answer-2 : tie.Need-slice-aggregate-answer-2
-slice-aggregate-answer-2 c = search needs
+slice-aggregate-refusal-2 : tie.Need-slice-aggregate-refusal-2
+slice-aggregate-refusal-2 c = search needs
 
-slice-aggregate-answer-3 : tie.Need-slice-aggregate-answer-3
-slice-aggregate-answer-3 c = search needs
+slice-aggregate-refusal-3 : tie.Need-slice-aggregate-refusal-3
+slice-aggregate-refusal-3 c = search needs
 
-answer-requires : tie.Need-answer-requires
-answer-requires c κs = search needs
+refusal-requires : tie.Need-refusal-requires
+refusal-requires c κs = search needs
 
 returns : tie.Need-returns
 returns c = search needs
@@ -111,8 +111,8 @@ junctions-spec =
     query-n-requires
     add-end
     array-share-prefix-road
-    slice-aggregate-answer
-    slice-aggregate-answer-2
-    slice-aggregate-answer-3
-    answer-requires
+    slice-aggregate-refusal
+    slice-aggregate-refusal-2
+    slice-aggregate-refusal-3
+    refusal-requires
     returns)

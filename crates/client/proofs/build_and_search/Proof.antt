@@ -1,0 +1,52 @@
+use borrow.Author.Needs.{needs}
+use mathlib.Core.Path.{_∙_}
+use Rattle.client.proofs.Built.{book-is, book-length, book-room}
+use Rattle.client.proofs.build_and_search.Statement.{statement}
+use Rattle.client.proofs.build_and_search.Tie as tie
+
+build-checked-requires : tie.Need-build-checked-requires
+build-checked-requires c κs = search needs
+
+cast-n : tie.Need-cast-n
+cast-n c = search needs
+
+slice-reshare-prefix-finder-search : tie.Need-slice-reshare-prefix-finder-search
+slice-reshare-prefix-finder-search c = let e = c .before .before .before .before .before .build-checked .ensures in book-room _ _ _ _ (c .before .before .before .before .before .before .before .before .before .before .before .before .before .before .args .work .now) (c .before .before .before .before .before .before .before .before .before .before .before .before .before .before .args .tree .now) _ _ (e .1 .0) (e .1 .1 .1)
+
+slice-aggregate-finder-search : tie.Need-slice-aggregate-finder-search
+slice-aggregate-finder-search c = let e = c .before .before .before .before .before .before .build-checked .ensures in book-length _ _ _ _ (c .before .before .before .before .before .before .before .before .before .before .before .before .before .before .before .args .work .now) (c .before .before .before .before .before .before .before .before .before .before .before .before .before .before .before .args .tree .now) _ _ (e .1 .0) (e .1 .1 .1)
+
+finder-search-requires : tie.Need-finder-search-requires
+finder-search-requires c κs = search needs
+
+same-length : tie.Need-same-length
+same-length c = search needs
+
+same-length-2 : tie.Need-same-length-2
+same-length-2 c = search needs
+
+same-length-3 : tie.Need-same-length-3
+same-length-3 c = search needs
+
+returns : tie.Need-returns
+returns c = 
+    let f = c .before .before .before .before .before .before .before .before .before .before .before .before .before .build-checked in
+    let e = f .ensures in
+    let s = c .before .before .before .before .finder-search .ensures in
+    let kept = f .kept .1 .1 .1 .1 .0 in
+    let same = book-is _ _ _ _ (c .before .before .before .before .before .before .before .before .before .before .before .before .before .before .before .before .before .before .before .before .before .before .args .work .now) (c .before .before .before .before .before .before .before .before .before .before .before .before .before .before .before .before .before .before .before .before .before .before .args .tree .now) _ _ (e .1 .0) (e .1 .1 .1) in
+    (cc (s .0, same, kept), (cc (s .1 .0, same, kept, e .1 .1 .0), (e .1 .1 .1, cc (s .1 .1, same, kept))))
+
+pub build-and-search-spec : {M : Type 1} → statement M
+build-and-search-spec =
+    tie.close
+    (tie.spec
+    build-checked-requires
+    cast-n
+    slice-reshare-prefix-finder-search
+    slice-aggregate-finder-search
+    finder-search-requires
+    same-length
+    same-length-2
+    same-length-3
+    returns)
