@@ -53,7 +53,7 @@ module _ (i : Instance) (st : SearchState) (sizes : Sizes i st) where
   unfolding settled
   settled-past t b s h = ⊎-elim (λ n. absurd (omega (arith, not-queued (leastKey i st) n))) (λ n. record {
     full = eqb→eq (length (st .held)) (i .k) (and-left (eqb (length (st .held)) (i .k)) _ n);
-    far = omega (arith, and-right (eqb (length (st .held)) (i .k)) _ n);
+    far = let past = and-right (eqb (length (st .held)) (i .k)) _ n in omega (arith, ltb→lt);
   }) (or-cases (not (queued (leastKey i st))) _ t)
 
   pub settled-regions : T (settled i st) → (v b : ℕ) → key (st .regionKeys) v ≡ some b → Past i st b
@@ -88,15 +88,15 @@ module _ (i : Instance) (st : SearchState) (sizes : Sizes i st) where
   step-case P u onRegion onYard =
       choose-case P (queued (min a b))
       (λ q. choose-case P _
-      (λ s. onYard y b (word-key (st .yardKeys) y b refl (omega (arith, s, low))) (record {
-        regions = λ v c h. omega (arith, s, least-region v c h);
+      (λ s. onYard y b (word-key (st .yardKeys) y b refl (omega (arith, ltb→lt, low))) (record {
+        regions = λ v c h. omega (arith, ltb→lt, least-region v c h);
         yards = λ v c h. least-yard v c h;
-        held = λ full. omega (arith, s, unsettled-low u full);
+        held = λ full. omega (arith, ltb→lt, unsettled-low u full);
       }))
-      (λ s. onRegion r a (word-key (st .regionKeys) r a refl (omega (arith, s, low))) (record {
+      (λ s. onRegion r a (word-key (st .regionKeys) r a refl (omega (arith, nltb→le, low))) (record {
         regions = λ v c h. least-region v c h;
-        yards = λ v c h. omega (arith, s, least-yard v c h);
-        held = λ full. omega (arith, s, unsettled-low u full);
+        yards = λ v c h. omega (arith, nltb→le, least-yard v c h);
+        held = λ full. omega (arith, nltb→le, unsettled-low u full);
       })))
       (λ q. absurd (omega (arith, not-queued (min a b) q, low)))
     where
