@@ -65,7 +65,7 @@ module _ (i : Instance) where
   unfolding best
   best-mem m [] = head refl
   best-mem m (x ∷ xs) =
-      choose-case (λ c. Mem c (m ∷ x ∷ xs)) (ltb (weight i m) (weight i x)) (λ t. tail (best-mem x xs)) (λ t. skip (best-mem m xs))
+      choose-case (λ c. Mem c (m ∷ x ∷ xs)) _ (λ t. tail (best-mem x xs)) (λ t. skip (best-mem m xs))
     where
       skip : {c : Mark} → Mem c (m ∷ xs) → Mem c (m ∷ x ∷ xs)
       skip (head e) = head e
@@ -89,7 +89,7 @@ module _ (i : Instance) where
   -- f is at most the yard's bound, whatever the tree says
   pub f-le : (m : Mark) (e : Element) → f i m e ≤ yardBound i m e
   unfolding f yardBound
-  f-le m e = over-mono (listAbsDiff i m e) (λ q. max (lower i (e .yard) q) (listAbsDiff i m e q)) (λ q k. omega arith)
+  f-le m e = over-mono _ _ (λ q k. omega arith)
 
   module _ (shape : Shape i) where
     -- a yard is a junction
@@ -117,8 +117,8 @@ module _ (i : Instance) where
         markBound-le : (r : ℕ) (m : Mark) (y q : ℕ) → Mem m (marks i r) → Below i r y → q < i .tree .junctions → markBound i q m ≤ i .d q y
         unfolding markBound
         markBound-le r m y q e b c =
-            crewBound-le (lower i l q) (upper i l q) (m .least) (m .greatest) (i .d l q) (i .d l y) (i .d q y)
-            (lower-le l q a c) (upper-le l q a c) (truth .least r m y e b) (truth .greatest r m y e b)
+            crewBound-le _ _ (m .least) (m .greatest) (i .d l q) (i .d l y) (i .d q y)
+            (omega (arith, lower-le l q a c)) (omega (arith, upper-le l q a c)) (truth .least r m y e b) (truth .greatest r m y e b)
             (omega (arith, metric .triangle l y q a (below-range b) c, symmetric .turn q y c (below-range b)))
             (metric .triangle l q y a c (below-range b))
           where
@@ -137,8 +137,7 @@ module _ (i : Instance) where
         -- a yard's bound is at most its aggregate
         pub yardBound-le : (r : ℕ) (m : Mark) (e : Element) → T (leaf i r) → Mem m (marks i r) → Mem e (m .list) → yardBound i m e ≤ total i (e .yard)
         unfolding yardBound total listAbsDiff
-        yardBound-le r m e l k j = over-mono (λ q. max (lower i (e .yard) q) (absDiff (i .d (m .place) q) (e .distance))) (λ q. i .d q (e .yard))
-            (λ q c. one q (shape .crews q c))
+        yardBound-le r m e l k j = over-mono _ _ (λ q c. omega (arith, one q (shape .crews q c)))
           where
             y : e .yard < i .tree .junctions
             y = shape .yards r m e l k j

@@ -34,7 +34,7 @@ module _ (i : Instance) where
   step-few st h =
       let a = wordAt (st .regionKeys) (nextRegion i st) in
       let b = wordAt (st .yardKeys) (nextYard i st) in
-      choose-case Few (queued (min a b)) (λ q. choose-case Few (ltb b a) (λ t. yard-few st (nextYard i st)) (λ t. region-few st (nextRegion i st) a h)) (λ q. h)
+      choose-case Few (queued (min a b)) (λ q. choose-case Few _ (λ t. yard-few st (nextYard i st)) (λ t. region-few st (nextRegion i st) a h)) (λ q. h)
 
   run-few : (limit : ℕ) → Few (run i limit .state)
   unfolding Few run startSearch advance

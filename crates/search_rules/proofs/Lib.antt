@@ -23,4 +23,5 @@ pub mod Steps
 pub mod Taking
 pub mod Measures
 pub mod Vectors
+pub mod Worked
 pub mod Example

@@ -71,8 +71,7 @@ module _ (i : Instance) (well : WellFormed i) where
   pub bound-most : (r : ℕ) → bound i r ≤ 68719476720
   unfolding bound markBound
   bound-most r = over-most (λ q. greatestOf (markBound i q) (marks i r)) 4294967295
-      (λ q c. greatestOf-le (markBound i q) 4294967295 (marks i r) (λ m k. crewBound-most (lower i (m .place) q) (upper i (m .place) q) (m .least) (m
-      .greatest) 4294967295
+      (λ q c. greatestOf-le (markBound i q) 4294967295 (marks i r) (λ m k. crewBound-most _ _ (m .least) (m .greatest) 4294967295
       (omega (arith, lower-most (m .place) q (well .shape .places r m k) (well .shape .crews q c))) (well .small .least r m k)))
 
   module _ (r : ℕ) (m : Mark) (e : Element) (l : T (leaf i r)) (k : Mem m (marks i r)) (j : Mem e (m .list)) where
@@ -84,11 +83,11 @@ module _ (i : Instance) (well : WellFormed i) where
 
     pub f-most : f i m e ≤ 1072676880
     unfolding f
-    f-most = over-most (listAbsDiff i m e) 67042305 (λ q c. listAbsDiff-most q (well .shape .crews q c))
+    f-most = over-most _ 67042305 (λ q c. omega (arith, listAbsDiff-most q (well .shape .crews q c)))
 
     pub yardBound-most : yardBound i m e ≤ 1072676880
     unfolding yardBound
-    yardBound-most = over-most (λ q. max (lower i (e .yard) q) (listAbsDiff i m e q)) 67042305
+    yardBound-most = over-most _ 67042305
         (λ q c. omega (arith, listAbsDiff-most q (well .shape .crews q c), lower-most (e .yard) q (well .shape .yards r m e l k j) (well .shape .crews q c)))
 
   -- a yard's aggregate, which is written in a word of 32 bits, and the sum by which a leaf picks its landmark
@@ -98,5 +97,5 @@ module _ (i : Instance) (well : WellFormed i) where
 
   pub weight-most : (r : ℕ) (m : Mark) → Mem m (marks i r) → weight i m ≤ 1072676880
   unfolding weight
-  weight-most r m k = aggregate-most 0 67042305 (i .crews) (λ q. lower i (m .place) q) (well .small .few-crews) (λ q c. lower-most (m .place) q (well .shape
+  weight-most r m k = aggregate-most _ 67042305 (i .crews) _ (well .small .few-crews) (λ q c. lower-most (m .place) q (well .shape
       .places r m k) (well .shape .crews q c))

@@ -1,6 +1,6 @@
 -- A step by cases, and what it means that a search is settled. Assumes nothing.
 use mathlib.Core.Path.{_≡_, refl, sym}
-use mathlib.Core.Logic.{_⊎_, inl, inr}
+use mathlib.Core.Logic.{⊎-elim}
 use mathlib.Core.Bool.{Bool, true, false, not, _&&_, _||_}
 use mathlib.Core.List.{List}
 use mathlib.Core.Option.{Option, none, some}
@@ -52,14 +52,10 @@ module _ (i : Instance) (st : SearchState) (sizes : Sizes i st) where
   -- settled: if a key is not below the least one, k are held and it is above the greatest held distance
   settled-past : T (settled i st) → (b : ℕ) → b < unqueued → leastKey i st ≤ b → Past i st b
   unfolding settled enough
-  settled-past t b s h = go (or-cases (not (queued (leastKey i st))) _ t)
-    where
-      go : T (not (queued (leastKey i st))) ⊎ T (eqb (length (st .held)) (i .k) && ltb (greatestHeld (st .held)) (leastKey i st)) → Past i st b
-      go (inl n) = absurd (omega (arith, not-queued (leastKey i st) n))
-      go (inr n) = record {
-        full = eqb→eq (length (st .held)) (i .k) (and-left (eqb (length (st .held)) (i .k)) _ n);
-        far = omega (arith, ltb→lt (greatestHeld (st .held)) (leastKey i st) (and-right (eqb (length (st .held)) (i .k)) _ n));
-      }
+  settled-past t b s h = ⊎-elim (λ n. absurd (omega (arith, not-queued (leastKey i st) n))) (λ n. record {
+    full = eqb→eq (length (st .held)) (i .k) (and-left (eqb (length (st .held)) (i .k)) _ n);
+    far = let past = and-right (eqb (length (st .held)) (i .k)) _ n in omega (arith, ltb→lt);
+  }) (or-cases (not (queued (leastKey i st))) _ t)
 
   pub settled-regions : T (settled i st) → (v b : ℕ) → key (st .regionKeys) v ≡ some b → Past i st b
   unfolding leastKey
@@ -92,16 +88,16 @@ module _ (i : Instance) (st : SearchState) (sizes : Sizes i st) where
   unfolding step leastKey
   step-case P u onRegion onYard =
       choose-case P (queued (min a b))
-      (λ q. choose-case P (ltb b a)
-      (λ s. onYard y b (word-key (st .yardKeys) y b refl (omega (arith, ltb→lt b a s, low))) (record {
-        regions = λ v c h. omega (arith, ltb→lt b a s, least-region v c h);
+      (λ q. choose-case P _
+      (λ s. onYard y b (word-key (st .yardKeys) y b refl (omega (arith, ltb→lt, low))) (record {
+        regions = λ v c h. omega (arith, ltb→lt, least-region v c h);
         yards = λ v c h. least-yard v c h;
-        held = λ full. omega (arith, ltb→lt b a s, unsettled-low u full);
+        held = λ full. omega (arith, ltb→lt, unsettled-low u full);
       }))
-      (λ s. onRegion r a (word-key (st .regionKeys) r a refl (omega (arith, nltb→le b a s, low))) (record {
+      (λ s. onRegion r a (word-key (st .regionKeys) r a refl (omega (arith, nltb→le, low))) (record {
         regions = λ v c h. least-region v c h;
-        yards = λ v c h. omega (arith, nltb→le b a s, least-yard v c h);
-        held = λ full. omega (arith, nltb→le b a s, unsettled-low u full);
+        yards = λ v c h. omega (arith, nltb→le, least-yard v c h);
+        held = λ full. omega (arith, nltb→le, unsettled-low u full);
       })))
       (λ q. absurd (omega (arith, not-queued (min a b) q, low)))
     where

@@ -23,25 +23,9 @@ use Rattle.search_rules.specs.Step.{SearchState, left, noElement, againK
 use Rattle.search_rules.specs.Step.{openLeaf}
 use Rattle.search_rules.specs.Step.{takeRegion, takeYard, nextRegion, nextYard, leastKey, step, settled, startSearch}
 use Rattle.search_rules.specs.Run.{Outcome, Answer, words, advance, run, report, answer}
+use Rattle.search_rules.specs.Examples.{onChain, at, leafOf, three, from0, from2}
 
 -- ---- nets that are chains
-
--- a search on a chain of junctions, given by each one's distance from junction 0
-unfoldable pub onChain : List ℕ → ℕ → ℕ → List ℕ → ℕ → List Region → Instance
-onChain along code goal crews yards regions = record {
-  code = code;
-  k = goal;
-  crews = crews;
-  tree = record { junctions = length along; yards = yards; landmarks = 1; regions = regions };
-  d = λ u v. absDiff (getD along u 0) (getD along v 0);
-}
-
-unfoldable pub at : ℕ → ℕ → Element
-at distance yard = record { distance = distance; yard = yard }
-
--- a leaf of junctions from first up to after
-unfoldable pub leafOf : ℕ → ℕ → List Mark → List Element → Region
-leafOf first after marks list = record { first = first; after = after; children = 0; yards = length list; marks = marks }
 
 -- net N: "junctions 0 to 4 in a chain, seconds 2, 3, 4, 1; yards 1, 3, 4; m 1, leaf limit 3"
 unfoldable pub netN : ℕ → ℕ → List ℕ → Instance
@@ -52,16 +36,6 @@ netN code goal crews =
 -- "One junction, no road, yard 0, crew 0"
 unfoldable pub oneJunction : Instance
 oneJunction = onChain (0 ∷ []) 0 2 (0 ∷ []) 1 (leafOf 0 1 (leafMark 0 (at 0 0 ∷ []) ∷ []) (at 0 0 ∷ []) ∷ [])
-
--- "Chain of three, seconds 1 and 1, yards 0 and 2, crew 1, k 1", with some landmarks
-unfoldable pub three : List Mark → Instance
-three marks = onChain (0 ∷ 1 ∷ 2 ∷ []) 0 1 (1 ∷ []) 2 (leafOf 0 3 marks (at 0 0 ∷ at 2 2 ∷ []) ∷ [])
-
-unfoldable pub from0 : Mark
-from0 = leafMark 0 (at 0 0 ∷ at 2 2 ∷ [])
-
-unfoldable pub from2 : Mark
-from2 = leafMark 2 (at 0 2 ∷ at 2 0 ∷ [])
 
 -- a chain of eight, seconds 1, 2, 3, 1, 2, 3, 1; yards 1 and 2 in one leaf, 5 and 7 in another
 unfoldable pub eight : List ℕ → Instance

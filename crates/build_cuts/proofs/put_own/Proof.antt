@@ -1,11 +1,12 @@
 use borrow.Author.Needs.{needs}
+use native.Mathlib.Omega.{arith}
 use Rattle.yard.proofs.Listing.{from-length}
 use Rattle.build_cuts.proofs.Records.{own-kept, own-written}
 use Rattle.build_cuts.proofs.put_own.Statement.{statement}
 use Rattle.build_cuts.proofs.put_own.Tie as tie
 
 returns : tie.Need-returns
-returns c = λ road limit a. own-kept _ _ _ _ _ _ _ _ _ (c .if1 .taken)
+returns c = λ road limit a. own-kept _ _ _ _ _ _ _ _ _ (omega (arith, c .if1 .taken))
 
 put-record-requires : tie.Need-put-record-requires
 put-record-requires c κs = let p = c .before .before .before .before .before .pre in (p .0, p .1, p .2, p .3 (c .before .if1 .left))

@@ -1,4 +1,5 @@
 use borrow.Author.Needs.{needs}
+use native.Mathlib.Omega.{arith}
 use borrow.Author.Tests.{not-true, not-false}
 use Rattle.check_tree.proofs.Answering.{tree-own, step-junctions, step-counts, step-needs, step-yards, step-beside, step-untrue, step-true}
 use Rattle.check_tree.proofs.tree_refusal.Statement.{statement}
@@ -35,7 +36,7 @@ returns-2 c =
     let o = j .before .before in
     let r = o .before .before .before .before in
     let p = r .before .before .before .before .before .before .pre in
-    step-junctions _ _ _ (p .0) (p .1) _ _ (r .read .ensures .0) (o .o .given .1) _ (j .junctions .ensures) (c .if1 .taken)
+    step-junctions _ _ _ (p .0) (p .1) _ _ (r .read .ensures .0) (o .o .given .1) _ (j .junctions .ensures) (λ e. omega (arith, e, c .if1 .taken))
 
 count-requires : tie.Need-count-requires
 count-requires c κs = c .before .before .before .before .before .before .before .before .before .before .before .before .before .before .pre .1
@@ -47,8 +48,8 @@ returns-3 c =
     let o = j .before .before in
     let r = o .before .before .before .before in
     let p = r .before .before .before .before .before .before .pre in
-    step-counts _ _ _ (p .0) (p .1) _ _ (r .read .ensures .0) (o .o .given .1) _ (j .junctions .ensures) (t .if1 .left) _ (c .before .before .count .ensures)
-    (c .if2 .taken)
+    step-counts _ _ _ (p .0) (p .1) _ _ (r .read .ensures .0) (o .o .given .1) _ (j .junctions .ensures) (omega (arith, t .if1 .left)) _ (c .before .before .count .ensures)
+    (λ e. omega (arith, e, c .if2 .taken))
 
 yards-known-requires : tie.Need-yards-known-requires
 yards-known-requires c κs =
@@ -65,8 +66,8 @@ returns-4 c =
     let o = j .before .before in
     let r = o .before .before .before .before in
     let p = r .before .before .before .before .before .before .pre in
-    step-yards _ _ _ (p .0) (p .1) _ _ (r .read .ensures .0) (o .o .given .1) _ (j .junctions .ensures) (t .if1 .left) _ (y .before .before .count .ensures)
-    (y .if2 .left) _ (c .before .yards-known .ensures) (not-true _ (c .if3 .taken))
+    step-yards _ _ _ (p .0) (p .1) _ _ (r .read .ensures .0) (o .o .given .1) _ (j .junctions .ensures) (omega (arith, t .if1 .left)) _ (y .before .before .count .ensures)
+    (omega (arith, y .if2 .left)) _ (c .before .yards-known .ensures) (not-true _ (c .if3 .taken))
 
 numbers-true-requires : tie.Need-numbers-true-requires
 numbers-true-requires c κs =
@@ -76,8 +77,8 @@ numbers-true-requires c κs =
     let o = j .before .before in
     let r = o .before .before .before .before in
     let p = r .before .before .before .before .before .before .pre in
-    step-beside _ _ _ (p .0) (p .1) _ _ (r .read .ensures .0) (o .o .given .1) _ (j .junctions .ensures) (t .if1 .left) _ (y .before .before .count .ensures)
-    (y .if2 .left) _ (c .before .yards-known .ensures) (not-false _ (c .if3 .left))
+    step-beside _ _ _ (p .0) (p .1) _ _ (r .read .ensures .0) (o .o .given .1) _ (j .junctions .ensures) (omega (arith, t .if1 .left)) _ (y .before .before .count .ensures)
+    (omega (arith, y .if2 .left)) _ (c .before .yards-known .ensures) (not-false _ (c .if3 .left))
 
 returns-5 : tie.Need-returns-5
 returns-5 c =
@@ -88,8 +89,8 @@ returns-5 c =
     let o = j .before .before in
     let r = o .before .before .before .before in
     let p = r .before .before .before .before .before .before .pre in
-    λ road a. step-untrue _ _ _ (p .0) (p .1) _ _ (r .read .ensures .0) (o .o .given .1) _ (j .junctions .ensures) (t .if1 .left) _
-    (y .before .before .count .ensures) (y .if2 .left) _ (k .before .yards-known .ensures) (not-false _ (k .if3 .left)) _ road a
+    λ road a. step-untrue _ _ _ (p .0) (p .1) _ _ (r .read .ensures .0) (o .o .given .1) _ (j .junctions .ensures) (omega (arith, t .if1 .left)) _
+    (y .before .before .count .ensures) (omega (arith, y .if2 .left)) _ (k .before .yards-known .ensures) (not-false _ (k .if3 .left)) _ road a
     (c .before .numbers-true .ensures road a) (not-true _ (c .if4 .taken))
 
 returns-6 : tie.Need-returns-6
@@ -101,8 +102,8 @@ returns-6 c =
     let o = j .before .before in
     let r = o .before .before .before .before in
     let p = r .before .before .before .before .before .before .pre in
-    λ road a. step-true _ _ _ (p .0) (p .1) _ _ (r .read .ensures .0) (o .o .given .1) _ (j .junctions .ensures) (t .if1 .left) _
-    (y .before .before .count .ensures) (y .if2 .left) _ (k .before .yards-known .ensures) (not-false _ (k .if3 .left)) _ road a
+    λ road a. step-true _ _ _ (p .0) (p .1) _ _ (r .read .ensures .0) (o .o .given .1) _ (j .junctions .ensures) (omega (arith, t .if1 .left)) _
+    (y .before .before .count .ensures) (omega (arith, y .if2 .left)) _ (k .before .yards-known .ensures) (not-false _ (k .if3 .left)) _ road a
     (c .before .numbers-true .ensures road a) (not-false _ (c .if4 .left))
 
 pub tree-refusal-spec : {M : Type 1} → statement M

@@ -6,7 +6,7 @@ use Rattle.finder.proofs.finder_check.Statement.{statement}
 use Rattle.finder.proofs.finder_check.Tie as tie
 
 check-requires : tie.Need-check-requires
-check-requires c κs = search needs
+check-requires c κs = tt
 
 cast-result : tie.Need-cast-result
 cast-result c = search needs
@@ -17,7 +17,8 @@ same-length c = search needs
 returns : tie.Need-returns
 returns c =
     let entry = c .before .before .before .before .before in
-    (search needs, (search needs, (lent-bytes _ (λ i. omega (arith, entry .before .before .shared-slice-known .given i)), lent-bytes _ (λ i. omega (arith, entry .before .shared-slice-known2 .given i)), lent-bytes _ (λ i. omega (arith, entry .shared-slice-known3 .given i)))))
+    let e = c .before .before .check .ensures in
+    (e .0, (e .1, (lent-bytes _ (λ i. omega (arith, entry .before .before .shared-slice-known .given i)), lent-bytes _ (λ i. omega (arith, entry .before .shared-slice-known2 .given i)), lent-bytes _ (λ i. omega (arith, entry .shared-slice-known3 .given i)))))
 
 pub finder-check-spec : {M : Type 1} → statement M
 finder-check-spec = tie.close (tie.spec check-requires cast-result same-length returns)

@@ -6,7 +6,7 @@ use Rattle.finder.proofs.finder_search.Statement.{statement}
 use Rattle.finder.proofs.finder_search.Tie as tie
 
 search-requires : tie.Need-search-requires
-search-requires c κs = search needs
+search-requires c κs = tt
 
 same-length : tie.Need-same-length
 same-length c = search needs
@@ -17,7 +17,8 @@ same-length-2 c = search needs
 returns : tie.Need-returns
 returns c =
     let entry = c .before .before .before .before .before .before .before .before .before in
-    (search needs, (search needs, (search needs, (lent-bytes _ (λ i. omega (arith, entry .before .before .shared-slice-known .given i)), lent-bytes _ (λ i. omega (arith, entry .before .shared-slice-known2 .given i)), lent-bytes _ (λ i. omega (arith, entry .shared-slice-known3 .given i))))))
+    let e = c .before .before .before .before .search .ensures in
+    (e .0, (e .1 .0, (e .1 .1, (lent-bytes _ (λ i. omega (arith, entry .before .before .shared-slice-known .given i)), lent-bytes _ (λ i. omega (arith, entry .before .shared-slice-known2 .given i)), lent-bytes _ (λ i. omega (arith, entry .shared-slice-known3 .given i))))))
 
 pub finder-search-spec : {M : Type 1} → statement M
 finder-search-spec = tie.close (tie.spec search-requires same-length same-length-2 returns)

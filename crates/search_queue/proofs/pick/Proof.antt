@@ -62,8 +62,8 @@ loop-again-2 c =
     let l = c .before .before .before .before .before .loop in
     let h = c .before .before .before .before .loop-test .taken in (
       omega arith,
-      ⊎-elim (λ w. picked-less _ (l .j) (l .p) (l .least) (l .inv .1) h _ _ (w .1) (w .2) (w .0 .taken))
-          (λ w. picked-same _ (l .j) (l .p) (l .least) (l .inv .1) h _ _ (w .1) (w .2) (w .0 .left)) (c .if3 .came),
+      ⊎-elim (λ w. picked-less _ (l .j) (l .p) (l .least) (l .inv .1) h _ _ (w .1) (w .2) (omega (arith, w .0 .taken)))
+          (λ w. picked-same _ (l .j) (l .p) (l .least) (l .inv .1) h _ _ (w .1) (w .2) (omega (arith, w .0 .left))) (c .if3 .came),
     )
 
 returns-2 : tie.Need-returns-2 Inv-loop μ-loop

@@ -25,12 +25,12 @@ u16-at-requires c κs = search needs
 returns : tie.Need-returns Inv-loop μ-loop
 returns c =
     let w = c .before in
-    sym (list-far _ _ (omega arith) _ _ (w .before .u32-at .ensures) (w .u16-at .ensures) (c .if1 .taken))
+    sym (list-far _ _ (omega arith) _ _ (w .before .u32-at .ensures) (w .u16-at .ensures) (omega (arith, c .if1 .taken)))
 
 loop-holds : tie.Need-loop-holds Inv-loop μ-loop
 loop-holds c =
     let w = c .before in
-    (omega arith, list-start _ _ (omega arith) _ _ (w .before .u32-at .ensures) (w .u16-at .ensures) (c .if1 .left))
+    (omega arith, list-start _ _ (omega arith) _ _ (w .before .u32-at .ensures) (w .u16-at .ensures) (omega (arith, c .if1 .left)))
 
 mul-u32-at : tie.Need-mul-u32-at Inv-loop μ-loop
 mul-u32-at c = search needs
@@ -51,7 +51,7 @@ returns-2 : tie.Need-returns-2 Inv-loop μ-loop
 returns-2 c =
     let w = c .before in
     let i = w .before .before in
-    sym (list-limit _ _ _ _ _ _ _ (i .loop-test .taken) (w .before .u32-at2 .ensures) (w .u16-at2 .ensures) (c .if2 .taken)) ∙ i .before .loop .inv .1
+    sym (list-limit _ _ _ _ _ _ _ (i .loop-test .taken) (w .before .u32-at2 .ensures) (w .u16-at2 .ensures) (omega (arith, c .if2 .taken))) ∙ i .before .loop .inv .1
 
 after-requires : tie.Need-after-requires Inv-loop μ-loop
 after-requires c κs = search needs
@@ -76,7 +76,7 @@ loop-again c =
     let w = v .before in
     let i = w .before .before in (
       omega arith,
-      list-next _ _ _ _ _ _ _ (i .loop-test .taken) (w .before .u32-at2 .ensures) (w .u16-at2 .ensures) (v .if2 .left) (sym (c .before .after .ensures)
+      list-next _ _ _ _ _ _ _ (i .loop-test .taken) (w .before .u32-at2 .ensures) (w .u16-at2 .ensures) (omega (arith, v .if2 .left)) (sym (c .before .after .ensures)
           ∙ not-false _ (c .if3 .left))
           ∙ i .before .loop .inv .1,
     )

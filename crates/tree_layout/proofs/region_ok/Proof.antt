@@ -42,13 +42,13 @@ returns : tie.Need-returns
 returns c =
     let w = c .before in
     sym (region-empty _ _ _ _ _ _ _ _ (w .before .before .before .u16-at .ensures) (w .before .before .u16-at2 .ensures) (w .before .u8-at .ensures) (w
-    .u16-at3 .ensures) (c .if1 .taken))
+    .u16-at3 .ensures) (omega (arith, c .if1 .taken)))
 
 returns-2 : tie.Need-returns-2
 returns-2 c =
     let w = c .before .before in
     sym (region-past _ _ _ _ _ _ _ _ (w .before .before .before .u16-at .ensures) (w .before .before .u16-at2 .ensures) (w .before .u8-at .ensures) (w .u16-at3
-    .ensures) (c .before .if1 .left) (c .if2 .taken))
+    .ensures) (omega (arith, c .before .if1 .left)) (omega (arith, c .if2 .taken)))
 
 children-ok-requires : tie.Need-children-ok-requires
 children-ok-requires c κs = search needs
@@ -57,14 +57,14 @@ returns-3 : tie.Need-returns-3
 returns-3 c =
     let w = c .before .before .before .before in
     sym (region-children _ _ _ _ _ _ _ _ (w .before .before .before .u16-at .ensures) (w .before .before .u16-at2 .ensures) (w .before .u8-at .ensures) (w
-    .u16-at3 .ensures) (c .before .before .before .if1 .left) (c .before .before .if2 .left)
+    .u16-at3 .ensures) (omega (arith, c .before .before .before .if1 .left)) (omega (arith, c .before .before .if2 .left))
     (sym (c .before .children-ok .ensures) ∙ not-true _ (c .if3 .taken)))
 
 returns-4 : tie.Need-returns-4
 returns-4 c =
     let w = c .before .before .before .before .before in
     sym (region-none _ _ _ _ _ _ _ _ (w .before .before .before .u16-at .ensures) (w .before .before .u16-at2 .ensures) (w .before .u8-at .ensures) (w .u16-at3
-    .ensures) (c .before .before .before .before .if1 .left) (c .before .before .before .if2 .left)
+    .ensures) (omega (arith, c .before .before .before .before .if1 .left)) (omega (arith, c .before .before .before .if2 .left))
     (sym (c .before .before .children-ok .ensures) ∙ not-false _ (c .before .if3 .left)) (c .if4 .taken))
 
 add-lists-ok : tie.Need-add-lists-ok
@@ -82,7 +82,7 @@ returns-5 c =
     let w = v .before .before .before .before .before in
     c .lists-ok .ensures
     ∙ sym (region-leaf _ _ _ _ _ _ _ _ (w .before .before .before .u16-at .ensures) (w .before .before .u16-at2 .ensures) (w .before .u8-at .ensures) (w
-    .u16-at3 .ensures) (v .before .before .before .before .if1 .left) (v .before .before .before .if2 .left)
+    .u16-at3 .ensures) (omega (arith, v .before .before .before .before .if1 .left)) (omega (arith, v .before .before .before .if2 .left))
     (sym (v .before .before .children-ok .ensures) ∙ not-false _ (v .before .if3 .left)) (v .if4 .left) (c .before .if5 .taken))
 
 add-spans-ok : tie.Need-add-spans-ok
@@ -100,7 +100,7 @@ returns-6 c =
     let w = v .before .before .before .before .before in
     c .spans-ok .ensures
     ∙ sym (region-inner _ _ _ _ _ _ _ _ (w .before .before .before .u16-at .ensures) (w .before .before .u16-at2 .ensures) (w .before .u8-at .ensures) (w
-    .u16-at3 .ensures) (v .before .before .before .before .if1 .left) (v .before .before .before .if2 .left)
+    .u16-at3 .ensures) (omega (arith, v .before .before .before .before .if1 .left)) (omega (arith, v .before .before .before .if2 .left))
     (sym (v .before .before .children-ok .ensures) ∙ not-false _ (v .before .if3 .left)) (v .if4 .left) (c .before .if5 .left))
 
 pub region-ok-spec : {M : Type 1} → statement M

@@ -49,8 +49,8 @@ loop-again c =
     let l = c .before .before .before .before .loop in
     let e = words-by _ _ _ _ (l .k) _ _ (c .before .before .before .loop-test .taken) (c .before .before .element2 .ensures) (c .before .word-of2 .ensures) in (
       omega arith,
-      ⊎-elim (λ w. scanned-on (l .inv .1) _ e _ _ (w .1) (w .2) (w .0 .taken))
-          (λ w. scanned-still (l .inv .1) _ e _ _ (w .1) (w .2) (w .0 .left)) (c .if1 .came),
+      ⊎-elim (λ w. scanned-on (l .inv .1) _ e _ _ (w .1) (w .2) (omega (arith, w .0 .taken)))
+          (λ w. scanned-still (l .inv .1) _ e _ _ (w .1) (w .2) (omega (arith, w .0 .left))) (c .if1 .came),
     )
 
 returns : tie.Need-returns Inv-loop μ-loop

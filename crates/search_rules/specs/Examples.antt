@@ -1,0 +1,118 @@
+-- Worked examples of rules that only their definitions fix, each value computed by hand from the paper. Assumes
+-- nothing: these are definitions and statements.
+use mathlib.Core.Path.{_≡_}
+use mathlib.Core.List.{List, [], _∷_, _++_}
+use Prim.Native.Nat.{ℕ}
+use lib.ListN.{length, getD}
+use Rattle.tree_layout.specs.Values.{Element, Mark, Region, leafMark, innerMark}
+use Rattle.search_rules.specs.Instance.{Instance}
+use Rattle.search_rules.specs.Bounds.{absDiff, bound, weight, chosen, f, yardBound}
+use Rattle.search_rules.specs.Queue.{unqueued}
+use Rattle.search_rules.specs.Run.{run}
+
+-- ---- junctions in a chain
+
+-- a search on a chain of junctions, given by each one's distance from junction 0
+unfoldable pub onChain : List ℕ → (code k : ℕ) → (crews : List ℕ) → (yards : ℕ) → List Region → Instance
+onChain along code k crews yards regions = record {
+  code = code;
+  k = k;
+  crews = crews;
+  tree = record { junctions = length along; yards = yards; landmarks = 1; regions = regions };
+  d = λ u v. absDiff (getD along u 0) (getD along v 0);
+}
+
+-- a list's element
+unfoldable pub at : (distance yard : ℕ) → Element
+at distance yard = record { distance = distance; yard = yard }
+
+-- a leaf of junctions from first up to after
+unfoldable pub leafOf : (first after : ℕ) → List Mark → List Element → Region
+leafOf first after marks list = record {
+  first = first;
+  after = after;
+  children = 0;
+  yards = length list;
+  marks = marks;
+}
+
+-- "Chain of three, seconds 1 and 1, yards 0 and 2, crew 1, k 1", one leaf with some landmarks
+unfoldable pub three : List Mark → Instance
+three marks = onChain (0 ∷ 1 ∷ 2 ∷ []) 0 1 (1 ∷ []) 2 (leafOf 0 3 marks (at 0 0 ∷ at 2 2 ∷ []) ∷ [])
+
+-- its landmarks at junction 0 and at junction 2
+unfoldable pub from0 : Mark
+from0 = leafMark 0 (at 0 0 ∷ at 2 2 ∷ [])
+
+unfoldable pub from2 : Mark
+from2 = leafMark 2 (at 0 2 ∷ at 2 0 ∷ [])
+
+-- A chain of three, seconds 6 and 4, yards 1 and 2, two crews at junction 0 and one at junction 2; one leaf with
+-- landmarks at junction 0 and at junction 1.
+unfoldable pub heavy : (code : ℕ) → Instance
+heavy code = onChain (0 ∷ 6 ∷ 10 ∷ []) code 1 (0 ∷ 0 ∷ 2 ∷ []) 2
+    (leafOf 0 3 (leafMark 0 (at 6 1 ∷ at 10 2 ∷ []) ∷ leafMark 1 (at 0 1 ∷ at 4 2 ∷ []) ∷ []) (at 6 1 ∷ at 10 2 ∷ [])
+    ∷ [])
+
+-- A chain of six, seconds 2, 4, 4, 2, 8: junctions at 0, 2, 6, 10, 12 and 20. Crew 1, sum, k 1. The root's landmark is
+-- junction 0, with A 10 and B 20; its children are a leaf with yards 3 and 4, whose landmark is junction 2, and a leaf
+-- with yard 5, its own landmark.
+unfoldable pub near : Mark
+near = leafMark 2 (at 4 3 ∷ at 6 4 ∷ [])
+
+unfoldable pub six : Instance
+six = onChain (0 ∷ 2 ∷ 6 ∷ 10 ∷ 12 ∷ 20 ∷ []) 0 1 (1 ∷ []) 3
+    (record { first = 0; after = 6; children = 2; yards = 3; marks = innerMark 0 10 20 ∷ [] }
+    ∷ leafOf 0 5 (near ∷ []) (at 4 3 ∷ at 6 4 ∷ []) ∷ leafOf 5 6 (leafMark 5 (at 0 5 ∷ []) ∷ []) (at 0 5 ∷ []) ∷ [])
+
+-- ---- what is seen of a search after some steps
+
+-- the regions' words
+unfoldable pub regionKeysAfter : Instance → ℕ → List ℕ
+regionKeysAfter i n = run i n .state .regionKeys
+
+-- the yards' words, by junction
+unfoldable pub yardKeysAfter : Instance → ℕ → List ℕ
+yardKeysAfter i n = run i n .state .yardKeys
+
+-- the measured yards
+unfoldable pub measuredAfter : Instance → ℕ → List ℕ
+measuredAfter i n = run i n .state .measured
+
+-- ---- the values
+
+pub record Worked : Type 0 where
+  -- "its landmark with greatest sum of LB over crews, ties to the first": on the chain of three both landmarks are 1
+  -- from the crew
+  pub tied-weights : weight (three (from0 ∷ from2 ∷ [])) from0 ∷ weight (three (from0 ∷ from2 ∷ [])) from2 ∷ []
+      ≡ 1 ∷ 1 ∷ []
+  pub first-landmark : chosen (three (from0 ∷ from2 ∷ [])) 0 .place ∷ chosen (three (from2 ∷ from0 ∷ [])) 0 .place ∷ []
+      ≡ 0 ∷ 2 ∷ []
+  -- By the sum also under the maximum (code 1): junction 0 has LB 0, 0, 10, sum 10; junction 1 has 6, 6, 4, sum 16. By
+  -- the maximum, 10 against 6, it would be junction 0.
+  pub by-sum : chosen (heavy 1) 0 .place ∷ chosen (heavy 0) 0 .place ∷ [] ≡ 1 ∷ 1 ∷ []
+  -- The regions' bounds on the chain of six. Root: LB 2, UB 2, A 10: 10 − 2. First leaf: LB 4, UB 8, A 4, B 6: 0.
+  -- Second leaf: LB 18, B 0: 18.
+  pub bounds : bound six 0 ∷ bound six 1 ∷ bound six 2 ∷ [] ≡ 8 ∷ 0 ∷ 18 ∷ []
+  -- "f, the aggregate of |d(l, q) − d(l, p)|": |4 − 4| and |4 − 6|
+  pub by-landmark : f six near (at 4 3) ∷ f six near (at 6 4) ∷ [] ≡ 0 ∷ 2 ∷ []
+  -- "A yard's bound takes per crew the greatest of these differences over the sheet's landmarks and l": the sheet's
+  -- landmark, junction 0, gives |10 − 2| and |12 − 2|, more than l's 0 and 2
+  pub by-table : yardBound six near (at 4 3) ∷ yardBound six near (at 6 4) ∷ [] ≡ 8 ∷ 10 ∷ []
+  -- "The queue starts with the root." Step 1 takes it: "A region's key is the greater of this and its parent's key":
+  -- 8 and 18
+  pub step-1 : regionKeysAfter six 1 ≡ unqueued ∷ 8 ∷ 18 ∷ []
+  -- Step 2 takes the first leaf: yard 3 has the least f, and key 8. "itself, with the greater of its first key and the
+  -- next f": of 8 and 2.
+  pub step-2 : regionKeysAfter six 2 ++ yardKeysAfter six 2
+      ≡ (unqueued ∷ 8 ∷ 18 ∷ []) ++ unqueued ∷ unqueued ∷ unqueued ∷ 8 ∷ unqueued ∷ unqueued ∷ []
+  -- "at equal keys a region precedes a yard": step 3 takes the leaf, and not yard 3, both at 8; yard 4 gets the greater
+  -- of its bound 10 and 8, and none remains
+  pub step-3 : regionKeysAfter six 3 ++ yardKeysAfter six 3
+      ≡ (unqueued ∷ unqueued ∷ 18 ∷ []) ++ unqueued ∷ unqueued ∷ unqueued ∷ 8 ∷ 10 ∷ unqueued ∷ []
+  pub none-measured : measuredAfter six 3 ≡ []
+  -- Step 4 measures yard 3.
+  pub step-4 : measuredAfter six 4 ≡ 3 ∷ []
+  -- Where the next f is the greater: on the chain of three the first key is 0, and both f are 1.
+  pub by-next : regionKeysAfter (three (from0 ∷ [])) 1 ++ yardKeysAfter (three (from0 ∷ [])) 1
+      ≡ (1 ∷ []) ++ 1 ∷ unqueued ∷ unqueued ∷ []
