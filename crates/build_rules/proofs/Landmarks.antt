@@ -1,5 +1,5 @@
 -- A region's landmarks: m of them, in its range. Assumes nothing.
-use mathlib.Core.Path.{_≡_, refl, ap}
+use mathlib.Core.Path.{_≡_, refl, ap, _∙_}
 use mathlib.Core.Logic.{_⊎_, inl, inr}
 use mathlib.Core.Bool.{true, false, _&&_, _||_}
 use mathlib.Core.List.{List, [], _∷_, List·Memᴰ as Mem, List·Memᴰ·not-nil as not-nil, List·Memᴰ·cases-cons as cases-cons}
@@ -9,6 +9,7 @@ use native.Mathlib.Decide.{ℕ-discrete}
 use native.Mathlib.Omega.{arith}
 use lib.ListN.{length, getD}
 use lib.Dec.{T, ltb, leb, eqb, not-T, leb→le, ltb→lt, le→leb, lt→ltb}
+use Rattle.book.specs.Choose.{choose}
 use Rattle.book.proofs.Choosing.{choose-case, choose-yes, choose-no, T-true, T-false, true-T, false-T}
 use Rattle.book.proofs.Lists.{or-left, or-right, or-cases, eq→eqb, ne→neqb, getD-mem}
 use Rattle.road_layout.specs.Road.{Road}
@@ -32,13 +33,16 @@ borders-range roads a s (suc n) v b k =
 
 -- ---- one landmark
 
-pub landmark-none : (m a s : ℕ) (bs : List ℕ) (j : ℕ) → length bs ≡ 0 → landmark m a s bs j ≡ a + j * s / m
-unfolding landmark
-landmark-none m a s bs j e = choose-yes (eqb (length bs) 0) _ _ (eq→eqb (length bs) 0 e)
+module _ (m a s : ℕ) (bs : List ℕ) (j : ℕ) where
+  landmark-is : landmark m a s bs j ≡ choose (eqb (length bs) 0) (a + j * s / m) (getD bs (j * length bs / m) 0)
+  unfolding landmark
+  landmark-is = refl
 
-pub landmark-some : (m a s : ℕ) (bs : List ℕ) (j : ℕ) → 0 < length bs → landmark m a s bs j ≡ getD bs (j * length bs / m) 0
-unfolding landmark
-landmark-some m a s bs j h = choose-no (eqb (length bs) 0) _ _ (ne→neqb (length bs) 0 (omega arith))
+  pub landmark-none : length bs ≡ 0 → landmark m a s bs j ≡ a + j * s / m
+  landmark-none e = landmark-is ∙ choose-yes (eqb (length bs) 0) _ _ (eq→eqb (length bs) 0 e)
+
+  pub landmark-some : 0 < length bs → landmark m a s bs j ≡ getD bs (j * length bs / m) 0
+  landmark-some h = landmark-is ∙ choose-no (eqb (length bs) 0) _ _ (ne→neqb (length bs) 0 (omega arith))
 
 -- floor(j × x / m) is below x
 pub share : (j m x : ℕ) → j < m → 0 < x → j * x / m < x
