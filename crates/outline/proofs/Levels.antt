@@ -14,7 +14,7 @@ module _ (f g : ℕ → ℕ) (i : ℕ) (same : (x : ℕ) → x ≤ i → f x ≡
   counted (suc k) j n e p q =
       let one = choose {A = ℕ} (ltb i (f j)) 1 0 in
       counted k (j + 1) (n + one) (omega arith) (level-next f i n j (f j) one (omega arith) refl refl p) (level-next g i n j (f j) one (omega arith) (same j (omega
-          arith)) refl q)
+      arith)) refl q)
 
   pub level-same : levelBy f i ≡ levelBy g i
   level-same = counted (i + 1) 0 0 (omega arith) (level-start f i) (level-start g i)

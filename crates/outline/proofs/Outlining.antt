@@ -62,8 +62,12 @@ module _ (b : List ℕ) (o : Tree) (h : Header) (read : o ≡ treeOf b) (shaped 
   unfolding outlineText
   shaped-text =
       let same = shaped-found b o h read shaped .1 in
-      cc (choose-yes (eqb (treeRefusal b) 0) (headerText (headerOf b) ++ inTurn (regionText b) (regionCount b)) (refusedText (treeRefusal b))
-      (eq→eqb (treeRefusal b) 0 accepted), same, count)
+      cc (
+        choose-yes (eqb (treeRefusal b) 0) (headerText (headerOf b) ++ inTurn (regionText b) (regionCount b)) (refusedText (treeRefusal b))
+            (eq→eqb (treeRefusal b) 0 accepted),
+        same,
+        count,
+      )
 
 -- the text of one that is refused
 pub refused-text : (b : List ℕ) (o : Tree) (w why : ℕ) → o ≡ treeOf b → o ≡ Refused w → why ≡ treeNumber o → refusedText why ≡ outlineText b

@@ -29,7 +29,7 @@ same-length-3 : tie.Need-same-length-3
 same-length-3 c = search needs
 
 returns : tie.Need-returns
-returns c = 
+returns c =
     let f = c .before .before .before .before .before .before .before .before .before .before .before .before .before .build-checked in
     let e = f .ensures in
     let s = c .before .before .before .before .finder-search .ensures in

@@ -14,7 +14,7 @@ same-length-2 : tie.Need-same-length-2
 same-length-2 c = search needs
 
 returns : tie.Need-returns
-returns c = 
+returns c =
     let e = c .before .before .before .before .before .before .finder-build .ensures in
     (e .0, (e .1 .0, (kept-again _ _ _ _ (c .before .before .before .before .before .before .before .before .before .before .before .before .before .args .work .now) (c .before .before .before .before .before .before .before .before .before .before .before .before .before .args .tree .now) _ (e .0) (c .if1 .taken) _ (e .1 .1 .0), e .1 .1 .1)))
 
@@ -37,14 +37,13 @@ same-length-4 : tie.Need-same-length-4
 same-length-4 c = search needs
 
 returns-2 : tie.Need-returns-2
-returns-2 c = 
+returns-2 c =
     let f = c .before .before .before .before .before .before .before .before .before .before .before .before .finder-build in
     let e = f .ensures in
     let k = c .before .before .finder-check .ensures in
     let later = f .last .1 .1 .1 .1 .0 in
     let kept = f .kept .1 .1 .1 .1 .0 in
-    let same = check-is _ _ _ _ (c .before .before .before .before .before .before .before .before .before .before .before .before .before .before .before .before .before .before .before .args .work .now) (c .before .before .before .before .before .before .before .before .before .before .before .before .before .before .before .before .before .before .before .args .tree .now) _ _ (e .1 .0) (e .1 .1 .1) _ (e .0) (c .before .before .before .before .before .before .if1 .left) later kept in
-    (
+    let same = check-is _ _ _ _ (c .before .before .before .before .before .before .before .before .before .before .before .before .before .before .before .before .before .before .before .args .work .now) (c .before .before .before .before .before .before .before .before .before .before .before .before .before .before .before .before .before .before .before .args .tree .now) _ _ (e .1 .0) (e .1 .1 .1) _ (e .0) (c .before .before .before .before .before .before .if1 .left) later kept in (
       k .0 ∙ same,
       (e .1 .0, (work-is _ _ _ _ (c .before .before .before .before .before .before .before .before .before .before .before .before .before .before .before .before .before .before .before .args .work .now) (c .before .before .before .before .before .before .before .before .before .before .before .before .before .before .before .before .before .before .before .args .tree .now) _ _ (e .1 .0) (e .1 .1 .1) _ (e .0) (c .before .before .before .before .before .before .if1 .left) later kept _ (e .1 .1 .0) (k .1), e .1 .1 .1)),
     )

@@ -25,7 +25,7 @@ same-length : tie.Need-same-length
 same-length c = search needs
 
 returns : tie.Need-returns
-returns c = 
+returns c =
     let p = c .before .before .put-refused .ensures in
     let r = c .before .before .before .before .before .before .before .read .ensures in
     (append-whole (p .0) ∙ refused-is _ _ _ (r .0) (c .before .before .before .before .before .number .ensures) (c .before .before .before .before .if1 .taken), omega (arith, p .1))
@@ -34,7 +34,7 @@ slice-aggregate-rows : tie.Need-slice-aggregate-rows
 slice-aggregate-rows c = search needs
 
 rows-requires : tie.Need-rows-requires
-rows-requires c κs = 
+rows-requires c κs =
     let r = c .before .before .before .before .before .read .ensures in
     let none = sym (why-is _ _ _ (r .0) (c .before .before .before .number .ensures)) ∙ c .before .before .if1 .left in
     (record { book = _; adjacent = r .1 none }, c .before .before .before .before .before .before .before .before .before .pre)
@@ -43,7 +43,7 @@ same-length-2 : tie.Need-same-length-2
 same-length-2 c = search needs
 
 returns-2 : tie.Need-returns-2
-returns-2 c = 
+returns-2 c =
     let r = c .before .before .before .before .before .before .before .before .read .ensures in
     let n = c .before .before .before .before .before .before .number .ensures in
     let none = sym (why-is _ _ _ (r .0) n) ∙ c .before .before .before .before .before .if1 .left in

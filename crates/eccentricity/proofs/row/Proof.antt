@@ -30,7 +30,7 @@ slice-aggregate-furthest : tie.Need-slice-aggregate-furthest
 slice-aggregate-furthest c = search needs
 
 furthest-requires : tie.Need-furthest-requires
-furthest-requires c κs = 
+furthest-requires c κs =
     let few = few-junctions (c .before .before .before .before .before .before .before .before .before .before .before .before .before .pre .0 .adjacent) in
     omega (arith, few, c .before .before .before .before .before .before .before .junctions .ensures, c .before .before .before .before .before .before .before .before .before .distances .kept)
 
@@ -44,7 +44,7 @@ slice-aggregate-total : tie.Need-slice-aggregate-total
 slice-aggregate-total c = search needs
 
 total-requires : tie.Need-total-requires
-total-requires c κs = 
+total-requires c κs =
     let few = few-junctions (c .before .before .before .before .before .before .before .before .before .before .before .before .before .before .before .before .before .before .before .before .pre .0 .adjacent) in
     let e = c .before .before .before .before .before .before .before .before .before .before .before .before .before .before .junctions .ensures in
     (omega (arith, few, e, c .before .before .before .before .before .before .before .before .before .before .before .before .before .before .before .before .distances .kept), omega (arith, few, e))
@@ -60,13 +60,12 @@ same-length c = search needs
 
 returns : tie.Need-returns
 unfolding lineOf
-returns c = 
+returns c =
     let p = c .before .before .before .before .before .before .before .before .before .before .before .before .before .before .before .before .put-number .ensures in
     let q = c .before .before .before .before .before .before .before .before .before .put-number2 .ensures in
     let r = c .before .before .put-number3 .ensures in
     let d = c .before .before .before .before .before .before .before .before .before .before .before .before .before .before .before .before .before .before .before .before .before .distances .ensures in
-    let n = c .before .before .before .before .before .before .before .before .before .before .before .before .before .before .before .before .before .before .before .junctions .ensures in
-    (
+    let n = c .before .before .before .before .before .before .before .before .before .before .before .before .before .before .before .before .before .before .before .junctions .ensures in (
       λ b ad.
           append-as (row-is b _ _ _ _ _ (d b ad) (n ∙ ad .count) (c .before .before .before .before .before .before .before .before .before .before .before .furthest .ensures) (c .before .before .before .before .total .ensures))
           (append-then (append-then (p .0) (q .0)) (r .0)),

@@ -15,7 +15,7 @@ use Rattle.eccentricity.proofs.rows.Statement.{statement}
 use Rattle.eccentricity.proofs.rows.Tie as tie
 
 abbrev Inv-loop : tie.InvT-loop
-Inv-loop out₀ adj n end₀ u₀ out end u = 
+Inv-loop out₀ adj n end₀ u₀ out end u =
     (u ≤ n) × (length out ≡ length out₀) × (end ≤ end₀ + 63 * u)
     × ((b : List ℕ) → Adjacency b adj → Appended out₀ end₀ (inTurn (rowText b) u) out end)
 
@@ -35,7 +35,7 @@ loop-holds : tie.Need-loop-holds Inv-loop μ-loop
 loop-holds c = (search needs, refl, omega arith, λ b ad. turns-none _ _ _)
 
 row-requires : tie.Need-row-requires Inv-loop μ-loop
-row-requires c κs = 
+row-requires c κs =
     let p = c .before .before .before .before .before .before .before .before .before .before .before .pre in
     let l = c .before .before .loop in
     let few = few-junctions (p .0 .adjacent) in
@@ -50,7 +50,7 @@ loop-less : tie.Need-loop-less Inv-loop μ-loop
 loop-less c = search needs
 
 loop-again : tie.Need-loop-again Inv-loop μ-loop
-loop-again c = 
+loop-again c =
     let l = c .before .before .before .before .before .loop in
     let w = c .before .before .row in
     (omega arith, w .kept .0 ∙ l .inv .1, omega (arith, l .inv .2, w .ensures .1), λ b ad. turns-more (rowText b) (l .inv .3 b ad) (w .ensures .0 b ad))
@@ -59,12 +59,11 @@ same-length : tie.Need-same-length Inv-loop μ-loop
 same-length c = c .before .loop .inv .1 ∙ c .before .before .before .before .put .kept .0
 
 returns : tie.Need-returns Inv-loop μ-loop
-returns c = 
+returns c =
     let l = c .before .loop in
     let n = c .before .before .before .before .before .before .before .junctions .ensures in
     let h = c .before .before .before .before .put .ensures in
-    let few = few-junctions (c .before .before .before .before .before .before .before .before .before .before .pre .0 .adjacent) in
-    (
+    let few = few-junctions (c .before .before .before .before .before .before .before .before .before .before .pre .0 .adjacent) in (
       λ b ad.
           let all : l .u ≡ junctions b = omega (arith, c .loop-test .left, l .inv .0, n, ad .count) in
           table-held b h (l .inv .3 b ad) all,

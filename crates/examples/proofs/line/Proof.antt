@@ -21,7 +21,7 @@ same-length : tie.Need-same-length
 same-length c = search needs
 
 returns : tie.Need-returns
-returns c = 
+returns c =
     let p = c .before .before .before .before .before .before .before .before .before .before .before .before .put .ensures in
     let q = c .before .before .before .before .before .before .before .before .put-number .ensures in
     let r = c .before .before .put2 .ensures in
@@ -34,7 +34,7 @@ same-length-2 : tie.Need-same-length-2
 same-length-2 c = search needs
 
 returns-2 : tie.Need-returns-2
-returns-2 c = 
+returns-2 c =
     let p = c .before .before .before .before .before .before .before .before .before .before .before .put .ensures in
     let q = c .before .before .before .before .before .before .before .put-number .ensures in
     let r = c .before .before .put-refused .ensures in

@@ -16,7 +16,7 @@ search-requires : tie.Need-search-requires
 search-requires c κs = search needs
 
 returns : tie.Need-returns
-returns c = 
+returns c =
     let s = c .before .before .search in
     ap (λ (f : Found). f .refusal) (sym (returned (s .result)) ∙ s .ensures .0) ∙ found-number _ _ _ _ _
 

@@ -16,7 +16,7 @@ slice-aggregate-put : tie.Need-slice-aggregate-put
 slice-aggregate-put c = search needs
 
 put-requires : tie.Need-put-requires
-put-requires c κs = 
+put-requires c κs =
     let f = c .before .before .before .find in
     let enough = room _ _ _ (f .ensures .0) in
     (omega (arith, enough, f .kept .1 .0), omega (arith, f .kept .1 .0), search needs)
@@ -25,7 +25,7 @@ same-length : tie.Need-same-length
 same-length c = search needs
 
 returns : tie.Need-returns
-returns c = 
+returns c =
     let f = c .before .before .before .before .before .before .find .ensures in
     let p = c .before .before .put .ensures in
     (p .0 ∙ printed _ _ _ _ (f .0) refl (f .1), p .1)

@@ -10,7 +10,7 @@ use Rattle.outline.proofs.lines.Statement.{statement}
 use Rattle.outline.proofs.lines.Tie as tie
 
 abbrev Inv-loop : tie.InvT-loop
-Inv-loop out₀ at b places ends n end₀ i₀ out end i = 
+Inv-loop out₀ at b places ends n end₀ i₀ out end i =
     (i ≤ n) × (length out ≡ length out₀) × (end ≤ at + 105 * i) × Appended out₀ at (inTurn (regionText b) i) out end
 
 abbrev μ-loop : tie.MeasureT-loop
@@ -20,7 +20,7 @@ loop-holds : tie.Need-loop-holds Inv-loop μ-loop
 loop-holds c = (search needs, refl, omega arith, turns-none _ _ _)
 
 region-requires : tie.Need-region-requires Inv-loop μ-loop
-region-requires c κs = 
+region-requires c κs =
     let p = c .before .before .before .before .before .before .before .pre in
     let l = c .before .before .loop in
     (p .0, omega (arith, p .1, c .before .loop-test .taken), omega (arith, p .2, c .before .loop-test .taken, l .inv .1, l .inv .2))
@@ -32,7 +32,7 @@ loop-less : tie.Need-loop-less Inv-loop μ-loop
 loop-less c = search needs
 
 loop-again : tie.Need-loop-again Inv-loop μ-loop
-loop-again c = 
+loop-again c =
     let l = c .before .before .before .before .before .loop in
     let w = c .before .before .region in
     let text = regionText (c .before .before .before .before .before .before .before .before .before .before .args .b .now) in
@@ -42,7 +42,7 @@ same-length : tie.Need-same-length Inv-loop μ-loop
 same-length c = c .before .loop .inv .1
 
 returns : tie.Need-returns Inv-loop μ-loop
-returns c = 
+returns c =
     let l = c .before .loop in
     let text = regionText (c .before .before .before .before .before .before .args .b .now) in
     let all : l .i ≡ c .before .before .before .before .before .before .args .n = omega (arith, c .loop-test .left, l .inv .0) in

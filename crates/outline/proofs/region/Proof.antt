@@ -17,7 +17,7 @@ same-length : tie.Need-same-length
 same-length c = search needs
 
 returns : tie.Need-returns
-returns c = 
+returns c =
     let p = c .before .before .before .before .before .before .before .before .before .before .pre in
     let w = c .before .before .line .ensures in
     (append-as (region-is _ _ _ _ _ _ (p .0) (p .1) (c .before .before .before .before .before .fields .ensures) (c .before .before .before .before .level .ensures)) (w .0), w .1)

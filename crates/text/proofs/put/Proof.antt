@@ -9,7 +9,7 @@ use Rattle.text.proofs.put.Statement.{statement}
 use Rattle.text.proofs.put.Tie as tie
 
 abbrev Inv-loop : tie.InvT-loop
-Inv-loop out₀ at bytes i₀ out i = 
+Inv-loop out₀ at bytes i₀ out i =
     (i ≤ length bytes) × (length out ≡ length out₀) × (at + length bytes ≤ length out₀)
     × (take (at + i) out ≡ take at out₀ ++ take i bytes)
 
@@ -35,7 +35,7 @@ loop-less : tie.Need-loop-less Inv-loop μ-loop
 loop-less c = search needs
 
 loop-again : tie.Need-loop-again Inv-loop μ-loop
-loop-again c = 
+loop-again c =
     let l = c .before .before .loop in
     let room : c .before .before .before .args .at + l .i < length (l .out) = omega (arith, l .inv) in
     (omega arith, simp length-set (omega arith), l .inv .2, copied-more _ _ _ _ _ room (c .before .loop-test .taken) (l .inv .3))

@@ -35,7 +35,7 @@ same-length c = search needs
 
 returns : tie.Need-returns
 unfolding countsLine
-returns c = 
+returns c =
     let p = c .before .before .before .before .before .before .before .before .before .before .before .before .before .before .put .ensures in
     let q = c .before .before .before .before .before .before .before .before .put-number .ensures in
     let r = c .before .before .put-number2 .ensures in

@@ -23,7 +23,7 @@ same-length c = search needs
 
 returns : tie.Need-returns
 unfolding yardLine
-returns c = 
+returns c =
     let p = c .before .before .before .before .before .before .before .put-number .ensures in
     let q = c .before .before .put-number2 .ensures in
     (append-then (p .0) (q .0), omega (arith, p .1, q .1))

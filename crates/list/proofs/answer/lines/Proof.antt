@@ -10,7 +10,7 @@ use Rattle.list.proofs.answer.lines.Statement.{statement}
 use Rattle.list.proofs.answer.lines.Tie as tie
 
 abbrev Inv-loop : tie.InvT-loop
-Inv-loop out₀ at results listed i₀ end₀ out i end = 
+Inv-loop out₀ at results listed i₀ end₀ out i end =
     (i ≤ listed) × (length out ≡ length out₀) × (end ≤ at + 42 * i) × Appended out₀ at (inTurn (listedLine results) i) out end
 
 abbrev μ-loop : tie.MeasureT-loop
@@ -50,7 +50,7 @@ loop-less : tie.Need-loop-less Inv-loop μ-loop
 loop-less c = search needs
 
 loop-again : tie.Need-loop-again Inv-loop μ-loop
-loop-again c = 
+loop-again c =
     let l = c .before .before .before .before .before .before .before .loop in
     let w = c .before .before .line in
     let text = listedLine (c .before .before .before .before .before .before .before .before .before .before .args .results .now) in
@@ -60,7 +60,7 @@ same-length : tie.Need-same-length Inv-loop μ-loop
 same-length c = c .before .loop .inv .1
 
 returns : tie.Need-returns Inv-loop μ-loop
-returns c = 
+returns c =
     let l = c .before .loop in
     let text = listedLine (c .before .before .before .before .args .results .now) in
     let all : l .i ≡ c .before .before .before .before .args .listed = omega arith in

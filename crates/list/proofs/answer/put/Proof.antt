@@ -13,7 +13,7 @@ same-length : tie.Need-same-length
 same-length c = search needs
 
 returns : tie.Need-returns
-returns c = 
+returns c =
     let p = c .before .before .put-refused .ensures in
     (append-whole (p .0) ∙ refused-is _ _ (c .before .before .before .before .if1 .taken), omega (arith, p .1))
 
@@ -30,7 +30,7 @@ same-length-2 : tie.Need-same-length-2
 same-length-2 c = search needs
 
 returns-2 : tie.Need-returns-2
-returns-2 c = 
+returns-2 c =
     let p = c .before .before .before .before .before .before .put .ensures in
     let q = c .before .before .counts .ensures in
     (append-whole (append-then p (q .0)) ∙ spent-is _ _ (c .before .before .before .before .before .before .before .before .before .before .before .if1 .left) (c .before .before .before .before .before .before .before .before .before .if2 .taken), omega (arith, p .after, q .1))
@@ -54,11 +54,10 @@ same-length-3 : tie.Need-same-length-3
 same-length-3 c = search needs
 
 returns-3 : tie.Need-returns-3
-returns-3 c = 
+returns-3 c =
     let p = c .before .before .before .before .before .before .before .before .before .before .before .put2 .ensures in
     let l = c .before .before .before .before .before .before .lines .ensures in
-    let q = c .before .before .counts2 .ensures in
-    (
+    let q = c .before .before .counts2 .ensures in (
       append-whole (append-then (append-then p (l .0)) (q .0)) ∙ settled-is _ _ (c .before .before .before .before .before .before .before .before .before .before .before .before .before .before .before .before .if1 .left) (c .before .before .before .before .before .before .before .before .before .before .before .before .before .before .if2 .left),
       omega (arith, p .after, l .1, q .1, c .before .before .before .before .before .before .before .before .before .before .before .before .before .before .before .before .before .before .before .before .pre),
     )
