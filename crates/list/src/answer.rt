@@ -36,8 +36,8 @@ fn lines(out: &mut [u8], at: usize, results: &[u32], listed: usize) -> usize
 // Puts how many yards were measured and how many steps were taken.
 fn counts(out: &mut [u8], at: usize, found: Found) -> usize
     requires { ⌜ at + 57 ≤ length (now out) ⌝ }
-    ensures added { λ r. ⌜ Appended (now (out .entry)) at (countsLine (found .measured) (found .taken)) (now (out .exit))
-        r ⌝ }
+    ensures added { λ r. ⌜ Appended (now (out .entry)) at (countsLine (found .measured) (found .taken))
+        (now (out .exit)) r ⌝ }
     ensures short { λ r. ⌜ r ≤ at + 57 ⌝ }
 {
     let first = text::put(out, at, b"measured ");

@@ -1,4 +1,5 @@
--- What writing an outline knows of the arrays that reading a tree book fills in. Assumes nothing: these are definitions.
+-- What writing an outline knows of the arrays that reading a tree book fills in. Assumes nothing: these are
+-- definitions.
 use mathlib.Core.Path.{_≡_}
 use mathlib.Core.List.{List}
 use Prim.Native.Nat.{ℕ, _<_}

@@ -43,7 +43,8 @@ fn line(out: &mut [u8], at: usize, level: usize, f: Fields) -> usize
 fn region(out: &mut [u8], at: usize, b: &[u8], places: &[usize], ends: &[usize], r: Region) -> usize
     requires { ⌜ Known (now b) (now places) (now ends) × (r .number < length (now places))
         × (at + 105 ≤ length (now out)) ⌝ }
-    ensures added { λ n. ⌜ Appended (now (out .entry)) at (regionText (now (b .entry)) (r .number)) (now (out .exit)) n ⌝ }
+    ensures added { λ n. ⌜ Appended (now (out .entry)) at (regionText (now (b .entry)) (r .number))
+        (now (out .exit)) n ⌝ }
     ensures short { λ n. ⌜ n ≤ at + 105 ⌝ }
 {
     let f = tree::regions::fields(b, places, r);
@@ -55,7 +56,8 @@ fn region(out: &mut [u8], at: usize, b: &[u8], places: &[usize], ends: &[usize],
 fn lines(out: &mut [u8], at: usize, b: &[u8], places: &[usize], ends: &[usize], n: u16) -> usize
     requires { ⌜ Known (now b) (now places) (now ends) × (n ≤ length (now places))
         × (at + 105 * n ≤ length (now out)) ⌝ }
-    ensures added { λ r. ⌜ Appended (now (out .entry)) at (inTurn (regionText (now (b .entry))) n) (now (out .exit)) r ⌝ }
+    ensures added { λ r. ⌜ Appended (now (out .entry)) at (inTurn (regionText (now (b .entry))) n)
+        (now (out .exit)) r ⌝ }
     ensures short { λ r. ⌜ r ≤ at + 105 * n ⌝ }
 {
     let mut end = at;

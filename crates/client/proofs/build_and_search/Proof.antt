@@ -11,10 +11,16 @@ cast-n : tie.Need-cast-n
 cast-n c = search needs
 
 slice-reshare-prefix-finder-search : tie.Need-slice-reshare-prefix-finder-search
-slice-reshare-prefix-finder-search c = let e = c .before .before .before .before .before .build-checked .ensures in book-room _ _ _ _ (c .before .before .before .before .before .before .before .before .before .before .before .before .before .before .args .work .now) (c .before .before .before .before .before .before .before .before .before .before .before .before .before .before .args .tree .now) _ _ (e .1 .0) (e .1 .1 .1)
+slice-reshare-prefix-finder-search c =
+    let at5 = c .before .before .before .before .before in
+    let at14 = at5 .before .before .before .before .before .before .before .before .before in
+    let e = at5 .build-checked .ensures in book-room _ _ _ _ (at14 .args .work .now) (at14 .args .tree .now) _ _ (e .1 .0) (e .1 .1 .1)
 
 slice-aggregate-finder-search : tie.Need-slice-aggregate-finder-search
-slice-aggregate-finder-search c = let e = c .before .before .before .before .before .before .build-checked .ensures in book-length _ _ _ _ (c .before .before .before .before .before .before .before .before .before .before .before .before .before .before .before .args .work .now) (c .before .before .before .before .before .before .before .before .before .before .before .before .before .before .before .args .tree .now) _ _ (e .1 .0) (e .1 .1 .1)
+slice-aggregate-finder-search c =
+    let at6 = c .before .before .before .before .before .before in
+    let at15 = at6 .before .before .before .before .before .before .before .before .before in
+    let e = at6 .build-checked .ensures in book-length _ _ _ _ (at15 .args .work .now) (at15 .args .tree .now) _ _ (e .1 .0) (e .1 .1 .1)
 
 finder-search-requires : tie.Need-finder-search-requires
 finder-search-requires c κs = search needs
@@ -30,11 +36,14 @@ same-length-3 c = search needs
 
 returns : tie.Need-returns
 returns c =
-    let f = c .before .before .before .before .before .before .before .before .before .before .before .before .before .build-checked in
+    let at4 = c .before .before .before .before in
+    let at13 = at4 .before .before .before .before .before .before .before .before .before in
+    let at22 = at13 .before .before .before .before .before .before .before .before .before in
+    let f = at13 .build-checked in
     let e = f .ensures in
-    let s = c .before .before .before .before .finder-search .ensures in
+    let s = at4 .finder-search .ensures in
     let kept = f .kept .1 .1 .1 .1 .0 in
-    let same = book-is _ _ _ _ (c .before .before .before .before .before .before .before .before .before .before .before .before .before .before .before .before .before .before .before .before .before .before .args .work .now) (c .before .before .before .before .before .before .before .before .before .before .before .before .before .before .before .before .before .before .before .before .before .before .args .tree .now) _ _ (e .1 .0) (e .1 .1 .1) in
+    let same = book-is _ _ _ _ (at22 .args .work .now) (at22 .args .tree .now) _ _ (e .1 .0) (e .1 .1 .1) in
     (cc (s .0, same, kept), (cc (s .1 .0, same, kept, e .1 .1 .0), (e .1 .1 .1, cc (s .1 .1, same, kept))))
 
 pub build-and-search-spec : {M : Type 1} → statement M

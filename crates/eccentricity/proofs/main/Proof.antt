@@ -28,10 +28,17 @@ large-buffer-requires-2 : tie.Need-large-buffer-requires-2
 large-buffer-requires-2 c κs = search needs
 
 array-share-prefix-input : tie.Need-array-share-prefix-input
-array-share-prefix-input c = omega (arith, ap bytesIn (c .before .before .n .given .1), c .before .before .before .before .before .read-input .ensures, c .before .before .before .before .before .read-input .kept .0, c .before .before .before .before .before .before .before .large-buffer .ensures)
+array-share-prefix-input c =
+    let at5 = c .before .before .before .before .before in
+    let at7 = at5 .before .before in
+    omega (arith, ap bytesIn (c .before .before .n .given .1), at5 .read-input .ensures, at5 .read-input .kept .0, at7 .large-buffer .ensures)
 
 slice-aggregate-report : tie.Need-slice-aggregate-report
-slice-aggregate-report c = simp length-take (omega (arith, ap bytesIn (c .before .before .before .n .given .1), c .before .before .before .before .before .before .read-input .ensures, c .before .before .before .before .before .before .read-input .kept .0, c .before .before .before .before .before .before .before .before .large-buffer .ensures))
+slice-aggregate-report c =
+    let at3 = c .before .before .before in
+    let at6 = at3 .before .before .before in
+    let at8 = at6 .before .before in
+    simp length-take (omega (arith, ap bytesIn (at3 .n .given .1), at6 .read-input .ensures, at6 .read-input .kept .0, at8 .large-buffer .ensures))
 
 slice-aggregate-report-2 : tie.Need-slice-aggregate-report-2
 slice-aggregate-report-2 c = search needs
@@ -43,7 +50,9 @@ array-share-prefix-out : tie.Need-array-share-prefix-out
 array-share-prefix-out c = search needs
 
 slice-aggregate-write-output : tie.Need-slice-aggregate-write-output
-slice-aggregate-write-output c = simp length-take (omega (arith, c .before .before .report .ensures .1, c .before .before .report .kept .1 .0, c .before .before .before .before .before .large-buffer2 .ensures))
+slice-aggregate-write-output c =
+    let at5 = c .before .before .before .before .before in
+    simp length-take (omega (arith, c .before .before .report .ensures .1, c .before .before .report .kept .1 .0, at5 .large-buffer2 .ensures))
 
 write-output-requires : tie.Need-write-output-requires
 write-output-requires c κs = search needs

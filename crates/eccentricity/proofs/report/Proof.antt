@@ -26,9 +26,12 @@ same-length c = search needs
 
 returns : tie.Need-returns
 returns c =
+    let at4 = c .before .before .before .before in
+    let at5 = at4 .before in
+    let at7 = at5 .before .before in
     let p = c .before .before .put-refused .ensures in
-    let r = c .before .before .before .before .before .before .before .read .ensures in
-    (append-whole (p .0) ∙ refused-is _ _ _ (r .0) (c .before .before .before .before .before .number .ensures) (c .before .before .before .before .if1 .taken), omega (arith, p .1))
+    let r = at7 .read .ensures in
+    (append-whole (p .0) ∙ refused-is _ _ _ (r .0) (at5 .number .ensures) (at4 .if1 .taken), omega (arith, p .1))
 
 slice-aggregate-rows : tie.Need-slice-aggregate-rows
 slice-aggregate-rows c = search needs

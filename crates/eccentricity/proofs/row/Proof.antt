@@ -31,8 +31,11 @@ slice-aggregate-furthest c = search needs
 
 furthest-requires : tie.Need-furthest-requires
 furthest-requires c κs =
-    let few = few-junctions (c .before .before .before .before .before .before .before .before .before .before .before .before .before .pre .0 .adjacent) in
-    omega (arith, few, c .before .before .before .before .before .before .before .junctions .ensures, c .before .before .before .before .before .before .before .before .before .distances .kept)
+    let at7 = c .before .before .before .before .before .before .before in
+    let at9 = at7 .before .before in
+    let at13 = at9 .before .before .before .before in
+    let few = few-junctions (at13 .pre .0 .adjacent) in
+    omega (arith, few, at7 .junctions .ensures, at9 .distances .kept)
 
 slice-aggregate-put-number-2 : tie.Need-slice-aggregate-put-number-2
 slice-aggregate-put-number-2 c = search needs
@@ -45,9 +48,12 @@ slice-aggregate-total c = search needs
 
 total-requires : tie.Need-total-requires
 total-requires c κs =
-    let few = few-junctions (c .before .before .before .before .before .before .before .before .before .before .before .before .before .before .before .before .before .before .before .before .pre .0 .adjacent) in
-    let e = c .before .before .before .before .before .before .before .before .before .before .before .before .before .before .junctions .ensures in
-    (omega (arith, few, e, c .before .before .before .before .before .before .before .before .before .before .before .before .before .before .before .before .distances .kept), omega (arith, few, e))
+    let at14 = c .before .before .before .before .before .before .before .before .before .before .before .before .before .before in
+    let at16 = at14 .before .before in
+    let at20 = at16 .before .before .before .before in
+    let few = few-junctions (at20 .pre .0 .adjacent) in
+    let e = at14 .junctions .ensures in
+    (omega (arith, few, e, at16 .distances .kept), omega (arith, few, e))
 
 slice-aggregate-put-number-3 : tie.Need-slice-aggregate-put-number-3
 slice-aggregate-put-number-3 c = search needs
@@ -61,13 +67,19 @@ same-length c = search needs
 returns : tie.Need-returns
 unfolding lineOf
 returns c =
-    let p = c .before .before .before .before .before .before .before .before .before .before .before .before .before .before .before .before .put-number .ensures in
-    let q = c .before .before .before .before .before .before .before .before .before .put-number2 .ensures in
+    let at4 = c .before .before .before .before in
+    let at9 = at4 .before .before .before .before .before in
+    let at11 = at9 .before .before in
+    let at16 = at11 .before .before .before .before .before in
+    let at19 = at16 .before .before .before in
+    let at21 = at19 .before .before in
+    let p = at16 .put-number .ensures in
+    let q = at9 .put-number2 .ensures in
     let r = c .before .before .put-number3 .ensures in
-    let d = c .before .before .before .before .before .before .before .before .before .before .before .before .before .before .before .before .before .before .before .before .before .distances .ensures in
-    let n = c .before .before .before .before .before .before .before .before .before .before .before .before .before .before .before .before .before .before .before .junctions .ensures in (
+    let d = at21 .distances .ensures in
+    let n = at19 .junctions .ensures in (
       λ b ad.
-          append-as (row-is b _ _ _ _ _ (d b ad) (n ∙ ad .count) (c .before .before .before .before .before .before .before .before .before .before .before .furthest .ensures) (c .before .before .before .before .total .ensures))
+          append-as (row-is b _ _ _ _ _ (d b ad) (n ∙ ad .count) (at11 .furthest .ensures) (at4 .total .ensures))
           (append-then (append-then (p .0) (q .0)) (r .0)),
       omega (arith, p .1, q .1, r .1),
     )

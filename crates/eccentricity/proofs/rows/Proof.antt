@@ -36,12 +36,28 @@ loop-holds c = (search needs, refl, omega arith, λ b ad. turns-none _ _ _)
 
 row-requires : tie.Need-row-requires Inv-loop μ-loop
 row-requires c κs =
-    let p = c .before .before .before .before .before .before .before .before .before .before .before .pre in
+    let at5 = c .before .before .before .before .before in
+    let at8 = at5 .before .before .before in
+    let at11 = at8 .before .before .before in
+    let p = at11 .pre in
     let l = c .before .before .loop in
     let few = few-junctions (p .0 .adjacent) in
-    let n = c .before .before .before .before .before .before .before .before .junctions .ensures in
-    let h = c .before .before .before .before .before .put in
-    (p .0, omega (arith, n, c .before .loop-test .taken), omega (arith, few, n, c .before .loop-test .taken, l .inv .1, l .inv .2, h .ensures .after, h .kept .0, p .1))
+    let n = at8 .junctions .ensures in
+    let h = at5 .put in (
+      p .0,
+      omega (arith, n, c .before .loop-test .taken),
+      omega (
+        arith,
+        few,
+        n,
+        c .before .loop-test .taken,
+        l .inv .1,
+        l .inv .2,
+        h .ensures .after,
+        h .kept .0,
+        p .1,
+      ),
+    )
 
 add-u : tie.Need-add-u Inv-loop μ-loop
 add-u c = search needs

@@ -22,10 +22,14 @@ same-length c = search needs
 
 returns : tie.Need-returns
 returns c =
-    let p = c .before .before .before .before .before .before .before .before .before .before .before .before .put .ensures in
-    let q = c .before .before .before .before .before .before .before .before .put-number .ensures in
+    let at5 = c .before .before .before .before .before in
+    let at8 = at5 .before .before .before in
+    let at12 = at8 .before .before .before .before in
+    let at17 = at12 .before .before .before .before .before in
+    let p = at12 .put .ensures in
+    let q = at8 .put-number .ensures in
     let r = c .before .before .put2 .ensures in
-    (append-as (accepted-line _ _ _ _ (c .before .before .before .before .before .if1 .taken)) (append-then (append-then p (q .0)) r), omega (arith, p .after, q .1, r .after, c .before .before .before .before .before .before .before .before .before .before .before .before .before .before .before .before .before .pre))
+    (append-as (accepted-line _ _ _ _ (at5 .if1 .taken)) (append-then (append-then p (q .0)) r), omega (arith, p .after, q .1, r .after, at17 .pre))
 
 put-refused-requires : tie.Need-put-refused-requires
 put-refused-requires c κs = search needs
@@ -35,10 +39,14 @@ same-length-2 c = search needs
 
 returns-2 : tie.Need-returns-2
 returns-2 c =
-    let p = c .before .before .before .before .before .before .before .before .before .before .before .put .ensures in
-    let q = c .before .before .before .before .before .before .before .put-number .ensures in
+    let at4 = c .before .before .before .before in
+    let at7 = at4 .before .before .before in
+    let at11 = at7 .before .before .before .before in
+    let at16 = at11 .before .before .before .before .before in
+    let p = at11 .put .ensures in
+    let q = at7 .put-number .ensures in
     let r = c .before .before .put-refused .ensures in
-    (append-as (refused-line _ _ _ _ (c .before .before .before .before .if1 .left)) (append-then (append-then p (q .0)) (r .0)), omega (arith, p .after, q .1, r .1, c .before .before .before .before .before .before .before .before .before .before .before .before .before .before .before .before .pre))
+    (append-as (refused-line _ _ _ _ (at4 .if1 .left)) (append-then (append-then p (q .0)) (r .0)), omega (arith, p .after, q .1, r .1, at16 .pre))
 
 pub line-spec : {M : Type 1} → statement M
 line-spec =

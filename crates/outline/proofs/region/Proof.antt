@@ -18,9 +18,12 @@ same-length c = search needs
 
 returns : tie.Need-returns
 returns c =
-    let p = c .before .before .before .before .before .before .before .before .before .before .pre in
+    let at4 = c .before .before .before .before in
+    let at5 = at4 .before in
+    let at10 = at5 .before .before .before .before .before in
+    let p = at10 .pre in
     let w = c .before .before .line .ensures in
-    (append-as (region-is _ _ _ _ _ _ (p .0) (p .1) (c .before .before .before .before .before .fields .ensures) (c .before .before .before .before .level .ensures)) (w .0), w .1)
+    (append-as (region-is _ _ _ _ _ _ (p .0) (p .1) (at5 .fields .ensures) (at4 .level .ensures)) (w .0), w .1)
 
 pub region-spec : {M : Type 1} → statement M
 region-spec = tie.close (tie.spec fields-requires level-requires line-requires same-length returns)

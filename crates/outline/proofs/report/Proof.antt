@@ -1,89 +1,116 @@
 use borrow.Author.Needs.{needs}
+use mathlib.Core.Path.{_∙_}
+use native.Mathlib.Omega.{arith}
+use Rattle.text.proofs.Appending.{append-then, append-whole}
+use Rattle.outline.proofs.Outlining.{place-room, place-length, end-room, end-length, arrays-known, shaped-text, refused-text}
 use Rattle.outline.proofs.report.Statement.{statement}
 use Rattle.outline.proofs.report.Tie as tie
-use Rattle.outline.proofs.report.Reads as reads
-use Rattle.outline.proofs.report.Lts as lts
-use Rattle.outline.proofs.header.Reads as header-reads
-use Rattle.outline.proofs.lines.Reads as lines-reads
-use Rattle.text.proofs.put_refused.Reads as put-refused-reads
-use Rattle.tree.proofs.number.Reads as number-reads
-use Rattle.tree.proofs.read.Reads as read-reads
 
--- src/main.rt:78:27
 slice-aggregate-read : tie.Need-slice-aggregate-read
 slice-aggregate-read c = search needs
 
--- src/main.rt:78:40
 slice-aggregate-read-2 : tie.Need-slice-aggregate-read-2
 slice-aggregate-read-2 c = search needs
 
--- src/main.rt:78:9
 read-requires : tie.Need-read-requires
 read-requires c κs = search needs
 
--- src/main.rt:79:22
 enum-known-o : tie.Need-enum-known-o
 enum-known-o c = search needs
 
--- src/main.rt:80:34
 enum-told : tie.Need-enum-told
 enum-told c = search needs
 
--- src/main.rt:80:42
 number-requires : tie.Need-number-requires
 number-requires c κs = search needs
 
--- src/main.rt:80:42
 cast-put-refused : tie.Need-cast-put-refused
 cast-put-refused c = search needs
 
--- src/main.rt:80:9
 put-refused-requires : tie.Need-put-refused-requires
 put-refused-requires c κs = search needs
 
--- src/main.rt:80:9
 same-length : tie.Need-same-length
 same-length c = search needs
 
--- src/main.rt:80:9
 returns : tie.Need-returns
-returns c = ?
+returns c =
+    let at3 = c .before .before .before in
+    let at5 = at3 .before .before in
+    let at9 = at5 .before .before .before .before in
+    let p = c .before .before .put-refused .ensures in
+    (append-whole (p .0) ∙ refused-text _ _ _ _ (at9 .read .ensures .0) (at5 .enum-told .given .1) (at3 .number .ensures), omega (arith, p .1))
 
--- src/main.rt:82:9
 header-requires : tie.Need-header-requires
 header-requires c κs = search needs
 
--- src/main.rt:83:13
 cast-n : tie.Need-cast-n
 cast-n c = search needs
 
--- src/main.rt:84:23
 array-share-prefix-places : tie.Need-array-share-prefix-places
-array-share-prefix-places c = ?
+array-share-prefix-places c =
+    let at7 = c .before .before .before .before .before .before .before in
+    let at11 = at7 .before .before .before .before in
+    place-room _ _ _ (at11 .read .ensures .0) (at7 .o .given .1) _ _ (search needs) (at11 .read .ensures .1 .0)
 
--- src/main.rt:84:23
 slice-aggregate-lines : tie.Need-slice-aggregate-lines
-slice-aggregate-lines c = ?
+slice-aggregate-lines c =
+    let at8 = c .before .before .before .before .before .before .before .before in
+    let at12 = at8 .before .before .before .before in
+    place-length _ _ _ (at12 .read .ensures .0) (at8 .o .given .1) _ _ (search needs) (at12 .read .ensures .1 .0)
 
--- src/main.rt:84:37
 array-share-prefix-ends : tie.Need-array-share-prefix-ends
-array-share-prefix-ends c = ?
+array-share-prefix-ends c =
+    let at8 = c .before .before .before .before .before .before .before .before in
+    let at12 = at8 .before .before .before .before in
+    end-room _ _ _ (at12 .read .ensures .0) (at8 .o .given .1) _ _ (search needs) (at12 .read .ensures .1 .1)
 
--- src/main.rt:84:37
 slice-aggregate-lines-2 : tie.Need-slice-aggregate-lines-2
-slice-aggregate-lines-2 c = ?
+slice-aggregate-lines-2 c =
+    let at9 = c .before .before .before .before .before .before .before .before .before in
+    let at13 = at9 .before .before .before .before in
+    end-length _ _ _ (at13 .read .ensures .0) (at9 .o .given .1) _ _ (search needs) (at13 .read .ensures .1 .1)
 
--- src/main.rt:84:5
 lines-requires : tie.Need-lines-requires
-lines-requires c κs = ?
+lines-requires c κs =
+    let at6 = c .before .before .before .before .before .before in
+    let at9 = at6 .before .before .before in
+    let at13 = at9 .before .before .before .before in
+    let at18 = at13 .before .before .before .before .before in
+    let r = at13 .read in
+    let h = at6 .header in (
+      arrays-known _ _ _ (r .ensures .0) (at9 .o .given .1) _ _ _ _ (search needs) (r .ensures .1 .0) (search needs) (r .ensures .1 .1),
+      omega (arith, place-length _ _ _ (at13 .read .ensures .0) (at9 .o .given .1) _ _ (search needs) (at13 .read .ensures .1 .0)),
+      omega (
+        arith,
+        place-room _ _ _ (at13 .read .ensures .0) (at9 .o .given .1) _ _ (search needs) (at13 .read .ensures .1 .0),
+        r .kept .1 .0,
+        h .ensures .1,
+        h .kept .0,
+        at18 .pre,
+      ),
+    )
 
--- src/main.rt:71:1
 same-length-2 : tie.Need-same-length-2
 same-length-2 c = search needs
 
--- src/main.rt:71:1
 returns-2 : tie.Need-returns-2
-returns-2 c = ?
+returns-2 c =
+    let at9 = c .before .before .before .before .before .before .before .before .before in
+    let at12 = at9 .before .before .before in
+    let at16 = at12 .before .before .before .before in
+    let r = at16 .read in
+    let h = at9 .header .ensures in
+    let w = c .before .before .lines .ensures in (
+      append-whole (append-then (h .0) (w .0)) ∙ shaped-text _ _ _ (r .ensures .0) (at12 .o .given .1),
+      omega (
+        arith,
+        h .1,
+        w .1,
+        place-room _ _ _ (at16 .read .ensures .0) (at12 .o .given .1) _ _ (search needs) (at16 .read .ensures .1 .0),
+        r .kept .1 .0,
+      ),
+    )
 
 pub report-spec : {M : Type 1} → statement M
 report-spec =

@@ -35,25 +35,58 @@ enum-told : tie.Need-enum-told Inv-loop μ-loop
 enum-told c = search needs
 
 same-length : tie.Need-same-length Inv-loop μ-loop
-same-length c = let l = c .before .before .before .before .before .before .before .loop in let w = c .before .before .before .before .read-some in back-size (l .buf) (w .last .0) (l .done) (l .inv .0) (w .kept .0) ∙ l .inv .1
+same-length c =
+    let at4 = c .before .before .before .before in
+    let l = at4 .before .before .before .loop in
+    let w = at4 .read-some in
+    back-size (l .buf) (w .last .0) (l .done) (l .inv .0) (w .kept .0) ∙ l .inv .1
 
 returns : tie.Need-returns Inv-loop μ-loop
 returns c = search needs
 
 same-length-2 : tie.Need-same-length-2 Inv-loop μ-loop
-same-length-2 c = let l = c .before .before .before .before .before .before .before .before .before .loop in let w = c .before .before .before .before .before .before .read-some in back-size (l .buf) (w .last .0) (l .done) (l .inv .0) (w .kept .0) ∙ l .inv .1
+same-length-2 c =
+    let at6 = c .before .before .before .before .before .before in
+    let at9 = at6 .before .before .before in
+    let l = at9 .loop in
+    let w = at6 .read-some in
+    back-size (l .buf) (w .last .0) (l .done) (l .inv .0) (w .kept .0) ∙ l .inv .1
 
 returns-2 : tie.Need-returns-2 Inv-loop μ-loop
-returns-2 c = let l = c .before .before .before .before .before .before .before .before .before .loop in let w = c .before .before .before .before .before .before .read-some in omega (arith, l .inv .0, back-size (l .buf) (w .last .0) (l .done) (l .inv .0) (w .kept .0))
+returns-2 c =
+    let at6 = c .before .before .before .before .before .before in
+    let at9 = at6 .before .before .before in
+    let l = at9 .loop in
+    let w = at6 .read-some in
+    omega (arith, l .inv .0, back-size (l .buf) (w .last .0) (l .done) (l .inv .0) (w .kept .0))
 
 add-done : tie.Need-add-done Inv-loop μ-loop
-add-done c = let fits = let l = c .before .before .before .before .before .before .before .before .before .loop in let w = c .before .before .before .before .before .before .read-some in read-fits (l .buf) (w .last .0) (l .done) (l .inv .0) (w .kept .0) _ _ (c .before .before .n .given .1) (w .ensures) in omega arith
+add-done c =
+    let at6 = c .before .before .before .before .before .before in
+    let at9 = at6 .before .before .before in
+    let l = at9 .loop in
+    let w = at6 .read-some in
+    let fits = read-fits (l .buf) (w .last .0) (l .done) (l .inv .0) (w .kept .0) _ _ (c .before .before .n .given .1) (w .ensures) in
+    omega arith
 
 loop-less : tie.Need-loop-less Inv-loop μ-loop
-loop-less c = let fits = let l = c .before .before .before .before .before .before .before .before .before .loop in let w = c .before .before .before .before .before .before .read-some in read-fits (l .buf) (w .last .0) (l .done) (l .inv .0) (w .kept .0) _ _ (c .before .before .n .given .1) (w .ensures) in omega (arith, c .before .before .before .before .before .before .before .before .before .loop .inv .1, fits)
+loop-less c =
+    let at6 = c .before .before .before .before .before .before in
+    let at9 = at6 .before .before .before in
+    let l = at9 .loop in
+    let w = at6 .read-some in
+    let fits = read-fits (l .buf) (w .last .0) (l .done) (l .inv .0) (w .kept .0) _ _ (c .before .before .n .given .1) (w .ensures) in
+    omega (arith, l .inv .1, fits)
 
 loop-again : tie.Need-loop-again Inv-loop μ-loop
-loop-again c = let fits = let l = c .before .before .before .before .before .before .before .before .before .loop in let w = c .before .before .before .before .before .before .read-some in read-fits (l .buf) (w .last .0) (l .done) (l .inv .0) (w .kept .0) _ _ (c .before .before .n .given .1) (w .ensures) in let same = let l = c .before .before .before .before .before .before .before .before .before .loop in let w = c .before .before .before .before .before .before .read-some in back-size (l .buf) (w .last .0) (l .done) (l .inv .0) (w .kept .0) ∙ l .inv .1 in (omega (arith, fits, same, c .before .before .before .before .before .before .before .before .before .loop .inv .1), same)
+loop-again c =
+    let at6 = c .before .before .before .before .before .before in
+    let at9 = at6 .before .before .before in
+    let l = at9 .loop in
+    let w = at6 .read-some in
+    let fits = read-fits (l .buf) (w .last .0) (l .done) (l .inv .0) (w .kept .0) _ _ (c .before .before .n .given .1) (w .ensures) in
+    let same = back-size (l .buf) (w .last .0) (l .done) (l .inv .0) (w .kept .0) ∙ l .inv .1 in
+    (omega (arith, fits, same, l .inv .1), same)
 
 same-length-3 : tie.Need-same-length-3 Inv-loop μ-loop
 same-length-3 c = search needs

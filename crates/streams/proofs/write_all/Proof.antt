@@ -31,13 +31,30 @@ returns : tie.Need-returns Inv-loop μ-loop
 returns c = search needs
 
 add-done : tie.Need-add-done Inv-loop μ-loop
-add-done c = let l = c .before .before .before .before .loop in omega (arith, taken-fits (c .before .before .before .before .before .before .args .bytes .now) (c .before .before .before .before .loop .done) (c .before .write-some .result) (l .inv) (c .before .write-some .ensures .0))
+add-done c =
+    let at4 = c .before .before .before .before in
+    let at6 = at4 .before .before in
+    let l = at4 .loop in omega (
+      arith,
+      taken-fits (at6 .args .bytes .now) (at4 .loop .done) (c .before .write-some .result) (l .inv)
+          (c .before .write-some .ensures .0),
+    )
 
 loop-less : tie.Need-loop-less Inv-loop μ-loop
-loop-less c = let l = c .before .before .before .before .loop in omega (arith, taken-fits (c .before .before .before .before .before .before .args .bytes .now) (c .before .before .before .before .loop .done) (c .before .write-some .result) (l .inv) (c .before .write-some .ensures .0))
+loop-less c =
+    let at4 = c .before .before .before .before in
+    let at6 = at4 .before .before in
+    let l = at4 .loop in omega (
+      arith,
+      taken-fits (at6 .args .bytes .now) (at4 .loop .done) (c .before .write-some .result) (l .inv)
+          (c .before .write-some .ensures .0),
+    )
 
 loop-again : tie.Need-loop-again Inv-loop μ-loop
-loop-again c = taken-fits (c .before .before .before .before .before .before .args .bytes .now) (c .before .before .before .before .loop .done) (c .before .write-some .result) (c .before .before .before .before .loop .inv) (c .before .write-some .ensures .0)
+loop-again c =
+    let at4 = c .before .before .before .before in
+    let at6 = at4 .before .before in
+    taken-fits (at6 .args .bytes .now) (at4 .loop .done) (c .before .write-some .result) (at4 .loop .inv) (c .before .write-some .ensures .0)
 
 returns-2 : tie.Need-returns-2 Inv-loop μ-loop
 returns-2 c = search needs

@@ -31,9 +31,12 @@ same-length-2 c = search needs
 
 returns-2 : tie.Need-returns-2
 returns-2 c =
-    let p = c .before .before .before .before .before .before .put .ensures in
+    let at6 = c .before .before .before .before .before .before in
+    let at9 = at6 .before .before .before in
+    let at11 = at9 .before .before in
+    let p = at6 .put .ensures in
     let q = c .before .before .counts .ensures in
-    (append-whole (append-then p (q .0)) ∙ spent-is _ _ (c .before .before .before .before .before .before .before .before .before .before .before .if1 .left) (c .before .before .before .before .before .before .before .before .before .if2 .taken), omega (arith, p .after, q .1))
+    (append-whole (append-then p (q .0)) ∙ spent-is _ _ (at11 .if1 .left) (at9 .if2 .taken), omega (arith, p .after, q .1))
 
 slice-aggregate-put-2 : tie.Need-slice-aggregate-put-2
 slice-aggregate-put-2 c = search needs
@@ -55,11 +58,16 @@ same-length-3 c = search needs
 
 returns-3 : tie.Need-returns-3
 returns-3 c =
-    let p = c .before .before .before .before .before .before .before .before .before .before .before .put2 .ensures in
-    let l = c .before .before .before .before .before .before .lines .ensures in
+    let at6 = c .before .before .before .before .before .before in
+    let at11 = at6 .before .before .before .before .before in
+    let at14 = at11 .before .before .before in
+    let at16 = at14 .before .before in
+    let at20 = at16 .before .before .before .before in
+    let p = at11 .put2 .ensures in
+    let l = at6 .lines .ensures in
     let q = c .before .before .counts2 .ensures in (
-      append-whole (append-then (append-then p (l .0)) (q .0)) ∙ settled-is _ _ (c .before .before .before .before .before .before .before .before .before .before .before .before .before .before .before .before .if1 .left) (c .before .before .before .before .before .before .before .before .before .before .before .before .before .before .if2 .left),
-      omega (arith, p .after, l .1, q .1, c .before .before .before .before .before .before .before .before .before .before .before .before .before .before .before .before .before .before .before .before .pre),
+      append-whole (append-then (append-then p (l .0)) (q .0)) ∙ settled-is _ _ (at16 .if1 .left) (at14 .if2 .left),
+      omega (arith, p .after, l .1, q .1, at20 .pre),
     )
 
 pub put-spec : {M : Type 1} → statement M
