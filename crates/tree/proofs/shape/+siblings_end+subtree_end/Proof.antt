@@ -1,6 +1,7 @@
 -- The proof of the cycle of calls {siblings_end, subtree_end}: each answers as the definition does, which descends the same way. The measure is the levels
 -- that are left; along siblings, at one level, it is how many of them are left, of which there are fewer than a thousand. Assumes nothing.
 use mathlib.Core.Path.{sym, _∙_}
+use native.Mathlib.Omega.{arith}
 use borrow.Author.Tests.{not-true, not-false}
 use Rattle.tree.proofs.Recursing.{none-left, past-end, at-inner, at-leaf, at-bad, at-good, sum-over, sum-done, none-there, sub-none, not-fitting}
 use Rattle.tree.proofs.Recursing.{fitting, goes-on}
@@ -72,12 +73,12 @@ subtree-end-calls t = (
 siblings-end-returns : (t : ℕ) → siblings-end-lts.Need-returns (siblings-end-calls t) (siblings-end-at t) siblings-end.Post
 siblings-end-returns t c =
     let s = c .before .before .before .before in
-    sum-over _ _ (s .pre .1) _ _ _ _ _ _ (c .before .if1 .taken) (c .if2 .taken)
+    sum-over _ _ (s .pre .1) _ _ _ _ _ (s .args .left) (c .before .if1 .taken) (λ e. omega (arith, e, c .if2 .taken))
 
 siblings-end-returns-2 : (t : ℕ) → siblings-end-lts.Need-returns-2 (siblings-end-calls t) (siblings-end-at t) siblings-end.Post
 siblings-end-returns-2 t c =
     let s = c .before .before .before .before in
-    sum-done _ _ (s .pre .1) _ _ _ _ _ _ (c .before .if1 .taken) (c .if2 .left)
+    sum-done _ _ (s .pre .1) _ _ _ _ _ (s .args .left) (c .before .if1 .taken) (omega (arith, c .if2 .left))
 
 siblings-end-cast-if3 : (t : ℕ) → siblings-end-lts.Need-cast-if3 (siblings-end-calls t) (siblings-end-at t) siblings-end.Post
 siblings-end-cast-if3 t c = search needs
