@@ -3,9 +3,9 @@ use mathlib.Core.Path.{_≡_, refl}
 use mathlib.Core.Bool.{Bool, true, false}
 use mathlib.Core.List.{List, [], _∷_}
 use Prim.Native.Nat.{ℕ, _+_, min, max}
-use lib.ListN.{length, getD, take}
+use lib.ListN.{getD, take}
 use Rattle.book.specs.Choose.{choose}
-use Rattle.tree_layout.specs.Values.{Element, Mark, Region, Tree, leafMark, innerMark, firstDistance, lastFrom, noRegion, regionAt}
+use Rattle.tree_layout.specs.Values.{Tree, leafMark, innerMark, firstDistance, lastFrom, noRegion, regionAt}
 use Rattle.tree_layout.specs.Refusal.{all, comes}
 use Rattle.tree_leaf.specs.Leaf.{names, once, inRange, namedBy, firstList, agreeing, sameYards, leafOk}
 use Rattle.tree.specs.Shape.{childFits, siblings, subtree}
