@@ -4,23 +4,26 @@ use Rattle.book.specs.Choose.{choose}
 use Rattle.tree_layout.specs.Values.{leafMark, innerMark, firstDistance, lastFrom, noRegion, regionAt, noMark}
 use Rattle.tree_layout.specs.Refusal.{all, comes}
 use Rattle.tree_leaf.specs.Leaf.{names, once, inRange, namedBy, firstList, agreeing, sameYards, leafOk}
-use Rattle.tree.specs.Shape.{childFits, siblings, subtree}
+use Rattle.tree.specs.Shape.{siblings, subtree}
 use Rattle.tree.specs.Yards.{endOf, starts, childrenOf}
 use Rattle.search_rules.specs.Instance.{size, children, marks, leaf}
 use Rattle.search_rules.specs.Bounds.{absDiff, combine, aggregate, greatestOf, leastFrom, leastOf, crewBound, tableAt, lower, upper, over, total}
 use Rattle.search_rules.specs.Bounds.{markBound, bound, weight, best, bestOf, chosen, listAbsDiff, f, yardBound}
 use Rattle.search_rules.specs.Queue.{queued, wordAt, pick}
+use Rattle.search_rules.specs.Order.{yardFirst}
 use Rattle.search_rules.specs.Held.{insert, hold, greatestHeld, entry}
+use Rattle.search_rules.specs.Keeping.{keep, enough}
 use Rattle.search_rules.specs.Step.{left, noElement, againKey, waiting, nextPlace, nextF, queueChildren, openInner, queueNext, closeLeaf, openLeaf}
 use Rattle.search_rules.specs.Step.{takeRegion, takeYard, nextRegion, nextYard, leastKey, step, settled, startSearch}
 use Rattle.search_rules.specs.Run.{advance, run}
-use Rattle.search_rules.specs.Examples.{onChain, at, leafOf, three, from0, from2, heavy, near, six, regionKeysAfter, yardKeysAfter, measuredAfter, Worked}
+use Rattle.search_rules.specs.Examples.{onChain, at, leafOf, three, from0, from2, heavy, near, six}
+use Rattle.search_rules.specs.Examples.{regionKeysAfter, yardKeysAfter, measuredAfter, Worked}
 
 pub worked : Worked
 unfolding onChain at leafOf three from0 from2 heavy near six regionKeysAfter yardKeysAfter measuredAfter choose leafMark innerMark firstDistance lastFrom
-    noRegion regionAt noMark all comes names once inRange namedBy firstList agreeing sameYards leafOk siblings subtree endOf starts childrenOf size children marks
-    leaf absDiff combine aggregate greatestOf leastFrom leastOf crewBound tableAt lower upper over total markBound bound weight best bestOf chosen listAbsDiff f
-    yardBound queued wordAt pick insert hold greatestHeld entry left noElement againKey waiting nextPlace nextF queueChildren openInner queueNext closeLeaf
+    noRegion regionAt noMark all comes names once inRange namedBy firstList agreeing sameYards leafOk siblings subtree endOf starts childrenOf size children
+    marks leaf absDiff combine aggregate greatestOf leastFrom leastOf crewBound tableAt lower upper over total markBound bound weight best bestOf chosen listAbsDiff f
+    yardBound queued wordAt pick yardFirst insert hold greatestHeld entry keep enough left noElement againKey waiting nextPlace nextF queueChildren openInner queueNext closeLeaf
     openLeaf takeRegion takeYard nextRegion nextYard leastKey step settled startSearch advance run
 worked = record {
   tied-weights = refl;

@@ -12,7 +12,8 @@ use Rattle.search_rules.specs.Run.{run}
 
 -- ---- junctions in a chain
 
--- a search on a chain of junctions, given by each one's distance from junction 0
+-- A search on a chain of junctions, given by each one's distance from junction 0. No rule reads the tree's count of
+-- landmarks.
 unfoldable pub onChain : List ℕ → (code k : ℕ) → (crews : List ℕ) → (yards : ℕ) → List Region → Instance
 onChain along code k crews yards regions = record {
   code = code;

@@ -48,7 +48,8 @@ returns-3 c =
     let o = j .before .before in
     let r = o .before .before .before .before in
     let p = r .before .before .before .before .before .before .pre in
-    step-counts _ _ _ (p .0) (p .1) _ _ (r .read .ensures .0) (o .o .given .1) _ (j .junctions .ensures) (omega (arith, t .if1 .left)) _ (c .before .before .count .ensures)
+    step-counts _ _ _ (p .0) (p .1) _ _ (r .read .ensures .0) (o .o .given .1) _ (j .junctions .ensures)
+    (omega (arith, t .if1 .left)) _ (c .before .before .count .ensures)
     (λ e. omega (arith, e, c .if2 .taken))
 
 yards-known-requires : tie.Need-yards-known-requires
@@ -66,7 +67,8 @@ returns-4 c =
     let o = j .before .before in
     let r = o .before .before .before .before in
     let p = r .before .before .before .before .before .before .pre in
-    step-yards _ _ _ (p .0) (p .1) _ _ (r .read .ensures .0) (o .o .given .1) _ (j .junctions .ensures) (omega (arith, t .if1 .left)) _ (y .before .before .count .ensures)
+    step-yards _ _ _ (p .0) (p .1) _ _ (r .read .ensures .0) (o .o .given .1) _ (j .junctions .ensures)
+    (omega (arith, t .if1 .left)) _ (y .before .before .count .ensures)
     (omega (arith, y .if2 .left)) _ (c .before .yards-known .ensures) (not-true _ (c .if3 .taken))
 
 numbers-true-requires : tie.Need-numbers-true-requires
@@ -77,7 +79,8 @@ numbers-true-requires c κs =
     let o = j .before .before in
     let r = o .before .before .before .before in
     let p = r .before .before .before .before .before .before .pre in
-    step-beside _ _ _ (p .0) (p .1) _ _ (r .read .ensures .0) (o .o .given .1) _ (j .junctions .ensures) (omega (arith, t .if1 .left)) _ (y .before .before .count .ensures)
+    step-beside _ _ _ (p .0) (p .1) _ _ (r .read .ensures .0) (o .o .given .1) _ (j .junctions .ensures)
+    (omega (arith, t .if1 .left)) _ (y .before .before .count .ensures)
     (omega (arith, y .if2 .left)) _ (c .before .yards-known .ensures) (not-false _ (c .if3 .left))
 
 returns-5 : tie.Need-returns-5

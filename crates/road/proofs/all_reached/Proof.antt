@@ -24,7 +24,9 @@ shared-slice-read-if1 : tie.Need-shared-slice-read-if1 Inv-loop μ-loop
 shared-slice-read-if1 c = search needs
 
 returns : tie.Need-returns Inv-loop μ-loop
-returns c = sym (stops _ _ (omega arith) (c .if1 .taken) _ (c .before .before .loop-test .taken))
+returns c =
+    let l = c .before .before .before in
+    sym (stops (l .before .args .ds .now) (l .loop .i) (omega arith) (omega (arith, c .if1 .taken)) _ (c .before .before .loop-test .taken))
 
 add-i : tie.Need-add-i Inv-loop μ-loop
 add-i c = search needs
@@ -33,7 +35,9 @@ loop-less : tie.Need-loop-less Inv-loop μ-loop
 loop-less c = search needs
 
 loop-again : tie.Need-loop-again Inv-loop μ-loop
-loop-again c = (omega arith, one-more _ _ (omega arith) (c .before .before .before .loop .inv .1) (c .if1 .left))
+loop-again c =
+    let l = c .before .before .before in
+    (omega arith, one-more (l .before .args .ds .now) (l .loop .i) (omega arith) (l .loop .inv .1) (omega (arith, c .if1 .left)))
 
 returns-2 : tie.Need-returns-2 Inv-loop μ-loop
 returns-2 c =

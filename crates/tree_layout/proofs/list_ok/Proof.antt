@@ -51,7 +51,8 @@ returns-2 : tie.Need-returns-2 Inv-loop μ-loop
 returns-2 c =
     let w = c .before in
     let i = w .before .before in
-    sym (list-limit _ _ _ _ _ _ _ (i .loop-test .taken) (w .before .u32-at2 .ensures) (w .u16-at2 .ensures) (omega (arith, c .if2 .taken))) ∙ i .before .loop .inv .1
+    sym (list-limit _ _ _ _ _ _ _ (i .loop-test .taken) (w .before .u32-at2 .ensures) (w .u16-at2 .ensures) (omega (arith, c .if2 .taken)))
+    ∙ i .before .loop .inv .1
 
 after-requires : tie.Need-after-requires Inv-loop μ-loop
 after-requires c κs = search needs
@@ -76,7 +77,8 @@ loop-again c =
     let w = v .before in
     let i = w .before .before in (
       omega arith,
-      list-next _ _ _ _ _ _ _ (i .loop-test .taken) (w .before .u32-at2 .ensures) (w .u16-at2 .ensures) (omega (arith, v .if2 .left)) (sym (c .before .after .ensures)
+      list-next _ _ _ _ _ _ _ (i .loop-test .taken) (w .before .u32-at2 .ensures) (w .u16-at2 .ensures) (omega (arith, v .if2 .left)) (sym
+          (c .before .after .ensures)
           ∙ not-false _ (c .if3 .left))
           ∙ i .before .loop .inv .1,
     )

@@ -20,7 +20,7 @@ cast-number : tie.Need-cast-number
 cast-number c = let p = c .before .pre in let a = c .before .args in omega (arith, share (a .j) (a .m) (a .s) (p .1) (p .4), p .3)
 
 returns : tie.Need-returns
-returns c = landmark-from _ _ _ _ _ _ (c .if1 .taken) refl
+returns c = landmark-from (c .before .args .list .now) _ _ _ _ _ (omega (arith, c .if1 .taken)) refl
 
 mul-k : tie.Need-mul-k
 mul-k c = let p = c .before .pre in let a = c .before .args in omega (arith, product-small (a .j) (a .m) (length (a .list .now)) (p .1) (p .2) (p .0))

@@ -1,4 +1,5 @@
 use mathlib.Core.Path.{sym}
+use native.Mathlib.Omega.{arith}
 use Rattle.search_call.proofs.Refusing.{short-work, short-results, long-enough}
 use borrow.Author.Needs.{needs}
 use Rattle.search_tree.proofs.answering.areas_refusal.Statement.{statement}
@@ -11,10 +12,14 @@ mul-if2 : tie.Need-mul-if2
 mul-if2 c = search needs
 
 returns-2 : tie.Need-returns-2
-returns-2 c = sym (short-results _ _ _ (c .before .if1 .left) (c .if2 .taken))
+returns-2 c =
+    let a = c .before .before .args in
+    sym (short-results (a .k) (a .work) (a .results) (c .before .if1 .left) (omega (arith, c .if2 .taken)))
 
 returns-3 : tie.Need-returns-3
-returns-3 c = sym (long-enough _ _ _ (c .before .if1 .left) (c .if2 .left))
+returns-3 c =
+    let a = c .before .before .args in
+    sym (long-enough (a .k) (a .work) (a .results) (c .before .if1 .left) (omega (arith, c .if2 .left)))
 
 pub areas-refusal-spec : {M : Type 1} → statement M
 areas-refusal-spec = tie.close (tie.spec returns mul-if2 returns-2 returns-3)

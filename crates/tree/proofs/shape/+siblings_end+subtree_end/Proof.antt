@@ -75,12 +75,12 @@ subtree-end-calls t = (
 siblings-end-returns : (t : ℕ) → siblings-end-lts.Need-returns (siblings-end-calls t) (siblings-end-at t) siblings-end.Post
 siblings-end-returns t c =
     let s = c .before .before .before .before in
-    broken _ (sum-over _ _ (s .pre .1 .0) _ _ _ _ _ _ (c .before .if1 .taken) (c .if2 .taken))
+    broken _ (sum-over _ _ (s .pre .1 .0) _ _ _ _ _ (s .args .left) (c .before .if1 .taken) (λ e. omega (arith, e, c .if2 .taken)))
 
 siblings-end-returns-2 : (t : ℕ) → siblings-end-lts.Need-returns-2 (siblings-end-calls t) (siblings-end-at t) siblings-end.Post
 siblings-end-returns-2 t c =
     let s = c .before .before .before .before in
-    reached _ _ (sum-done _ _ (s .pre .1 .0) _ _ _ _ _ _ (c .before .if1 .taken) (c .if2 .left)) (s .pre .1 .1)
+    reached _ _ (sum-done _ _ (s .pre .1 .0) _ _ _ _ _ (s .args .left) (c .before .if1 .taken) (omega (arith, c .if2 .left))) (s .pre .1 .1)
 
 siblings-end-cast-if3 : (t : ℕ) → siblings-end-lts.Need-cast-if3 (siblings-end-calls t) (siblings-end-at t) siblings-end.Post
 siblings-end-cast-if3 t c = search needs
