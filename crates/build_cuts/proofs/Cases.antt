@@ -19,9 +19,9 @@ use Rattle.build_rules.proofs.Parts.{Rising, within-rising, within-none, within
 use Rattle.build_rules.proofs.Parts.{regions-drop, regions-keep, regions-none}
 use Rattle.build_rules.proofs.Steps.{within-nested, part-within, cut-none, cut-leaf, cut-one, cut-many}
 use Rattle.build_records.specs.Given.{given}
-use Rattle.build_cuts.specs.Writing.{ownRegions}
+use Rattle.build_cuts.specs.code.Writing.{ownRegions}
 use Rattle.build_cuts.proofs.Records.{own-none, own-leaf, own-inner}
-use Rattle.build_cuts.specs.Cutting.{rangeRegions, partsFrom}
+use Rattle.build_cuts.specs.code.Cutting.{rangeRegions, partsFrom}
 use Rattle.build_records.proofs.Fields.{given-limit}
 use Rattle.build_cuts.proofs.Slices.{yards-rising}
 

@@ -11,7 +11,7 @@ use Rattle.yard.proofs.Turns.{yards-none, yards-all}
 use Rattle.build_records.proofs.Numbered.{yards-turn}
 use Rattle.check_rules.specs.Truth.{within}
 use Rattle.build_rules.specs.Cut.{cutAt, cutPart, partCount}
-use Rattle.build_rules.specs.Facts.{countBelow}
+use Rattle.build_rules.specs.code.Facts.{countBelow}
 use Rattle.build_rules.proofs.Parts.{cut-first, count-none, count-drop, count-keep}
 use Rattle.build_rules.proofs.Steps.{count-empty, count-yes, count-no}
 use Rattle.build_cuts.proofs.Slices.{part-length}

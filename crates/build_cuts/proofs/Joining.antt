@@ -9,7 +9,7 @@ use Rattle.book.proofs.Writing.{u16-length, write-append, write-none}
 use Rattle.tree_layout.specs.Values.{Region}
 use Rattle.tree_encode.specs.Encode.{encodeMarks, encodeRegion, encodeRegions}
 use Rattle.tree_encode.proofs.Sizes.{encode-none, encode-cons, encode-append, region-is}
-use Rattle.build_cuts.specs.Writing.{WrittenRegions}
+use Rattle.build_cuts.specs.code.Writing.{WrittenRegions}
 
 -- ---- lengths
 

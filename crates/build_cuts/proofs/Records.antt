@@ -14,9 +14,9 @@ use Rattle.tree_layout.specs.Decode.{recordSize}
 use Rattle.tree_encode.specs.Encode.{encodeRegion, encodeRegions}
 use Rattle.build_rules.specs.Cut.{leafRegion, innerRegion}
 use Rattle.build_records.specs.Given.{given}
-use Rattle.build_records.specs.Parts.{regionOf}
+use Rattle.build_records.specs.code.Parts.{regionOf}
 use Rattle.build_records.proofs.Records.{region-leaf, region-inner, region-bytes}
-use Rattle.build_cuts.specs.Writing.{ownRegions, WrittenRegions}
+use Rattle.build_cuts.specs.code.Writing.{ownRegions, WrittenRegions}
 use Rattle.build_cuts.proofs.Joining.{one-bytes, written-none, written-one, written-same}
 
 module _ (b : List ℕ) (m limit a s q : ℕ) (ys : List ℕ) where

@@ -10,7 +10,7 @@ use Rattle.yard.proofs.YardLayout.{rising-yards}
 use Rattle.yard.proofs.Turns.{yards-slice}
 use Rattle.check_rules.specs.Truth.{within}
 use Rattle.build_rules.specs.Cut.{cutAt, cutPart}
-use Rattle.build_rules.specs.Facts.{countBelow}
+use Rattle.build_rules.specs.code.Facts.{countBelow}
 use Rattle.build_rules.proofs.Parts.{Rising, rising-places, cut-rise}
 use Rattle.build_rules.proofs.Steps.{count-most, count-rise, within-slice, part-within}
 

@@ -11,10 +11,10 @@ use Rattle.yard.specs.Yards.{yardsOf, yardRefusal}
 use Rattle.check_rules.specs.Truth.{within}
 use Rattle.tree_encode.specs.Encode.{encodeRegions}
 use Rattle.build_rules.specs.Cut.{cutAt, cutPart}
-use Rattle.build_rules.specs.Facts.{countBelow}
+use Rattle.build_rules.specs.code.Facts.{countBelow}
 use Rattle.build_rules.proofs.Parts.{cut-rise, cut-top}
-use Rattle.build_cuts.specs.Writing.{WrittenRegions}
-use Rattle.build_cuts.specs.Cutting.{rangeRegions, partsFrom}
+use Rattle.build_cuts.specs.code.Writing.{WrittenRegions}
+use Rattle.build_cuts.specs.code.Cutting.{rangeRegions, partsFrom}
 use Rattle.build_cuts.proofs.Slices.{part-yards}
 use Rattle.build_cuts.proofs.Joining.{written-none, written-join, written-same, written-few, fits-first, fits-rest}
 use Rattle.build_cuts.proofs.Cases.{parts-none, parts-drop, parts-keep}

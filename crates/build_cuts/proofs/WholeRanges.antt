@@ -14,11 +14,11 @@ use Rattle.tree_layout.specs.Decode.{recordSize}
 use Rattle.check_rules.specs.Truth.{within}
 use Rattle.tree_encode.specs.Encode.{encodeRegions}
 use Rattle.build_rules.specs.Cut.{partCount}
-use Rattle.build_rules.specs.Facts.{countBelow}
+use Rattle.build_rules.specs.code.Facts.{countBelow}
 use Rattle.build_records.specs.declared.Part.{Part}
-use Rattle.build_records.specs.Parts.{YardsUpTo, PartReady}
-use Rattle.build_cuts.specs.Writing.{ownRegions, WrittenRegions}
-use Rattle.build_cuts.specs.Cutting.{Range, rangeRegions, partsFrom}
+use Rattle.build_records.specs.code.Parts.{YardsUpTo, PartReady}
+use Rattle.build_cuts.specs.code.Writing.{ownRegions, WrittenRegions}
+use Rattle.build_cuts.specs.code.Cutting.{Range, rangeRegions, partsFrom}
 use Rattle.build_cuts.proofs.Slices.{below-most, below-rise, within-yards}
 use Rattle.build_cuts.proofs.Joining.{written-join, written-same, written-few, fits-first, fits-rest}
 use Rattle.build_cuts.proofs.Records.{own-room}

@@ -11,9 +11,9 @@ ghost use lib.Dec.{eqb, leb};
 ghost use Rattle.adjacency.specs.Adjacency.{Adjacency};
 ghost use Rattle.yard.specs.Yards.{yardsFrom};
 ghost use Rattle.tree_layout.specs.Decode.{recordSize};
-ghost use Rattle.build_records.specs.Parts.{PartReady};
-ghost use Rattle.build_cuts.specs.Writing.{ownRegions, WrittenRegions};
-ghost use Rattle.build_cuts.specs.Cutting.{Range, Room, regionsOf, partsOf};
+ghost use Rattle.build_records.specs.code.Parts.{PartReady};
+ghost use Rattle.build_cuts.specs.code.Writing.{ownRegions, WrittenRegions};
+ghost use Rattle.build_cuts.specs.code.Cutting.{Range, Room, regionsOf, partsOf};
 
 // What building is asked for: how many landmarks a region has, and how many yards a leaf has at most.
 pub struct Plan {

@@ -5,8 +5,8 @@ ghost use Prim.Native.Nat.{_+_, _≤_, _<_};
 ghost use Rattle.yard.specs.Yards.{yardsOf, yardRefusal};
 ghost use Rattle.check_rules.specs.Truth.{within};
 ghost use Rattle.build_rules.specs.Cut.{cutAt, partCount};
-ghost use Rattle.build_rules.specs.Facts.{countBelow};
-ghost use Rattle.build_cuts.specs.Cutting.{Numbered};
+ghost use Rattle.build_rules.specs.code.Facts.{countBelow};
+ghost use Rattle.build_cuts.specs.code.Cutting.{Numbered};
 
 // A range is cut into so many parts.
 pub const PARTS: usize = 4;

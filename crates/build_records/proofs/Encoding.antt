@@ -10,7 +10,7 @@ use Rattle.tree_encode.specs.Encode.{encodeMark, encodeMarks}
 use Rattle.tree_encode.proofs.Sizes.{marks-none, marks-next}
 use Rattle.build_rules.specs.Cut.{landmark, landmarksFrom, rankedList}
 use Rattle.build_rules.proofs.Landmarks.{landmarks-none, landmarks-next}
-use Rattle.build_records.specs.Marks.{markBytes, landmarkBytes}
+use Rattle.build_records.specs.code.Marks.{markBytes, landmarkBytes}
 use Rattle.build_records.proofs.Writing.{mark-leaf-encoded, mark-inner-encoded}
 
 -- one landmark's bytes at a time

@@ -8,7 +8,7 @@ use lib.ListN.{getD}
 use Rattle.yard.specs.Yards.{yardAt, yardsFrom, yardsOf}
 use Rattle.yard.proofs.YardLayout.{layout, yards-at}
 use Rattle.yard.proofs.Turns.{yard-is, yards-next}
-use Rattle.build_records.specs.Parts.{YardsUpTo}
+use Rattle.build_records.specs.code.Parts.{YardsUpTo}
 
 -- the yard of number k, then those after it
 pub yards-turn : (yb : List ℕ) (to k y : ℕ) → k < to → y ≡ yardAt yb k → yardsFrom yb (to - k) k ≡ y ∷ yardsFrom yb (to - (k + 1)) (k + 1)

@@ -19,14 +19,14 @@ use Rattle.tree_layout.specs.Decode.{markSize, recordSize}
 use Rattle.tree_layout.proofs.Decoding.{record-size}
 use Rattle.tree_layout.proofs.Places.{mark-size-leaf, mark-size-inner}
 use Rattle.tree_encode.specs.Encode.{encodeRegion}
-use Rattle.tree_encode.specs.Parts.{encodeFields}
+use Rattle.tree_encode.specs.code.Parts.{encodeFields}
 use Rattle.tree_encode.proofs.Parts.{fields-length, fields-then}
 use Rattle.build_rules.specs.Cut.{Given, borders, leafRegion, innerRegion}
 use Rattle.build_rules.proofs.Landmarks.{landmarks-are}
 use Rattle.build_rules.proofs.Records.{leaf-record, leaf-size, inner-record, inner-size}
 use Rattle.build_records.specs.Given.{given}
-use Rattle.build_records.specs.Marks.{markBytes, landmarkBytes}
-use Rattle.build_records.specs.Parts.{regionOf}
+use Rattle.build_records.specs.code.Marks.{markBytes, landmarkBytes}
+use Rattle.build_records.specs.code.Parts.{regionOf}
 use Rattle.build_records.proofs.Encoding.{leaf-marks-encoded, inner-marks-encoded}
 
 -- ---- a region by the number of its children

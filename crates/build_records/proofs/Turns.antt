@@ -11,7 +11,7 @@ use Rattle.book.proofs.Writing.{write-append, write-none}
 use Rattle.road_layout.specs.Road.{Road}
 use Rattle.build_rules.specs.Cut.{borders, landmark}
 use Rattle.build_rules.proofs.Landmarks.{landmark-in}
-use Rattle.build_records.specs.Marks.{landmarkBytes}
+use Rattle.build_records.specs.code.Marks.{landmarkBytes}
 
 -- the tree so far, where the next landmark goes, and the landmarks that are left; each takes w bytes
 pub record Marking (f : ℕ → List ℕ) (w m a s : ℕ) (bs tree₀ : List ℕ) (start : ℕ) (tree : List ℕ) (at j : ℕ) : Type 0 where

@@ -27,9 +27,9 @@ use Rattle.tree_layout.proofs.MarkFields.{leaf-place, leaf-pairs, inner-place, 
 use Rattle.tree_layout.proofs.Places.{mark-size-leaf, mark-size-inner}
 use Rattle.build_rules.specs.Cut.{rankedList}
 use Rattle.build_rules.proofs.Ranked.{ranked-length}
-use Rattle.build_records.specs.Keys.{ranksOf, keyBytes, distanceIn, Keyed}
-use Rattle.build_records.specs.Marks.{leafBytes, innerBytes, markBytes}
-use Rattle.build_records.specs.Parts.{YardsUpTo}
+use Rattle.build_records.specs.code.Keys.{ranksOf, keyBytes, distanceIn, Keyed}
+use Rattle.build_records.specs.code.Marks.{leafBytes, innerBytes, markBytes}
+use Rattle.build_records.specs.code.Parts.{YardsUpTo}
 use Rattle.build_records.proofs.Keyed.{Gives, ranked-bytes}
 use Rattle.build_records.proofs.Numbered.{yard-low}
 

@@ -1,4 +1,2 @@
-pub mod Keys
-pub mod Marks
 pub mod Given
-pub mod Parts
+pub mod code

@@ -17,8 +17,8 @@ ghost use Rattle.tree_layout.specs.Decode.{markSize, recordSize};
 ghost use Rattle.tree_encode.specs.Encode.{encodeRegion};
 ghost use Rattle.build_rules.specs.Cut.{borders};
 ghost use Rattle.build_records.specs.Given.{given};
-ghost use Rattle.build_records.specs.Marks.{markBytes, landmarkBytes};
-ghost use Rattle.build_records.specs.Parts.{PartReady, regionOf};
+ghost use Rattle.build_records.specs.code.Marks.{markBytes, landmarkBytes};
+ghost use Rattle.build_records.specs.code.Parts.{PartReady, regionOf};
 
 // A range: its first junction, how many junctions it has, and the numbers of its yards, `from` up to `end`.
 pub struct Part {

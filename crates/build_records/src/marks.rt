@@ -12,8 +12,8 @@ ghost use Rattle.adjacency.specs.Adjacency.{countIn, Adjacency};
 ghost use Rattle.road.specs.Dijkstra.{distances};
 ghost use Rattle.tree_layout.specs.Sizes.{leafMarkSize, innerMarkSize};
 ghost use Rattle.tree_layout.specs.Decode.{markSize};
-ghost use Rattle.build_records.specs.Marks.{leafBytes, innerBytes, markBytes};
-ghost use Rattle.build_records.specs.Parts.{YardsUpTo, PartReady};
+ghost use Rattle.build_records.specs.code.Marks.{leafBytes, innerBytes, markBytes};
+ghost use Rattle.build_records.specs.code.Parts.{YardsUpTo, PartReady};
 
 // Writes landmark l of a leaf that has the yards of number `from` up to `end`: its junction and its list.
 fn put_leaf_mark(

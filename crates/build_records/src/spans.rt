@@ -5,8 +5,8 @@ ghost use Prim.Native.Nat.{_-_, _<_, min, max};
 ghost use lib.ListN.{length};
 ghost use Rattle.yard.specs.Yards.{yardsFrom};
 ghost use Rattle.check_rules.specs.Truth.{least, greatest};
-ghost use Rattle.build_records.specs.Keys.{distanceIn};
-ghost use Rattle.build_records.specs.Parts.{YardsUpTo};
+ghost use Rattle.build_records.specs.code.Keys.{distanceIn};
+ghost use Rattle.build_records.specs.code.Parts.{YardsUpTo};
 
 fn lesser(x: u32, y: u32) -> u32
     ensures { λ r. ⌜ r ≡ min x y ⌝ }

@@ -17,7 +17,7 @@ use Rattle.road_layout.specs.Road.{Road}
 use Rattle.tree_layout.specs.Values.{Mark, noMark}
 use Rattle.build_rules.specs.Cut.{Given, outside, leadsOut, isBorder, bordersFrom, borders, landmark, landmarksFrom, landmarksOf}
 use Rattle.build_rules.specs.Cuts.{OfRange, Joins, IsBorder, Borders, IsLandmark, Landmarks}
-use Rattle.build_rules.specs.Facts.{termsOf}
+use Rattle.build_rules.specs.code.Facts.{termsOf}
 use Rattle.build_rules.proofs.Ordered.{ordered-same}
 use Rattle.build_rules.proofs.Parts.{Rising, rising-places, places-rising}
 use Rattle.build_rules.proofs.Landmarks.{borders-range, landmark-none, landmark-some, landmark-in, landmarks-next, landmarks-are}

@@ -14,7 +14,7 @@ use Rattle.check_rules.proofs.Extremes.{least-is, greatest-is}
 use Rattle.check_rules.proofs.ByDistance.{least-of-one, greatest-of-one, least-away, greatest-away}
 use Rattle.build_rules.specs.Cut.{Given, landmarksOf, rankedList, leafRegion, innerRegion}
 use Rattle.build_rules.specs.Cuts.{OfRange, ListOf, LeafLandmark, InnerLandmark, RecordOf}
-use Rattle.build_rules.specs.Facts.{termsOf, Measures}
+use Rattle.build_rules.specs.code.Facts.{termsOf, Measures}
 use Rattle.build_rules.proofs.Ordered.{Ordered, ordered-same}
 use Rattle.build_rules.proofs.Ranked.{before-trans, ranked-is, ranked-yard, yard-ranked, ranked-distinct, ranked-rises}
 use Rattle.build_rules.proofs.Landmarks.{landmarks-range}

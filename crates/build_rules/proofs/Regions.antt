@@ -10,13 +10,13 @@ use lib.Dec.{T}
 use Rattle.book.proofs.Lists.{map-mem}
 use Rattle.tree_layout.specs.Values.{Mark, Region, leafMark, innerMark}
 use Rattle.tree_layout.specs.Facts.{RegionValues}
-use Rattle.tree_layout.specs.Formed.{Formed}
+use Rattle.tree_layout.specs.code.Formed.{Formed}
 use Rattle.tree_layout.proofs.MarkFields.{leaf-place, leaf-pairs, leaf-form, inner-place, inner-least, inner-greatest, inner-form}
 use Rattle.tree_leaf.specs.Leaf.{firstList, leafOk}
 use Rattle.tree_leaf.specs.Leaf.{yardsIn}
 use Rattle.tree_leaf.specs.Facts.{LeafLists}
 use Rattle.tree_leaf.proofs.Named.{first-mark, lists-leaf}
-use Rattle.tree_encode.specs.Facts.{SmallRegion}
+use Rattle.tree_encode.specs.code.Facts.{SmallRegion}
 use Rattle.check_rules.specs.Truth.{least, greatest}
 use Rattle.check_rules.specs.Facts.{Same}
 use Rattle.check_rules.proofs.Extremes.{least-is, greatest-is, least-greatest}

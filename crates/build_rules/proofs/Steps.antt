@@ -16,7 +16,7 @@ use Rattle.tree_layout.specs.Values.{Region, Tree}
 use Rattle.check_rules.specs.Truth.{within}
 use Rattle.check_rules.proofs.Within.{within-yes, within-no, within-empty}
 use Rattle.build_rules.specs.Cut.{Given, leafRegion, innerRegion, cutAt, cutPart, partCount, partRegions, cut, cutTree}
-use Rattle.build_rules.specs.Facts.{countBelow}
+use Rattle.build_rules.specs.code.Facts.{countBelow}
 use Rattle.build_rules.proofs.Parts.{Rising, within-none, cut-first, cut-rise, cut-top, part-is}
 
 -- ---- the yards of a range are neighbours in a rising list

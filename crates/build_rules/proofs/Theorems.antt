@@ -9,7 +9,7 @@ use Rattle.book.proofs.Lists.{mem-getD}
 use Rattle.tree_layout.specs.Values.{Region, Tree, regionAt}
 use Rattle.tree_layout.specs.Decode.{decode}
 use Rattle.tree_layout.specs.Facts.{RegionValues}
-use Rattle.tree_layout.specs.Formed.{FormedTree}
+use Rattle.tree_layout.specs.code.Formed.{FormedTree}
 use Rattle.tree.specs.Shape.{subtree, levels, shaped, treeRefusal}
 use Rattle.tree.specs.Yards.{oneLeaf, oneInner, yardsBelow, treeYards}
 use Rattle.tree.proofs.Forest.{siblings-next}
@@ -20,12 +20,12 @@ use Rattle.tree.proofs.Ranges.{tree-span}
 use Rattle.tree.proofs.Sums.{sum-all, all-counted}
 use Rattle.tree.proofs.Theorems.{sane-of}
 use Rattle.tree_encode.specs.Encode.{encode}
-use Rattle.tree_encode.specs.Facts.{SoundTree, SmallTree}
+use Rattle.tree_encode.specs.code.Facts.{SoundTree, SmallTree}
 use Rattle.tree_encode.proofs.Theorems.{written}
 use Rattle.check_rules.specs.Facts.{TrueNumbers, Same}
 use Rattle.check_rules.proofs.Theorems.{RegionTrue, tested}
 use Rattle.build_rules.specs.Cut.{Given, cut, cutTree}
-use Rattle.build_rules.specs.Facts.{InLimits, Measures, OneTree, Built}
+use Rattle.build_rules.specs.code.Facts.{InLimits, Measures, OneTree, Built}
 use Rattle.build_rules.proofs.Parts.{fours, rising-places}
 use Rattle.build_rules.proofs.Cutting.{Held, CutForest, forest-length, cut-forest}
 use Rattle.build_rules.proofs.Steps.{tree-regions}

@@ -17,7 +17,7 @@ use Rattle.build_rules.specs.Cut.{Given, outside, leadsOut, isBorder, bo
 use Rattle.build_rules.specs.Cut.{insertElement}
 use Rattle.build_rules.specs.Cut.{rankInto, rankedList, leafRegion, innerRegion, cutAt, cutPart, partCount, partRegions, cut, cutTree}
 use Rattle.build_rules.specs.Cuts.{CutRange}
-use Rattle.build_rules.specs.Facts.{InLimits, termsOf, OneTree, Built}
+use Rattle.build_rules.specs.code.Facts.{InLimits, termsOf, OneTree, Built}
 use Rattle.build_rules.proofs.Theorems.{built, one-tree}
 
 -- net N's distances from junction 0: "junctions 0 to 4 in a chain, seconds 2, 3, 4, 1"

@@ -1,3 +1,3 @@
 pub mod Cut
 pub mod Cuts
-pub mod Facts
+pub mod code

@@ -10,7 +10,7 @@ use Rattle.road.proofs.Theorems.{passing, metric}
 use Rattle.yard.specs.Yards.{yardCount, yardsOf, yardRefusal, yardRefusalIn}
 use Rattle.yard.proofs.YardLayout.{passes-alone, rising-yards, count-small, yards-inside}
 use Rattle.check_rules.specs.Truth.{within}
-use Rattle.build_rules.specs.Facts.{InLimits, Built}
+use Rattle.build_rules.specs.code.Facts.{InLimits, Built}
 use Rattle.build_rules.proofs.Parts.{within-all}
 use Rattle.build_rules.proofs.Steps.{tree-junctions, tree-yards, tree-landmarks, tree-regions}
 use Rattle.build_rules.proofs.Theorems.{built}
@@ -18,7 +18,7 @@ use Rattle.tree_encode.specs.Encode.{encodeRegions, encode}
 use Rattle.tree_encode.proofs.Sizes.{encode-length}
 use Rattle.build_records.specs.Given.{given}
 use Rattle.build_records.proofs.Fields.{given-d, given-landmarks, given-limit}
-use Rattle.build_cuts.specs.Cutting.{rangeRegions}
+use Rattle.build_cuts.specs.code.Cutting.{rangeRegions}
 use Rattle.build_cuts.proofs.Cases.{range-cut}
 use Rattle.build_tree.specs.Build.{treeBytes, builtTree}
 use Rattle.build_tree.specs.Facts.{AcceptedBuild}

@@ -10,12 +10,12 @@ use Rattle.adjacency.specs.Adjacency.{countIn, Adjacency}
 use Rattle.yard.specs.Yards.{yardCount, yardRefusalIn}
 use Rattle.tree_layout.specs.Values.{Tree}
 use Rattle.tree_encode.specs.Encode.{encodeRegions, encode}
-use Rattle.tree_encode.specs.Parts.{treeHeader}
+use Rattle.tree_encode.specs.code.Parts.{treeHeader}
 use Rattle.tree_encode.proofs.Parts.{header-length, book-is}
 use Rattle.build_records.specs.declared.Part.{Part}
 use Rattle.build_cuts.specs.declared.Plan.{Plan}
-use Rattle.build_cuts.specs.Writing.{WrittenRegions}
-use Rattle.build_cuts.specs.Cutting.{regionsOf, Numbered, Range, Room}
+use Rattle.build_cuts.specs.code.Writing.{WrittenRegions}
+use Rattle.build_cuts.specs.code.Cutting.{regionsOf, Numbered, Range, Room}
 use Rattle.build_tree.specs.Build.{builtTree}
 use Rattle.build_tree.specs.Facts.{AcceptedBy}
 use Rattle.build_tree.proofs.Heading.{write-before}

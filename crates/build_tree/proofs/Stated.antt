@@ -9,7 +9,7 @@ use Rattle.road.proofs.Walks.{least-unique}
 use Rattle.road.proofs.Theorems.{passing, metric}
 use Rattle.yard.specs.Yards.{yardsOf}
 use Rattle.tree_layout.specs.Values.{Tree}
-use Rattle.build_rules.specs.Facts.{termsOf, Measures, OneTree}
+use Rattle.build_rules.specs.code.Facts.{termsOf, Measures, OneTree}
 use Rattle.build_rules.proofs.Theorems.{one-tree}
 use Rattle.build_records.specs.Given.{given}
 use Rattle.build_records.proofs.Fields.{given-roads, given-d, given-landmarks, given-limit}

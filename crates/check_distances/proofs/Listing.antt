@@ -12,8 +12,8 @@ use Rattle.adjacency.specs.Adjacency.{countIn}
 use Rattle.road.specs.Dijkstra.{at, dist}
 use Rattle.tree_layout.specs.Values.{Element, leafMark, noMark}
 use Rattle.tree_layout.specs.Decode.{elementAt, readList, listPart, landmarkCount}
-use Rattle.tree_layout.specs.Accessors.{fieldsAt, listedAt}
-use Rattle.tree_layout.specs.Marks.{marksAt, markPlace}
+use Rattle.tree_layout.specs.code.Accessors.{fieldsAt, listedAt}
+use Rattle.tree_layout.specs.code.Marks.{marksAt, markPlace}
 use Rattle.tree_layout.specs.Refusal.{all}
 use Rattle.tree_layout.specs.declared.Fields.{Fields}
 use Rattle.tree_layout.specs.declared.Listed.{Listed}
@@ -24,8 +24,8 @@ use Rattle.tree_layout.proofs.RecordFields.{list-inside}
 use Rattle.tree_layout.proofs.MarkPlaces.{listMark}
 use Rattle.check_rules.specs.Truth.{trueElement, trueList}
 use Rattle.check_rules.proofs.Testing.{element-test, list-test}
-use Rattle.check_distances.specs.Row.{distancesFrom, elementIn, listIn}
-use Rattle.check_distances.specs.Beside.{Marked}
+use Rattle.check_distances.specs.code.Row.{distancesFrom, elementIn, listIn}
+use Rattle.check_distances.specs.code.Beside.{Marked}
 use Rattle.check_distances.proofs.Turns.{all-goes, all-stops}
 use Rattle.check_distances.proofs.Rows.{looked}
 use Rattle.check_distances.proofs.Records.{mark-number, mark-mem, mark-listed}

@@ -12,8 +12,8 @@ use Rattle.book.proofs.Lists.{eq→eqb, ne→neqb}
 use Rattle.yard.specs.Yards.{yardsOf}
 use Rattle.tree_layout.specs.Values.{Region, regionAt}
 use Rattle.tree_layout.specs.Decode.{readRegion, regionCount, landmarkCount, placeOf, decode}
-use Rattle.tree_layout.specs.Accessors.{fieldsAt}
-use Rattle.tree_layout.specs.Marks.{marksAt}
+use Rattle.tree_layout.specs.code.Accessors.{fieldsAt}
+use Rattle.tree_layout.specs.code.Marks.{marksAt}
 use Rattle.tree_layout.specs.Refusal.{all}
 use Rattle.tree_layout.specs.declared.Fields.{Fields}
 use Rattle.tree_layout.proofs.Accepting.{layout-facts}
@@ -21,7 +21,7 @@ use Rattle.tree_layout.proofs.Reading.{region-first, region-after, region-child
 use Rattle.tree_layout.proofs.RegionRecords.{layout-region, layout-member, layout-placed, layout-record}
 use Rattle.check_rules.specs.Truth.{trueList, trueSpan, within, trueBesideRegion, trueBeside}
 use Rattle.check_rules.proofs.Testing.{beside-region-test, beside-test}
-use Rattle.check_distances.specs.Beside.{Marked, Beside}
+use Rattle.check_distances.specs.code.Beside.{Marked, Beside}
 use Rattle.check_distances.proofs.Records.{marks-read}
 
 -- ---- the region whose record is at a place, by its fields

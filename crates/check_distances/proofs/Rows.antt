@@ -12,7 +12,7 @@ use Rattle.adjacency.specs.Adjacency.{countIn, IsAdjacency}
 use Rattle.road.specs.Dijkstra.{far, at, distances, dist}
 use Rattle.road.proofs.Distances.{dist-bound-all}
 use Rattle.road.proofs.Theorems.{dist-at, net-sound}
-use Rattle.check_distances.specs.Row.{distancesFrom, RowFrom}
+use Rattle.check_distances.specs.code.Row.{distancesFrom, RowFrom}
 
 -- a walk's row has the distances from its source
 pub walked : (road ds : List ℕ) (u : ℕ) → ds ≡ distances (net road) (junctions road) u → ds ≡ distancesFrom road u

@@ -14,15 +14,15 @@ use Rattle.adjacency.specs.Adjacency.{countIn, Adjacency}
 use Rattle.road.specs.Dijkstra.{far, at, dist}
 use Rattle.tree_layout.specs.Values.{Mark, noMark}
 use Rattle.tree_layout.specs.Decode.{landmarkCount}
-use Rattle.tree_layout.specs.Marks.{marksAt, landmarkOf}
+use Rattle.tree_layout.specs.code.Marks.{marksAt, landmarkOf}
 use Rattle.tree_layout.specs.Refusal.{all}
 use Rattle.tree_layout.specs.declared.Landmark.{Landmark}
 use Rattle.check_rules.specs.Truth.{leastDistanceFrom, greatestFrom, trueSpan, within}
 use Rattle.check_rules.proofs.Extremes.{least-none, least-next, least-from, greatest-none, greatest-next, greatest-from}
 use Rattle.check_rules.proofs.Testing.{span-test}
 use Rattle.check_rules.proofs.Within.{within-yes, within-no, within-empty}
-use Rattle.check_distances.specs.Row.{distancesFrom, spanIn}
-use Rattle.check_distances.specs.Beside.{Marked}
+use Rattle.check_distances.specs.code.Row.{distancesFrom, spanIn}
+use Rattle.check_distances.specs.code.Beside.{Marked}
 use Rattle.check_distances.proofs.Turns.{drop-next, all-goes, all-stops}
 use Rattle.check_distances.proofs.Rows.{looks, dist-most}
 use Rattle.check_distances.proofs.Records.{mark-number, mark-mem}

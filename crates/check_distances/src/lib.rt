@@ -14,7 +14,7 @@ ghost use Rattle.road.specs.Dijkstra.{dist};
 ghost use Rattle.yard.specs.Yards.{yardsOf, yardRefusal};
 ghost use Rattle.tree_layout.specs.Decode.{decode, readRegion, landmarkCount};
 ghost use Rattle.check_rules.specs.Truth.{within, trueBesideRegion, trueBeside};
-ghost use Rattle.check_distances.specs.Beside.{Marked, Beside};
+ghost use Rattle.check_distances.specs.code.Beside.{Marked, Beside};
 
 // Whether the numbers of the region whose record is at a place are true. It has m landmarks.
 fn region_true(adj: &[u16], yard: &[u8], tree: &[u8], m: usize, at: usize) -> bool

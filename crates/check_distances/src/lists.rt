@@ -11,12 +11,12 @@ ghost use lib.ListN.{length};
 ghost use Rattle.adjacency.specs.Adjacency.{Adjacency};
 ghost use Rattle.road.specs.Dijkstra.{dist};
 ghost use Rattle.tree_layout.specs.Decode.{readList, landmarkCount};
-ghost use Rattle.tree_layout.specs.Accessors.{fieldsAt};
-ghost use Rattle.tree_layout.specs.Marks.{marksAt};
+ghost use Rattle.tree_layout.specs.code.Accessors.{fieldsAt};
+ghost use Rattle.tree_layout.specs.code.Marks.{marksAt};
 ghost use Rattle.tree_layout.specs.Refusal.{all};
 ghost use Rattle.check_rules.specs.Truth.{trueList};
-ghost use Rattle.check_distances.specs.Row.{listIn};
-ghost use Rattle.check_distances.specs.Beside.{Marked};
+ghost use Rattle.check_distances.specs.code.Row.{listIn};
+ghost use Rattle.check_distances.specs.code.Beside.{Marked};
 
 // Whether each of n elements has the distance that ds has for its yard.
 fn list_true(p: &[u8], n: usize, ds: &[u32]) -> bool

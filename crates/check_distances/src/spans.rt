@@ -12,11 +12,11 @@ ghost use Rattle.adjacency.specs.Adjacency.{Adjacency};
 ghost use Rattle.road.specs.Dijkstra.{at, dist};
 ghost use Rattle.yard.specs.Yards.{yardsOf, yardRefusal};
 ghost use Rattle.tree_layout.specs.Decode.{landmarkCount};
-ghost use Rattle.tree_layout.specs.Marks.{marksAt};
+ghost use Rattle.tree_layout.specs.code.Marks.{marksAt};
 ghost use Rattle.tree_layout.specs.Refusal.{all};
 ghost use Rattle.check_rules.specs.Truth.{leastDistanceFrom, greatestFrom, trueSpan, within};
-ghost use Rattle.check_distances.specs.Row.{spanIn};
-ghost use Rattle.check_distances.specs.Beside.{Marked};
+ghost use Rattle.check_distances.specs.code.Row.{spanIn};
+ghost use Rattle.check_distances.specs.code.Beside.{Marked};
 
 // The lesser of x and yard y's distance, if y lies in the region's range; else x.
 fn least_with(ds: &[u32], f: Fields, x: u32, y: Junction) -> u32

@@ -4,7 +4,7 @@ ghost use mathlib.Core.Path.{_≡_};
 ghost use Prim.Native.Nat.{_<_};
 ghost use lib.ListN.{length};
 ghost use Rattle.adjacency.specs.Adjacency.{countIn, IsAdjacency};
-ghost use Rattle.check_distances.specs.Row.{RowFrom};
+ghost use Rattle.check_distances.specs.code.Row.{RowFrom};
 
 // Makes ds the distances from a place. They are already those from `last`, if that is a junction.
 pub fn walk_from(adj: &[u16], ds: &mut [u32], last: Junction, place: Junction)

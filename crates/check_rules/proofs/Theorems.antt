@@ -17,7 +17,7 @@ use Rattle.tree_layout.specs.Decode.{decode}
 use Rattle.tree_layout.specs.Refusal.{all}
 use Rattle.tree_layout.specs.Facts.{RegionValues, Rising}
 use Rattle.tree_layout.proofs.Tests.{all-mem, all-intro}
-use Rattle.tree_layout.specs.Formed.{Formed}
+use Rattle.tree_layout.specs.code.Formed.{Formed}
 use Rattle.tree_layout.proofs.Formed.{decode-formed, at-mem}
 use Rattle.tree_layout.proofs.Places.{decode-junctions}
 use Rattle.tree_layout.proofs.Rising.{leaf-encloses, region-mem}

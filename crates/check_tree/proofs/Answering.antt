@@ -27,23 +27,23 @@ use Rattle.yard.proofs.Answering.{yards-number, refused-number, number-is}
 use Rattle.tree_layout.specs.Decode.{junctionCount, decode}
 use Rattle.tree_layout.specs.Decode as Book
 use Rattle.tree_layout.specs.Refusal.{treeLayoutRefusal}
-use Rattle.tree_layout.specs.Reading.{headerOf}
+use Rattle.tree_layout.specs.code.Reading.{headerOf}
 use Rattle.tree_layout.specs.declared.Header.{Header}
 use Rattle.tree_layout.proofs.Accepting.{facts-layout}
 use Rattle.tree_layout.proofs.Reading.{header-junctions, header-yards}
 use Rattle.tree.specs.Shape.{treeRefusal}
 use Rattle.tree.specs.Yards.{treeYards}
-use Rattle.tree.specs.Answer.{treeOf, treeNumber as tree-number}
+use Rattle.tree.specs.code.Answer.{treeOf, treeNumber as tree-number}
 use Rattle.tree.specs.declared.Tree.{Tree}
 use Rattle.tree.specs.declared.Tree.the-variants.{Shaped, Refused as tree-refused}
 use Rattle.tree.proofs.Theorems.{tree-facts}
 use Rattle.tree.proofs.Answering.{shaped-answer, shaped-found, number-is as tree-number-is}
 use Rattle.check_rules.specs.Truth.{trueTree, trueBeside}
 use Rattle.check_rules.specs.Facts.{Same}
-use Rattle.check_distances.specs.Beside.{Beside}
+use Rattle.check_distances.specs.code.Beside.{Beside}
 use Rattle.check_distances.proofs.Truth.{ranges-held, beside-true}
 use Rattle.check_tree.specs.Check.{sameSet, treeRefusalBeside, checkAnswer}
-use Rattle.check_tree.specs.Known.{knownTree}
+use Rattle.check_tree.specs.code.Known.{knownTree}
 use Rattle.check_tree.proofs.Sets.{set-same}
 use Rattle.check_tree.proofs.Matching.{counted-same, counts-differ}
 

@@ -12,8 +12,8 @@ use Rattle.book.proofs.Choosing.{choose-yes, choose-no}
 use Rattle.book.proofs.Lists.{eq→eqb, ne→neqb}
 use Rattle.tree_layout.specs.Values.{Mark, Region, noMark}
 use Rattle.tree_layout.specs.Decode.{elementAt, readList, listPart, readRegion, decode, landmarkCount}
-use Rattle.tree_layout.specs.Accessors.{fieldsAt, listedAt}
-use Rattle.tree_layout.specs.Marks.{markPlace, RecordAt}
+use Rattle.tree_layout.specs.code.Accessors.{fieldsAt, listedAt}
+use Rattle.tree_layout.specs.code.Marks.{markPlace, RecordAt}
 use Rattle.tree_layout.specs.Refusal.{all}
 use Rattle.tree_layout.specs.declared.Fields.{Fields}
 use Rattle.tree_layout.specs.declared.Listed.{Listed}
@@ -24,7 +24,7 @@ use Rattle.check_distances.proofs.Turns.{drop-next}
 use Rattle.check_distances.proofs.Records.{marks-read, mark-listed}
 use Rattle.check_distances.proofs.Listing.{part-length}
 use Rattle.check_tree.specs.Check.{has}
-use Rattle.check_tree.specs.Known.{knownElement, knownList, knownRegion, knownTree}
+use Rattle.check_tree.specs.code.Known.{knownElement, knownList, knownRegion, knownTree}
 
 -- ---- a yard, with k of a list's yards done
 

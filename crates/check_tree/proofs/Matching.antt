@@ -26,7 +26,7 @@ use Rattle.tree.proofs.Ranges.{below-tree}
 use Rattle.tree.proofs.Theorems.{tree-facts, accepted-whole}
 use Rattle.check_rules.specs.Facts.{Same}
 use Rattle.check_tree.specs.Check.{sameSet}
-use Rattle.check_tree.specs.Known.{knownElement, knownList, knownRegion, knownTree}
+use Rattle.check_tree.specs.code.Known.{knownElement, knownList, knownRegion, knownTree}
 use Rattle.check_tree.proofs.Sets.{has-mem, mem-has, set-same, same-set, at-most, all-of}
 
 -- both tests hold, or neither

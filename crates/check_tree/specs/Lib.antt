@@ -1,3 +1,3 @@
 pub mod Check
-pub mod Known
 pub mod Facts
+pub mod code

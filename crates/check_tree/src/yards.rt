@@ -7,10 +7,10 @@ ghost use Prim.Native.Nat.{_*_, _≤_};
 ghost use lib.ListN.{length};
 ghost use Rattle.yard.specs.Yards.{yardsOf, yardRefusal};
 ghost use Rattle.tree_layout.specs.Decode.{readList, readRegion, decode, landmarkCount};
-ghost use Rattle.tree_layout.specs.Marks.{RecordAt};
+ghost use Rattle.tree_layout.specs.code.Marks.{RecordAt};
 ghost use Rattle.tree_layout.specs.Refusal.{treeLayoutRefusal};
 ghost use Rattle.check_tree.specs.Check.{has};
-ghost use Rattle.check_tree.specs.Known.{knownList, knownRegion, knownTree};
+ghost use Rattle.check_tree.specs.code.Known.{knownList, knownRegion, knownTree};
 
 // Whether a yard book has yard y.
 fn has_yard(yard: &[u8], y: Junction) -> bool

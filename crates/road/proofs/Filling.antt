@@ -9,7 +9,7 @@ use lib.Seq.{getD-append-add, getD-take, length-take-le}
 use Rattle.road_layout.specs.Road.{junctions}
 use Rattle.adjacency.specs.Arcs.{net}
 use Rattle.road.specs.Dijkstra.{distances, dist}
-use Rattle.road.specs.Rows.{cell, Rowed}
+use Rattle.road.specs.code.Rows.{cell, Rowed}
 use Rattle.road.proofs.Reading.{dist-read}
 
 pub cell-is : (rows : List ℕ) (r v : ℕ) → getD rows (r * 1024 + v) 0 ≡ cell rows r v

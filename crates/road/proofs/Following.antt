@@ -9,14 +9,14 @@ use lib.ListN.{length}
 use lib.Dec.{eqb}
 use Rattle.book.proofs.Choosing.{choose-yes, choose-no, eq→eqb}
 use Rattle.book.proofs.Tests.{ne→neqb}
-use Rattle.tournament.specs.Tournament.{queueWords}
+use Rattle.tournament.specs.code.Tournament.{queueWords}
 use Rattle.road_layout.specs.Road.{junctions}
 use Rattle.road_layout.proofs.Layouts.{passing-layout}
 use Rattle.adjacency.specs.Arcs.{Arc, net}
 use Rattle.adjacency.specs.Adjacency.{headAt, nextAt, toAt, costAt, lastArc, Linked, Adjacency}
 use Rattle.adjacency.proofs.Linking.{last-none, last-own, last-other, last-low, linked-parts, net-length}
 use Rattle.road.specs.Walk.{SoundArcs, Fit}
-use Rattle.road.specs.Queue.{Reach, reach, Above, shortenBoth, relaxBoth}
+use Rattle.road.specs.code.Queue.{Reach, reach, Above, shortenBoth, relaxBoth}
 use Rattle.road.proofs.Shortening.{shorten-sizes, shorten-above}
 use Rattle.road.proofs.Theorems.{net-sound}
 

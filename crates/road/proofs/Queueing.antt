@@ -11,12 +11,12 @@ use lib.Dec.{T, T-not, ltb, eqb, ltb→lt, lt→ltb}
 use borrow.Author.Tests.{le-ltb}
 use Rattle.book.specs.Choose.{choose}
 use Rattle.book.proofs.Choosing.{choose-case, choose-yes, choose-no, choose-map, false-T, T-split}
-use Rattle.tournament.specs.Tournament.{putLeaf, leaf}
+use Rattle.tournament.specs.code.Tournament.{putLeaf, leaf}
 use Rattle.tournament.proofs.Laws.{put-tournament, put-same, put-other}
 use Rattle.adjacency.specs.Arcs.{Arc}
 use Rattle.road.specs.Walk.{SoundArcs}
 use Rattle.road.specs.Dijkstra.{far, width, at, WalkState, walked, score, shorten, relaxArc, relax}
-use Rattle.road.specs.Queue.{state, absent, word, queueWord, QueueHolds, Reach, reach, Above, shortenBoth, relaxBoth}
+use Rattle.road.specs.code.Queue.{state, absent, word, queueWord, QueueHolds, Reach, reach, Above, shortenBoth, relaxBoth}
 use Rattle.road.proofs.Relaxing.{at-set-same, at-set-other}
 use Rattle.road.proofs.Picking.{score-open, score-low}
 

@@ -9,10 +9,10 @@ use lib.ListN.{length, getD, set, length-set}
 use lib.Dec.{ltb, lt→ltb}
 use borrow.Author.Tests.{le-ltb}
 use Rattle.book.proofs.Choosing.{choose-yes, choose-no, choose-case, false-T}
-use Rattle.tournament.specs.Tournament.{putLeaf, leaf}
+use Rattle.tournament.specs.code.Tournament.{putLeaf, leaf}
 use Rattle.tournament.proofs.Laws.{put-length, put-tournament, put-same, put-other}
 use Rattle.road.specs.Dijkstra.{far, width, at}
-use Rattle.road.specs.Queue.{Reach, reach, word, Above, shortenBoth}
+use Rattle.road.specs.code.Queue.{Reach, reach, word, Above, shortenBoth}
 use Rattle.road.proofs.Relaxing.{at-set-same, at-set-other}
 
 -- inside the list the default does not matter

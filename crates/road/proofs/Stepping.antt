@@ -11,7 +11,7 @@ use lib.ListN.{length, set, replicate, length-replicate}
 use lib.Dec.{T, ltb, lt→ltb}
 use borrow.Author.Tests.{le-ltb}
 use Rattle.book.proofs.Choosing.{choose-yes, choose-no, false-T}
-use Rattle.tournament.specs.Tournament.{queueWords, putLeaf, leaf, top}
+use Rattle.tournament.specs.code.Tournament.{queueWords, putLeaf, leaf, top}
 use Rattle.tournament.proofs.Laws.{put-tournament, put-same, put-other, top-least, top-leaf, cleared, cleared-leaf}
 use Rattle.road_layout.specs.Road.{junctions}
 use Rattle.road_layout.specs.Layout.{roadLayoutRefusal}
@@ -20,7 +20,7 @@ use Rattle.adjacency.specs.Arcs.{Arc, net}
 use Rattle.adjacency.specs.Adjacency.{countIn, Adjacency, IsAdjacency}
 use Rattle.road.specs.Walk.{Walk, stay, step, SoundArcs}
 use Rattle.road.specs.Dijkstra.{far, width, at, WalkState, walked, score, pickNearest, relax, walkOn, roundAt, rounds, startWalk, walkFrom, distances}
-use Rattle.road.specs.Queue.{state, absent, word, queueWord, QueueHolds, Reach, reach, Above, relaxBoth, Walking, WalkingIn, Roomy}
+use Rattle.road.specs.code.Queue.{state, absent, word, queueWord, QueueHolds, Reach, reach, Above, relaxBoth, Walking, WalkingIn, Roomy}
 use Rattle.road.proofs.Picking.{score-open, score-low, pick-below, pick-least, pick-first, walked-same, walked-other, walked-new, walked-start}
 use Rattle.road.proofs.Relaxing.{at-set-same, at-set-other}
 use Rattle.road.proofs.Rounds.{Inv, after-rounds, at-replicate}

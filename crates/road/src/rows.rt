@@ -6,7 +6,7 @@ ghost use mathlib.Core.List.{List};
 ghost use Prim.Native.Nat.{ℕ, _+_, _*_, _≤_, _<_};
 ghost use lib.ListN.{length};
 ghost use Rattle.adjacency.specs.Adjacency.{countIn, Adjacency, IsAdjacency};
-ghost use Rattle.road.specs.Rows.{cell, Within, Rowed};
+ghost use Rattle.road.specs.code.Rows.{cell, Within, Rowed};
 
 // Row r's word for junction v.
 pub fn cell(rows: &[u32], r: usize, v: Junction) -> u32

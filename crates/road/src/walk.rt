@@ -5,13 +5,13 @@ ghost use mathlib.Core.Bool.{true, false};
 ghost use mathlib.Core.List.{List};
 ghost use Prim.Native.Nat.{ℕ, _+_, _≤_, _<_};
 ghost use lib.ListN.{length, replicate, set};
-ghost use Rattle.tournament.specs.Tournament.{queueWords, putLeaf};
+ghost use Rattle.tournament.specs.code.Tournament.{queueWords, putLeaf};
 ghost use Rattle.road_layout.specs.Road.{junctions};
 ghost use Rattle.adjacency.specs.Arcs.{net};
 ghost use Rattle.adjacency.specs.Adjacency.{countIn, Adjacency, IsAdjacency};
 ghost use Rattle.road.specs.Dijkstra.{far, at, distances};
-ghost use Rattle.road.specs.Queue.{absent, reach, Above, shortenBoth, relaxBoth};
-ghost use Rattle.road.specs.Queue.{Walking, WalkingIn, IsWalking, Roomy};
+ghost use Rattle.road.specs.code.Queue.{absent, reach, Above, shortenBoth, relaxBoth};
+ghost use Rattle.road.specs.code.Queue.{Walking, WalkingIn, IsWalking, Roomy};
 
 // The distance of a junction that is not reached, above every other, and the word of one that is not queued.
 pub const FAR: u32 = 4294967295;

@@ -7,8 +7,8 @@ use native.Mathlib.Omega.{arith}
 use lib.ListN.{length, getD}
 use Rattle.search_rules.specs.Bounds.{absDiff, combine, aggregate}
 use Rattle.search_rules.proofs.Measures.{combine-most}
-use Rattle.search_bounds.specs.Rows.{rowsLower}
-use Rattle.search_bounds.specs.Measures.{fBy, crewAbsDiff, yardBoundBy}
+use Rattle.search_bounds.specs.code.Rows.{rowsLower}
+use Rattle.search_bounds.specs.code.Measures.{fBy, crewAbsDiff, yardBoundBy}
 
 -- f is the aggregate of the differences
 pub f-all : (code : ℕ) (out : List ℕ) (distance r : ℕ) → r ≡ aggregate code (λ x. absDiff x distance) out → r ≡ fBy code out distance

@@ -7,14 +7,14 @@ use lib.ListN.{length, getD}
 use Rattle.book.proofs.Lists.{getD-mem}
 use Rattle.tree_layout.specs.Values.{Mark}
 use Rattle.tree_layout.specs.Decode.{landmarkCount}
-use Rattle.tree_layout.specs.Reading.{headerOf}
+use Rattle.tree_layout.specs.code.Reading.{headerOf}
 use Rattle.tree_layout.specs.declared.Header.{Header}
 use Rattle.search_rules.specs.Bounds.{aggregate, greatestOf, crewBound}
 use Rattle.tree_layout.specs.Values.{noMark}
 use Rattle.tree_layout.specs.declared.Landmark.{Landmark}
-use Rattle.search_bounds.specs.Rows.{rowsLower, rowsUpper}
-use Rattle.tree_layout.specs.Marks.{marksAt, landmarkOf, RecordAt}
-use Rattle.search_bounds.specs.Bounds.{rowsMark, rowsCrew, rowsBound, rowsWeight, markWeight, firstGreatest, rowsChosen, Crews}
+use Rattle.search_bounds.specs.code.Rows.{rowsLower, rowsUpper}
+use Rattle.tree_layout.specs.code.Marks.{marksAt, landmarkOf, RecordAt}
+use Rattle.search_bounds.specs.code.Bounds.{rowsMark, rowsCrew, rowsBound, rowsWeight, markWeight, firstGreatest, rowsChosen, Crews}
 use Rattle.tree_layout.proofs.RecordFields.{marks-count}
 
 -- a crew's junction has a place in each row

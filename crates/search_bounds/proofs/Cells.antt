@@ -7,9 +7,9 @@ use native.Mathlib.Omega.{arith}
 use lib.Dec.{eqb}
 use Rattle.book.proofs.Choosing.{choose-yes, choose-no}
 use Rattle.book.proofs.Lists.{ne→neqb}
-use Rattle.road.specs.Rows.{cell}
+use Rattle.road.specs.code.Rows.{cell}
 use Rattle.search_rules.specs.Bounds.{absDiff}
-use Rattle.search_bounds.specs.Rows.{rowsLower, rowsUpper}
+use Rattle.search_bounds.specs.code.Rows.{rowsLower, rowsUpper}
 
 module _ (table : List ℕ) (l q : ℕ) where
   pub lower-none : rowsLower table 0 l q ≡ 0

@@ -8,11 +8,11 @@ use Rattle.book.proofs.Lists.{getD-mem}
 use Rattle.road_layout.specs.Road.{junctions}
 use Rattle.road.specs.Dijkstra.{dist}
 use Rattle.road.proofs.Theorems.{metric, symmetric}
-use Rattle.road.specs.Rows.{cell}
+use Rattle.road.specs.code.Rows.{cell}
 use Rattle.road.proofs.Filling.{row-inside}
 use Rattle.search_rules.specs.Bounds.{aggregate}
 use Rattle.search_rules.proofs.Limits.{aggregate-most}
-use Rattle.search_bounds.specs.Measures.{Driven, totalOf}
+use Rattle.search_bounds.specs.code.Measures.{Driven, totalOf}
 
 module _ {road crews drives : List ℕ} (d : Driven road crews drives) (v : ℕ) (h : v < junctions road) where
   -- crew number j has a row, and the junction a word in it

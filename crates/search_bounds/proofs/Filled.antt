@@ -6,21 +6,21 @@ use native.Mathlib.Omega.{arith}
 use lib.ListN.{length, getD, take, drop, length-append}
 use lib.Seq.{length-take-le, take-at}
 use Rattle.road.specs.Dijkstra.{dist}
-use Rattle.road.specs.Rows.{cell, Within, Rowed}
+use Rattle.road.specs.code.Rows.{cell, Within, Rowed}
 use Rattle.tree_layout.specs.Values.{Mark}
 use Rattle.tree_layout.specs.Decode.{junctionCount, landmarkCount}
 use Rattle.tree_layout.specs.Facts.{TreeLayout}
 use Rattle.tree_layout.proofs.Places.{place-first, decode-junctions}
-use Rattle.tree_layout.specs.Reading.{headerOf}
+use Rattle.tree_layout.specs.code.Reading.{headerOf}
 use Rattle.tree_layout.specs.declared.Header.{Header}
 use Rattle.search_rules.specs.Instance.{Instance, marks}
 use Rattle.search_rules.specs.Books.{searchOf}
 use Rattle.search_rules.specs.Bounds.{tableAt}
 use Rattle.tree_layout.specs.Values.{noMark}
 use Rattle.search_rules.proofs.Equations.{table-at, search-of}
-use Rattle.tree_layout.specs.Marks.{marksAt, RecordAt}
-use Rattle.search_bounds.specs.Rows.{tableWords}
-use Rattle.search_bounds.specs.Tables.{rootPlaces, LandmarkTable}
+use Rattle.tree_layout.specs.code.Marks.{marksAt, RecordAt}
+use Rattle.search_bounds.specs.code.Rows.{tableWords}
+use Rattle.search_bounds.specs.code.Tables.{rootPlaces, LandmarkTable}
 use Rattle.tree_layout.proofs.RecordFields.{marks-count}
 use Rattle.search_bounds.proofs.Bounding.{count-read}
 use Rattle.tree_layout.proofs.RegionRecords.{layout-marks, layout-record, layout-placed}

@@ -6,7 +6,7 @@ use native.Mathlib.Omega.{arith}
 use lib.Dec.{ltb, lt→ltb, ltb→lt, nltb→le, not-T}
 use Rattle.book.specs.Choose.{choose}
 use Rattle.book.proofs.Choosing.{choose-case, choose-yes, choose-no}
-use Rattle.search_bounds.specs.Bounds.{firstGreatest}
+use Rattle.search_bounds.specs.code.Bounds.{firstGreatest}
 
 pub pick-later : (best w j p : ℕ) → best < w → j ≡ choose (ltb best w) j p
 pick-later best w j p h = sym (choose-yes (ltb best w) j p (lt→ltb best w h))

@@ -8,14 +8,14 @@ use lib.Seq.{ext-getD}
 use Rattle.book.proofs.Lists.{getD-mem, mem-getD}
 use Rattle.tree_layout.specs.Values.{Mark}
 use Rattle.tree_layout.specs.Decode.{landmarkCount}
-use Rattle.tree.specs.Arrays.{overwrite}
+use Rattle.tree.specs.code.Arrays.{overwrite}
 use Rattle.tree.proofs.Filling.{overwrite-length, overwrite-new, overwrite-none, overwrite-next}
 use Rattle.tree_layout.specs.Values.{noMark}
 use Rattle.tree_layout.specs.declared.Landmark.{Landmark}
-use Rattle.tree_layout.specs.Marks.{marksAt, landmarkOf, RecordAt}
+use Rattle.tree_layout.specs.code.Marks.{marksAt, landmarkOf, RecordAt}
 use Rattle.tree_layout.proofs.RecordFields.{marks-count}
 use Rattle.search_bounds.proofs.Bounding.{place-read}
-use Rattle.search_bounds.specs.Tables.{placesOf, rootPlaces}
+use Rattle.search_bounds.specs.code.Tables.{placesOf, rootPlaces}
 
 -- ---- of some landmarks
 

@@ -16,9 +16,9 @@ use Rattle.search_rules.specs.Bounds.{lower, bound, chosen}
 use Rattle.tree_layout.specs.Values.{noMark}
 use Rattle.search_rules.proofs.Books.{accepted-of, well-of, count}
 use Rattle.search_rules.proofs.Equations.{marks-is, search-of}
-use Rattle.search_bounds.specs.Rows.{rowsLower}
-use Rattle.search_bounds.specs.Bounds.{rowsBound, rowsChosen, Crews}
-use Rattle.search_bounds.specs.Tables.{LandmarkTable}
+use Rattle.search_bounds.specs.code.Rows.{rowsLower}
+use Rattle.search_bounds.specs.code.Bounds.{rowsBound, rowsChosen, Crews}
+use Rattle.search_bounds.specs.code.Tables.{LandmarkTable}
 use Rattle.search_bounds.proofs.Tables.{lower-table, bound-table, chosen-table, chosen-below}
 
 same-bound : (table : List ℕ) (rows code code′ : ℕ) (crews crews′ : List ℕ) (ks ks′ : List Mark) → code ≡ code′ → crews ≡ crews′ → ks ≡ ks′

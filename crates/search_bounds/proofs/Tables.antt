@@ -16,10 +16,10 @@ use Rattle.tree_layout.specs.Values.{noMark}
 use Rattle.search_rules.specs.Facts.{WellFormed}
 use Rattle.search_rules.proofs.Turns.{greatest-take, least-first, least-take, best-first, best-take}
 use Rattle.search_rules.proofs.Equations.{greatest-none, aggregate-same, greatest-same, lower-is, upper-is, mark-bound-is, bound-is, weight-is, chosen-is}
-use Rattle.road.specs.Rows.{cell}
-use Rattle.search_bounds.specs.Rows.{rowsLower, rowsUpper}
-use Rattle.search_bounds.specs.Bounds.{rowsMark, rowsCrew, rowsBound, rowsWeight, markWeight, firstGreatest, rowsChosen}
-use Rattle.search_bounds.specs.Tables.{LandmarkTable}
+use Rattle.road.specs.code.Rows.{cell}
+use Rattle.search_bounds.specs.code.Rows.{rowsLower, rowsUpper}
+use Rattle.search_bounds.specs.code.Bounds.{rowsMark, rowsCrew, rowsBound, rowsWeight, markWeight, firstGreatest, rowsChosen}
+use Rattle.search_bounds.specs.code.Tables.{LandmarkTable}
 use Rattle.search_bounds.proofs.Cells.{lower-none, lower-suc, upper-one, upper-suc}
 use Rattle.search_bounds.proofs.Picking.{first-one, first-suc, first-below}
 

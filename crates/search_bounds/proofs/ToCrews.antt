@@ -7,7 +7,7 @@ use native.Mathlib.Omega.{arith}
 use lib.ListN.{length, getD, set, take, length-set}
 use lib.Seq.{take-suc, take-suc-set, take-all}
 use Rattle.road.specs.Dijkstra.{dist}
-use Rattle.search_bounds.specs.Measures.{toCrews}
+use Rattle.search_bounds.specs.code.Measures.{toCrews}
 
 module _ (road : List ℕ) (l : ℕ) where
   pub to-none : toCrews road l [] ≡ []

@@ -15,10 +15,10 @@ use Rattle.search_rules.specs.Bounds.{absDiff, combine, aggregate, lower, total
 use Rattle.search_rules.proofs.Equations.{aggregate-none, aggregate-same, search-of}
 use Rattle.search_rules.proofs.Turns.{aggregate-take}
 use Rattle.search_rules.proofs.Measures.{aggregate-cons, total-is, f-is, yard-bound-is}
-use Rattle.search_bounds.specs.Rows.{rowsLower}
-use Rattle.search_bounds.specs.Tables.{LandmarkTable}
+use Rattle.search_bounds.specs.code.Rows.{rowsLower}
+use Rattle.search_bounds.specs.code.Tables.{LandmarkTable}
 use Rattle.search_bounds.proofs.Tables.{lower-table}
-use Rattle.search_bounds.specs.Measures.{toCrews, totalOf, fBy, crewAbsDiff, yardBoundBy}
+use Rattle.search_bounds.specs.code.Measures.{toCrews, totalOf, fBy, crewAbsDiff, yardBoundBy}
 use Rattle.search_bounds.proofs.ToCrews.{to-none, to-cons, to-at}
 
 -- an aggregate of the distances to the crews is one over the crews

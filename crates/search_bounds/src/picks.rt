@@ -12,10 +12,10 @@ ghost use lib.Dec.{ltb};
 ghost use Rattle.book.specs.Choose.{choose};
 ghost use Rattle.tree_layout.specs.Values.{regionAt};
 ghost use Rattle.tree_layout.specs.Decode.{decode, landmarkCount};
-ghost use Rattle.tree.specs.Arrays.{Laid};
-ghost use Rattle.search_bounds.specs.Rows.{Rows};
-ghost use Rattle.tree_layout.specs.Marks.{marksAt, RecordAt};
-ghost use Rattle.search_bounds.specs.Bounds.{rowsWeight, markWeight, rowsChosen, Crews};
+ghost use Rattle.tree.specs.code.Arrays.{Laid};
+ghost use Rattle.search_bounds.specs.code.Rows.{Rows};
+ghost use Rattle.tree_layout.specs.code.Marks.{marksAt, RecordAt};
+ghost use Rattle.search_bounds.specs.code.Bounds.{rowsWeight, markWeight, rowsChosen, Crews};
 
 // The "sum of LB over crews" of a landmark at junction l.
 fn weight(table: &[u32], rows: usize, crews: &[u16], l: Junction) -> u64

@@ -11,11 +11,11 @@ ghost use Prim.Native.Nat.{_<_};
 ghost use lib.ListN.{length};
 ghost use Rattle.tree_layout.specs.Values.{regionAt};
 ghost use Rattle.tree_layout.specs.Decode.{decode};
-ghost use Rattle.tree.specs.Arrays.{Laid};
+ghost use Rattle.tree.specs.code.Arrays.{Laid};
 ghost use Rattle.search_rules.specs.Bounds.{crewBound};
-ghost use Rattle.search_bounds.specs.Rows.{rowsLower, rowsUpper, Rows};
-ghost use Rattle.tree_layout.specs.Marks.{marksAt, RecordAt};
-ghost use Rattle.search_bounds.specs.Bounds.{rowsCrew, rowsBound, Crews};
+ghost use Rattle.search_bounds.specs.code.Rows.{rowsLower, rowsUpper, Rows};
+ghost use Rattle.tree_layout.specs.code.Marks.{marksAt, RecordAt};
+ghost use Rattle.search_bounds.specs.code.Bounds.{rowsCrew, rowsBound, Crews};
 
 // "the crew's bound": of crew q for a landmark.
 fn mark_bound(table: &[u32], rows: usize, k: Landmark, q: Junction) -> u32

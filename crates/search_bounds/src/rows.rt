@@ -7,9 +7,9 @@ use tournament::lesser;
 ghost use mathlib.Core.Path.{_≡_};
 ghost use Prim.Native.Nat.{_+_, _-_, _<_};
 ghost use lib.ListN.{length};
-ghost use Rattle.road.specs.Rows.{cell};
+ghost use Rattle.road.specs.code.Rows.{cell};
 ghost use Rattle.search_rules.specs.Bounds.{absDiff, crewBound};
-ghost use Rattle.search_bounds.specs.Rows.{rowsLower, rowsUpper, Rows};
+ghost use Rattle.search_bounds.specs.code.Rows.{rowsLower, rowsUpper, Rows};
 
 // The difference of row r's words for junctions l and q.
 fn row_abs_diff(table: &[u32], r: usize, l: Junction, q: Junction) -> u32

@@ -6,12 +6,12 @@ ghost use mathlib.Core.List.{List};
 ghost use Prim.Native.Nat.{ℕ, _*_, _≤_};
 ghost use lib.ListN.{length};
 ghost use Rattle.adjacency.specs.Adjacency.{countIn, Adjacency, IsAdjacency};
-ghost use Rattle.road.specs.Rows.{Within, Rowed};
+ghost use Rattle.road.specs.code.Rows.{Within, Rowed};
 ghost use Rattle.tree_layout.specs.Decode.{junctionCount, landmarkCount};
 ghost use Rattle.tree_layout.specs.Facts.{TreeLayout};
-ghost use Rattle.tree_layout.specs.Marks.{RecordAt};
-ghost use Rattle.search_bounds.specs.Rows.{tableWords};
-ghost use Rattle.search_bounds.specs.Tables.{rootPlaces};
+ghost use Rattle.tree_layout.specs.code.Marks.{RecordAt};
+ghost use Rattle.search_bounds.specs.code.Rows.{tableWords};
+ghost use Rattle.search_bounds.specs.code.Tables.{rootPlaces};
 
 // The words of a landmark table: four rows of 1,024.
 pub const WORDS: usize = 4096;

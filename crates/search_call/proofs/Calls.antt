@@ -22,7 +22,7 @@ use Rattle.query.specs.Query.{kOf, crewsOf, QueryLayout}
 use Rattle.query.proofs.CrewList.{crews-length, crews-below}
 use Rattle.query.proofs.Reading.{passing as query-passing}
 use Rattle.search_rules.specs.Run.{Answer, words}
-use Rattle.search_call.specs.Accepted.{AcceptedSearch}
+use Rattle.search_call.specs.code.Accepted.{AcceptedSearch}
 use Rattle.search_call.specs.Call.{treeRefusalIn, areasRefusal, searchRefusal, searchAnswer, Found, refused, accepted, searchFound, overStart}
 use Rattle.search_call.specs.Call.{resultsAfter, Call, Areas, foundOn, callOn}
 

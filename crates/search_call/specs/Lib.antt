@@ -1,3 +1,3 @@
 pub mod Call
-pub mod Accepted
 pub mod Demand
+pub mod code

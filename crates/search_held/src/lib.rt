@@ -5,11 +5,11 @@ ghost use mathlib.Core.List.{List, []};
 ghost use Prim.Native.Nat.{ℕ, _+_, _*_, _≤_, _<_};
 ghost use lib.ListN.{length};
 ghost use Rattle.book.specs.Writing.{write};
-ghost use Rattle.tree_layout.specs.Reading.{element};
+ghost use Rattle.tree_layout.specs.code.Reading.{element};
 ghost use Rattle.search_rules.specs.Order.{yardFirst};
 ghost use Rattle.search_rules.specs.Held.{hold, greatestHeld};
 ghost use Rattle.search_rules.specs.Run.{words};
-ghost use Rattle.search_held.specs.Pairs.{placeIn, pairs, heldOf};
+ghost use Rattle.search_held.specs.code.Pairs.{placeIn, pairs, heldOf};
 
 // Yards with their aggregate distances, in yard order, and their number.
 pub struct Held {

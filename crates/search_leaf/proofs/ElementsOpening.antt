@@ -10,7 +10,7 @@ use lib.Seq.{take-at}
 use Rattle.book.specs.Bytes.{u16At}
 use Rattle.tree_layout.specs.Values.{Element, Mark}
 use Rattle.tree_layout.specs.Decode.{readList, listPart, regionCount, junctionCount, landmarkCount}
-use Rattle.tree_layout.specs.Reading.{headerOf}
+use Rattle.tree_layout.specs.code.Reading.{headerOf}
 use Rattle.tree_layout.specs.declared.Header.{Header}
 use Rattle.tree_layout.proofs.Reading.{header-regions, header-junctions}
 use Rattle.tree_layout.proofs.Decoding.{list-part-is}
@@ -19,12 +19,12 @@ use Rattle.search_rules.specs.Books.{searchOf}
 use Rattle.search_rules.specs.Bounds.{lower, f, yardBound}
 use Rattle.search_rules.specs.Queue.{wordAt, pick}
 use Rattle.search_rules.specs.Step.{nextPlace, nextF}
-use Rattle.search_bounds.specs.Rows.{Rows, rowsLower}
-use Rattle.search_bounds.specs.Bounds.{Crews}
-use Rattle.search_bounds.specs.Measures.{Driven, IsDriven, toCrews}
+use Rattle.search_bounds.specs.code.Rows.{Rows, rowsLower}
+use Rattle.search_bounds.specs.code.Bounds.{Crews}
+use Rattle.search_bounds.specs.code.Measures.{Driven, IsDriven, toCrews}
 use Rattle.search_bounds.proofs.YardsSearching.{f-by, bound-by}
-use Rattle.search_state.specs.State.{wordCount}
-use Rattle.search_leaf.specs.Leaves.{Near, byYard, byYards, fIn, boundIn, wordsOf, listAt, Opened}
+use Rattle.search_state.specs.code.State.{wordCount}
+use Rattle.search_leaf.specs.code.Leaves.{Near, byYard, byYards, fIn, boundIn, wordsOf, listAt, Opened}
 use Rattle.search_leaf.proofs.Filling.{by-yard-at, by-yard-kept}
 use Rattle.search_leaf.proofs.Scanning.{next-place, next-f}
 

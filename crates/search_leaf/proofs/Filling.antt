@@ -10,13 +10,13 @@ use lib.ListN.{length, getD, set, length-set}
 use lib.Seq.{getD-set-same, getD-set-other}
 use Rattle.tree_layout.specs.Values.{Element}
 use Rattle.tree_layout.specs.Decode.{elementAt, readList}
-use Rattle.tree_layout.specs.Accessors.{listedAt}
+use Rattle.tree_layout.specs.code.Accessors.{listedAt}
 use Rattle.tree_layout.specs.declared.Listed.{Listed}
 use Rattle.tree_layout.proofs.Reading.{element-yard, list-turn, list-none}
 use Rattle.tree_layout.proofs.Decoding.{element-is, read-list-next}
-use Rattle.search_state.specs.State.{fsAt, boundsAt}
+use Rattle.search_state.specs.code.State.{fsAt, boundsAt}
 use Rattle.search_state.proofs.Cells.{Parts, store-f, store-bound}
-use Rattle.search_leaf.specs.Leaves.{Near, byYard, byYards}
+use Rattle.search_leaf.specs.code.Leaves.{Near, byYard, byYards}
 
 -- ---- an element by its number
 

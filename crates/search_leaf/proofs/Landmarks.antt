@@ -10,11 +10,11 @@ use lib.Seq.{getD-set-same, getD-set-other}
 use lib.Dec.{T, eqb→eq}
 use Rattle.book.specs.Bytes.{u8At, u16At}
 use Rattle.road_layout.specs.Road.{junctions}
-use Rattle.search_bounds.specs.Measures.{Driven, IsDriven, toCrews}
+use Rattle.search_bounds.specs.code.Measures.{Driven, IsDriven, toCrews}
 use Rattle.tree_layout.specs.Values.{Mark, Region, regionAt}
 use Rattle.tree_layout.specs.Decode.{decode, junctionCount, regionCount, landmarkCount, placeOf, listPart, readList, markSize}
-use Rattle.tree_layout.specs.Reading.{headerOf}
-use Rattle.tree_layout.specs.Accessors.{fieldsAt}
+use Rattle.tree_layout.specs.code.Reading.{headerOf}
+use Rattle.tree_layout.specs.code.Accessors.{fieldsAt}
 use Rattle.tree_layout.specs.declared.Header.{Header}
 use Rattle.tree_layout.specs.declared.Fields.{Fields}
 use Rattle.tree_layout.proofs.Places.{decode-length}
@@ -30,18 +30,18 @@ use Rattle.search_rules.proofs.Books.{well-of, count}
 use Rattle.search_rules.proofs.Equations.{search-of, marks-is}
 use Rattle.search_rules.proofs.Steps.{size-is, leaf-is}
 use Rattle.search_rules.proofs.Taking.{chosen-in}
-use Rattle.search_bounds.specs.Rows.{rowsLower}
-use Rattle.search_bounds.specs.Bounds.{rowsChosen, Crews}
-use Rattle.tree_layout.specs.Marks.{markPlace, RecordAt}
+use Rattle.search_bounds.specs.code.Rows.{rowsLower}
+use Rattle.search_bounds.specs.code.Bounds.{rowsChosen, Crews}
+use Rattle.tree_layout.specs.code.Marks.{markPlace, RecordAt}
 use Rattle.tree_layout.proofs.RecordFields.{place-is, list-inside}
 use Rattle.search_bounds.proofs.Numbered.{record-of}
 use Rattle.search_bounds.proofs.Searching.{crews-of as rows-crews, lower-of, chosen-of, chosen-few}
-use Rattle.search_leaf.specs.Leaves.{Near, byYard, byYards, fIn, boundIn, listAt, Opened}
+use Rattle.search_leaf.specs.code.Leaves.{Near, byYard, byYards, fIn, boundIn, listAt, Opened}
 use Rattle.search_leaf.proofs.ElementsOpening.{list-here, header-regions-are, header-junctions-are, opened, opened-kept}
 use Rattle.search_leaf.proofs.Filling.{by-yard-length, by-yards-parts}
-use Rattle.search_state.specs.State.{wordCount, picksAt, regionKeysIn, yardKeysIn, firstsIn, picksIn, fsIn, boundsIn, goneIn}
+use Rattle.search_state.specs.code.State.{wordCount, picksAt, regionKeysIn, yardKeysIn, firstsIn, picksIn, fsIn, boundsIn, goneIn}
 use Rattle.search_state.proofs.Cells.{Parts, parts-of, part-at, store-pick}
-use Rattle.search_leaf.specs.Ready.{unopened, IsPick, Ready, Cached, IsLeaf, OpenLeaf, Leafed, SameQueue}
+use Rattle.search_leaf.specs.code.Ready.{unopened, IsPick, Ready, Cached, IsLeaf, OpenLeaf, Leafed, SameQueue}
 
 -- the yards' number among the fields that were read
 pub yards-of : (tree : List ℕ) (at : ℕ) (f : Fields) → f ≡ fieldsAt tree at → f .yards ≡ u16At tree (at + 5)

@@ -9,8 +9,8 @@ use Rattle.book.specs.Bytes.{u16At}
 use Rattle.book.proofs.Lists.{getD-mem}
 use Rattle.tree_layout.specs.Values.{Element, Mark}
 use Rattle.tree_layout.specs.Decode.{readList, listPart, junctionCount}
-use Rattle.tree_layout.specs.Reading.{headerOf}
-use Rattle.tree_layout.specs.Marks.{markPlace}
+use Rattle.tree_layout.specs.code.Reading.{headerOf}
+use Rattle.tree_layout.specs.code.Marks.{markPlace}
 use Rattle.tree_layout.specs.declared.Header.{Header}
 use Rattle.tree_layout.proofs.Formed.{readList-length}
 use Rattle.search_rules.specs.Instance.{Instance}
@@ -22,14 +22,14 @@ use Rattle.search_rules.proofs.Queue.{pick-range}
 use Rattle.search_rules.proofs.Steps.{open-leaf-on}
 use Rattle.search_rules.proofs.Turns.{word-at}
 use Rattle.search_held.specs.declared.Held.{Held}
-use Rattle.search_held.specs.Pairs.{heldOf}
-use Rattle.search_state.specs.State.{regionKeysIn, yardKeysIn, firstsIn, picksIn, fsIn, boundsIn, goneIn, stateOf, newest}
+use Rattle.search_held.specs.code.Pairs.{heldOf}
+use Rattle.search_state.specs.code.State.{regionKeysIn, yardKeysIn, firstsIn, picksIn, fsIn, boundsIn, goneIn, stateOf, newest}
 use Rattle.search_state.proofs.Cells.{Parts, parts-of, state-by}
-use Rattle.search_leaf.specs.Leaves.{wordsOf, Opened}
+use Rattle.search_leaf.specs.code.Leaves.{wordsOf, Opened}
 use Rattle.search_leaf.proofs.ElementsOpening.{list-here, header-regions-are, header-junctions-are, opened-place, opened-f}
-use Rattle.search_leaf.specs.Next.{nextIn, nextWord, leafQueued}
+use Rattle.search_leaf.specs.code.Next.{nextIn, nextWord, leafQueued}
 use Rattle.search_leaf.proofs.Nexts.{next-in, next-word, leaf-queued, leaving-by}
-use Rattle.search_leaf.specs.Ready.{IsPick, Ready, Cached, IsLeaf, OpenLeaf, Waiting, Leafed, SameQueue}
+use Rattle.search_leaf.specs.code.Ready.{IsPick, Ready, Cached, IsLeaf, OpenLeaf, Waiting, Leafed, SameQueue}
 use Rattle.search_leaf.proofs.Landmarks.{well, tree-junctions, slot, record-here, chosen-mark, list-of}
 
 -- ---- the definition's next element, by the words of the leaf's yards

@@ -7,7 +7,7 @@ use native.Mathlib.Omega.{arith}
 use lib.ListN.{getD, set}
 use Rattle.tree_layout.specs.Values.{Element}
 use Rattle.tree_layout.specs.Decode.{elementAt, readList}
-use Rattle.tree_layout.specs.Accessors.{listedAt}
+use Rattle.tree_layout.specs.code.Accessors.{listedAt}
 use Rattle.tree_layout.specs.declared.Listed.{Listed}
 use Rattle.tree_layout.proofs.Decoding.{read-list-next}
 use Rattle.tree_layout.proofs.Reading.{element-yard}
@@ -15,10 +15,10 @@ use Rattle.search_rules.specs.Queue.{unqueued, wordAt, pick}
 use Rattle.search_rules.specs.Step.{noElement, againKey}
 use Rattle.search_rules.proofs.Queue.{pick-range}
 use Rattle.search_rules.proofs.Steps.{again-none, again-more}
-use Rattle.search_state.specs.State.{yardKeysAt, firstsAt, boundsAt, goneAt, regionKeysIn, yardKeysIn, firstsIn, picksIn, fsIn, boundsIn, goneIn}
+use Rattle.search_state.specs.code.State.{yardKeysAt, firstsAt, boundsAt, goneAt, regionKeysIn, yardKeysIn, firstsIn, picksIn, fsIn, boundsIn, goneIn}
 use Rattle.search_state.proofs.Cells.{Parts, parts-of, part-at, store-key, store-yard, store-gone}
-use Rattle.search_leaf.specs.Leaves.{wordsOf}
-use Rattle.search_leaf.specs.Next.{nextIn, nextWord, leaving, yardQueued, leafQueued}
+use Rattle.search_leaf.specs.code.Leaves.{wordsOf}
+use Rattle.search_leaf.specs.code.Next.{nextIn, nextWord, leaving, yardQueued, leafQueued}
 
 -- ---- the leaf's key
 

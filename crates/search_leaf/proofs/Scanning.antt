@@ -12,7 +12,7 @@ use Rattle.book.specs.Bytes.{u16At}
 use Rattle.book.proofs.Choosing.{choose-yes, choose-no, choose-case, false-T, true-T}
 use Rattle.tree_layout.specs.Values.{Element, Mark}
 use Rattle.tree_layout.specs.Decode.{readList}
-use Rattle.tree_layout.specs.Accessors.{listedAt}
+use Rattle.tree_layout.specs.code.Accessors.{listedAt}
 use Rattle.tree_layout.specs.declared.Listed.{Listed}
 use Rattle.tree_layout.proofs.Reading.{element-yard}
 use Rattle.tree_layout.proofs.Decoding.{read-list-none, read-list-next}
@@ -22,9 +22,9 @@ use Rattle.search_rules.specs.Queue.{unqueued, wordAt, pick}
 use Rattle.search_rules.specs.Step.{left, waiting, nextPlace, nextF}
 use Rattle.search_rules.proofs.Turns.{word-at, pick-none, pick-more}
 use Rattle.search_rules.proofs.Measures.{left-is, waiting-none, waiting-cons, next-place-is, next-f-is}
-use Rattle.search_state.specs.State.{wordCount, fsAt, goneAt, fsIn, goneIn}
+use Rattle.search_state.specs.code.State.{wordCount, fsAt, goneAt, fsIn, goneIn}
 use Rattle.search_state.proofs.Cells.{part-at, gone-at}
-use Rattle.search_leaf.specs.Leaves.{elementWord, wordsOf}
+use Rattle.search_leaf.specs.code.Leaves.{elementWord, wordsOf}
 
 -- ---- a word
 

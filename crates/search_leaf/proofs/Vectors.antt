@@ -8,7 +8,7 @@ use Rattle.book.specs.Choose.{choose}
 use Rattle.tree_layout.specs.Values.{Element}
 use Rattle.search_rules.specs.Queue.{wordAt, pick}
 use Rattle.search_rules.specs.Step.{left}
-use Rattle.search_leaf.specs.Leaves.{byYard, byYards, elementWord, wordsOf}
+use Rattle.search_leaf.specs.code.Leaves.{byYard, byYards, elementWord, wordsOf}
 
 pair : ℕ → ℕ → Element
 pair distance yard = record { distance = distance; yard = yard }

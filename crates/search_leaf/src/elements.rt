@@ -13,11 +13,11 @@ ghost use Rattle.book.specs.Bytes.{u16At};
 ghost use Rattle.road_layout.specs.Road.{junctions};
 ghost use Rattle.tree_layout.specs.Decode.{readList, junctionCount, regionCount, landmarkCount};
 ghost use Rattle.search_rules.specs.Queue.{wordAt, pick};
-ghost use Rattle.search_bounds.specs.Rows.{Rows};
-ghost use Rattle.search_bounds.specs.Bounds.{Crews};
-ghost use Rattle.search_bounds.specs.Measures.{Driven, IsDriven, toCrews};
-ghost use Rattle.search_state.specs.State.{wordCount, fsIn, goneIn};
-ghost use Rattle.search_leaf.specs.Leaves.{Near, byYards, fIn, boundIn, elementWord, wordsOf, listAt};
+ghost use Rattle.search_bounds.specs.code.Rows.{Rows};
+ghost use Rattle.search_bounds.specs.code.Bounds.{Crews};
+ghost use Rattle.search_bounds.specs.code.Measures.{Driven, IsDriven, toCrews};
+ghost use Rattle.search_state.specs.code.State.{wordCount, fsIn, goneIn};
+ghost use Rattle.search_leaf.specs.code.Leaves.{Near, byYards, fIn, boundIn, elementWord, wordsOf, listAt};
 
 // Sets f and the bound of each yard of a landmark's list, given the landmark's distances to the crews.
 fn fill(

@@ -16,8 +16,8 @@ ghost use Rattle.tree_layout.specs.Decode.{junctionCount};
 ghost use Rattle.search_rules.specs.Books.{searchOf};
 ghost use Rattle.search_rules.specs.Step.{openLeaf};
 ghost use Rattle.search_held.specs.declared.Held.{Held};
-ghost use Rattle.search_state.specs.State.{picksIn, fsIn, boundsIn, stateOf};
-ghost use Rattle.search_leaf.specs.Ready.{Ready, Readied, Cached, Leafed};
+ghost use Rattle.search_state.specs.code.State.{picksIn, fsIn, boundsIn, stateOf};
+ghost use Rattle.search_leaf.specs.code.Ready.{Ready, Readied, Cached, Leafed};
 
 // The place of the element that leaves next, and its f, or UNQUEUED if none remains.
 pub struct Next {

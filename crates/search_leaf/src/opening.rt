@@ -11,8 +11,8 @@ ghost use Prim.Native.Nat.{ℕ};
 ghost use lib.ListN.{length};
 ghost use Rattle.tree_layout.specs.Decode.{junctionCount};
 ghost use Rattle.search_rules.specs.Books.{searchOf};
-ghost use Rattle.search_state.specs.State.{picksIn, fsIn, boundsIn};
-ghost use Rattle.search_leaf.specs.Ready.{Ready, Readied, Leafed, SameQueue, OpenLeaf};
+ghost use Rattle.search_state.specs.code.State.{picksIn, fsIn, boundsIn};
+ghost use Rattle.search_leaf.specs.code.Ready.{Ready, Readied, Leafed, SameQueue, OpenLeaf};
 
 // Opens leaf r, and gives the number of its landmark among its own.
 fn open(

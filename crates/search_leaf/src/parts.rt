@@ -4,7 +4,7 @@ use tree_layout::Header;
 use tree_layout::Region;
 ghost use mathlib.Core.Path.{_≡_};
 ghost use Prim.Native.Nat.{ℕ, _+_};
-ghost use Rattle.search_state.specs.State.{yardKeysAt, firstsAt, picksAt, fsAt, boundsAt, goneAt};
+ghost use Rattle.search_state.specs.code.State.{yardKeysAt, firstsAt, picksAt, fsAt, boundsAt, goneAt};
 
 // Yard y's key.
 pub fn key_at(h: Header, y: Junction) -> usize

@@ -10,9 +10,9 @@ ghost use Prim.Native.Nat.{ℕ, _*_, _≤_, _<_};
 ghost use lib.ListN.{length};
 ghost use Rattle.tree_layout.specs.Decode.{readList};
 ghost use Rattle.search_rules.specs.Step.{againKey};
-ghost use Rattle.search_state.specs.State.{wordCount};
-ghost use Rattle.search_leaf.specs.Leaves.{Near};
-ghost use Rattle.search_leaf.specs.Next.{leafQueued};
+ghost use Rattle.search_state.specs.code.State.{wordCount};
+ghost use Rattle.search_leaf.specs.code.Leaves.{Near};
+ghost use Rattle.search_leaf.specs.code.Next.{leafQueued};
 
 // The leaf's key when it is queued again: "if any remain, itself, with the greater of its first key and the next f".
 fn again_key(first: u64, next: u64) -> u64

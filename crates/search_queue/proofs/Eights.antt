@@ -9,7 +9,7 @@ use borrow.Author.Tests.{lt-leb, le-leb}
 use lib.ListN.{length, getD}
 use lib.Dec.{T, leb, leb→le}
 use Rattle.book.proofs.Choosing.{true-T, and-left, and-right}
-use Rattle.search_queue.specs.Eights.{leastOfFour, leastOfEight, eightPass}
+use Rattle.search_queue.specs.code.Eights.{leastOfFour, leastOfEight, eightPass}
 use Rattle.search_queue.proofs.Picking.{Picked, picked-same}
 
 module _ (ws : List ℕ) (j : ℕ) where

@@ -4,7 +4,7 @@ ghost use mathlib.Core.Path.{_≡_};
 ghost use Prim.Native.Nat.{_+_, _≤_};
 ghost use lib.ListN.{length};
 ghost use Rattle.search_rules.specs.Queue.{pick};
-ghost use Rattle.search_queue.specs.Eights.{leastOfFour, leastOfEight, eightPass};
+ghost use Rattle.search_queue.specs.code.Eights.{leastOfFour, leastOfEight, eightPass};
 
 // The word of what is not queued.
 pub const UNQUEUED: u64 = 18446744073709551615;

@@ -16,7 +16,7 @@ use Rattle.book.proofs.Lists.{eq→eqb, neqb→ne}
 use Rattle.tree_layout.specs.Values.{Element, Mark, Region, Tree, firstDistance, regionAt}
 use Rattle.tree_layout.specs.Decode.{decode}
 use Rattle.tree_layout.specs.Facts.{RegionValues, TreeLayout}
-use Rattle.tree_layout.specs.Formed.{FormedTree}
+use Rattle.tree_layout.specs.code.Formed.{FormedTree}
 use Rattle.tree_layout.proofs.Formed.{decode-formed, at-mem}
 use Rattle.tree_layout.proofs.Places.{decode-length, decode-junctions, decode-yards, decode-landmarks}
 use Rattle.tree_layout.proofs.Leasts.{least-small, first-of, leaf-least, marks-out}

@@ -11,12 +11,12 @@ use Rattle.search_rules.specs.Instance.{Instance}
 use Rattle.search_rules.specs.Step.{SearchState, settled}
 use Rattle.search_rules.specs.Run.{Answer, run, answer}
 use Rattle.search_rules.proofs.Theorems.{answer-settled, answer-taken, answer-measured, answer-listed, answer-spent}
-use Rattle.search_held.specs.Pairs.{heldOf}
-use Rattle.search_state.specs.State.{stateOf}
+use Rattle.search_held.specs.code.Pairs.{heldOf}
+use Rattle.search_state.specs.code.State.{stateOf}
 use Rattle.search_state.proofs.Cells.{parts-of, state-by}
 use Rattle.search_state.proofs.Newest.{newest-length}
 use Rattle.search_run.specs.declared.Outcome.{Outcome}
-use Rattle.search_run.specs.Answers.{answerOf}
+use Rattle.search_run.specs.code.Answers.{answerOf}
 
 same-answer : (a : Answer) (s : Bool) (l : List Element) (t m : ℕ) → s ≡ a .settled → l ≡ a .listed → t ≡ a .taken → m ≡ a .measured
     → _≡_ {A = Answer} (record { settled = s; listed = l; taken = t; measured = m }) a

@@ -18,17 +18,17 @@ use Rattle.search_rules.specs.Run.{Outcome as Ended, run, answer}
 use Rattle.search_rules.proofs.Equations.{search-of}
 use Rattle.search_rules.proofs.Theorems.{decided}
 use Rattle.search_rules.proofs.Turns.{run-on}
-use Rattle.search_state.specs.State.{wordCount, picksIn, fsIn, boundsIn, stateOf, settledBy}
+use Rattle.search_state.specs.code.State.{wordCount, picksIn, fsIn, boundsIn, stateOf, settledBy}
 use Rattle.search_state.proofs.Cells.{part-all}
 use Rattle.search_state.proofs.Choosing.{picked-word}
 use Rattle.search_state.proofs.Settling.{settled-of}
-use Rattle.search_leaf.specs.Ready.{Ready, Cached}
+use Rattle.search_leaf.specs.code.Ready.{Ready, Cached}
 use Rattle.search_leaf.proofs.Landmarks.{well}
 use Rattle.search_step.specs.declared.Progress.{Progress}
-use Rattle.search_step.specs.Regions.{Going, FirstLeast}
+use Rattle.search_step.specs.code.Regions.{Going, FirstLeast}
 use Rattle.search_step.proofs.Opening.{regions-of, junctions-are}
 use Rattle.search_step.proofs.Taking.{some-region, some-junction}
-use Rattle.search_run.specs.Answers.{answerOf}
+use Rattle.search_run.specs.code.Answers.{answerOf}
 use Rattle.search_run.proofs.Answering.{answer-is}
 
 -- the state of a search after so many steps, none of which was taken when it was settled, with what is kept of the leaves

@@ -8,10 +8,10 @@ use lib.ListN.{length, getD, take, set, replicate, length-set, length-replicate,
 use lib.Seq.{length-take-le}
 use Rattle.tree_layout.specs.Values.{regionAt}
 use Rattle.tree_layout.specs.Decode.{decode, junctionCount, landmarkCount}
-use Rattle.tree_layout.specs.Reading.{headerOf}
+use Rattle.tree_layout.specs.code.Reading.{headerOf}
 use Rattle.tree_layout.specs.declared.Header.{Header}
 use Rattle.tree_layout.proofs.Reading.{header-junctions}
-use Rattle.tree.specs.Arrays.{Laid}
+use Rattle.tree.specs.code.Arrays.{Laid}
 use Rattle.tree.proofs.Fielding.{laid-few}
 use Rattle.search_rules.specs.Instance.{Instance, size}
 use Rattle.search_rules.specs.Books.{searchOf}
@@ -20,16 +20,16 @@ use Rattle.search_rules.specs.Run.{Outcome as Ended, run}
 use Rattle.search_rules.proofs.Steps.{start-is}
 use Rattle.search_rules.proofs.Turns.{run-start}
 use Rattle.search_held.specs.declared.Held.{Held}
-use Rattle.search_held.specs.Pairs.{heldOf}
-use Rattle.search_state.specs.State.{wordCount, firstsAt, stateOf}
+use Rattle.search_held.specs.code.Pairs.{heldOf}
+use Rattle.search_state.specs.code.State.{wordCount, firstsAt, stateOf}
 use Rattle.search_state.proofs.Cells.{Parts, parts-replicate, store-key, store-first, state-by, part-replicate, part-all}
 use Rattle.search_state.proofs.Newest.{newest-none}
-use Rattle.search_bounds.specs.Bounds.{rowsBound}
+use Rattle.search_bounds.specs.code.Bounds.{rowsBound}
 use Rattle.search_bounds.proofs.Searching.{bound-of}
-use Rattle.search_leaf.specs.Ready.{Ready, Cached, unopened}
+use Rattle.search_leaf.specs.code.Ready.{Ready, Cached, unopened}
 use Rattle.search_step.proofs.Opening.{cached-by, regions-of, junctions-are}
 use Rattle.search_step.proofs.Taking.{some-region}
-use Rattle.search_run.specs.Answers.{putRoot}
+use Rattle.search_run.specs.code.Answers.{putRoot}
 use Rattle.search_run.proofs.Running.{Runs, Steps}
 
 -- before a leaf is taken nothing is kept

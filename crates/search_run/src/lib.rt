@@ -11,16 +11,16 @@ ghost use Prim.Native.Nat.{ℕ, _≤_};
 ghost use lib.ListN.{length, replicate};
 ghost use Rattle.tree_layout.specs.Values.{regionAt};
 ghost use Rattle.tree_layout.specs.Decode.{decode, junctionCount, landmarkCount};
-ghost use Rattle.tree.specs.Arrays.{Laid};
+ghost use Rattle.tree.specs.code.Arrays.{Laid};
 ghost use Rattle.search_rules.specs.Books.{searchOf};
 ghost use Rattle.search_rules.specs.Queue.{unqueued};
 ghost use Rattle.search_rules.specs.Run.{answer};
-ghost use Rattle.search_bounds.specs.Rows.{Rows};
-ghost use Rattle.search_bounds.specs.Bounds.{rowsBound, Crews};
-ghost use Rattle.search_state.specs.State.{wordCount};
-ghost use Rattle.search_step.specs.Children.{Ended};
-ghost use Rattle.search_leaf.specs.Ready.{Ready, Readied};
-ghost use Rattle.search_run.specs.Answers.{putRoot, answerOf};
+ghost use Rattle.search_bounds.specs.code.Rows.{Rows};
+ghost use Rattle.search_bounds.specs.code.Bounds.{rowsBound, Crews};
+ghost use Rattle.search_state.specs.code.State.{wordCount};
+ghost use Rattle.search_step.specs.code.Children.{Ended};
+ghost use Rattle.search_leaf.specs.code.Ready.{Ready, Readied};
+ghost use Rattle.search_run.specs.code.Answers.{putRoot, answerOf};
 
 // The words of the greatest search: of 511 regions and 1,024 junctions.
 const MOST_WORDS: usize = 5629;

@@ -9,9 +9,9 @@ use lib.ListN.{length, getD, take, drop, set, replicate, length-take, length-dro
 use lib.Seq.{take-set-le, take-set-lt, drop-set-lt, drop-set-add, getD-take, getD-drop}
 use lib.Dec.{eqb}
 use Rattle.search_held.specs.declared.Held.{Held}
-use Rattle.search_held.specs.Pairs.{heldOf}
-use Rattle.search_state.specs.State.{wordCount, firstsAt, picksAt, fsAt, boundsAt, goneAt, part, zeros, newest, stateOf}
-use Rattle.search_state.specs.State.{regionKeysIn, yardKeysIn, firstsIn, picksIn, fsIn, boundsIn, goneIn}
+use Rattle.search_held.specs.code.Pairs.{heldOf}
+use Rattle.search_state.specs.code.State.{wordCount, firstsAt, picksAt, fsAt, boundsAt, goneAt, part, zeros, newest, stateOf}
+use Rattle.search_state.specs.code.State.{regionKeysIn, yardKeysIn, firstsIn, picksIn, fsIn, boundsIn, goneIn}
 
 -- ---- one part
 

@@ -12,7 +12,7 @@ use Rattle.search_rules.proofs.Queue.{pick-least, pick-range}
 use Rattle.search_rules.proofs.Turns.{word-at, pick-first}
 use Rattle.search_rules.proofs.Steps.{next-region-is, next-yard-is, least-key-is}
 use Rattle.search_held.specs.declared.Held.{Held}
-use Rattle.search_state.specs.State.{wordCount, part, regionKeysIn, yardKeysIn, stateOf}
+use Rattle.search_state.specs.code.State.{wordCount, part, regionKeysIn, yardKeysIn, stateOf}
 use Rattle.search_state.proofs.Cells.{part-length, part-at, parts-of, state-by}
 
 -- the least word, and of equal ones the first, is one

@@ -6,7 +6,7 @@ use native.Mathlib.Numerals.{add-one}
 use native.Mathlib.Omega.{arith}
 use lib.ListN.{length, set}
 use lib.Seq.{getD-set-same, getD-set-other}
-use Rattle.search_state.specs.State.{newest}
+use Rattle.search_state.specs.code.State.{newest}
 
 newest-kept : (l : List ℕ) (n j x : ℕ) → n ≤ j → newest (set l j x) n ≡ newest l n
 unfolding newest

@@ -12,9 +12,9 @@ use Rattle.search_rules.specs.Held.{greatestHeld}
 use Rattle.search_rules.specs.Step.{leastKey, settled}
 use Rattle.search_rules.proofs.Steps.{queued-yes, queued-no, settled-is}
 use Rattle.search_held.specs.declared.Held.{Held}
-use Rattle.search_held.specs.Pairs.{heldOf}
+use Rattle.search_held.specs.code.Pairs.{heldOf}
 use Rattle.search_held.proofs.Pairing.{held-length}
-use Rattle.search_state.specs.State.{settledBy, stateOf}
+use Rattle.search_state.specs.code.State.{settledBy, stateOf}
 
 -- ---- the code's tests
 

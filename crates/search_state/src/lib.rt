@@ -2,7 +2,7 @@
 use search_held::Held;
 ghost use mathlib.Core.Path.{_≡_};
 ghost use Prim.Native.Nat.{_≤_};
-ghost use Rattle.search_state.specs.State.{settledBy};
+ghost use Rattle.search_state.specs.code.State.{settledBy};
 
 // Whether the queue is empty, or k are held and its least key is above the greatest held distance.
 pub fn settled(least: u64, held: Held, k: usize) -> bool

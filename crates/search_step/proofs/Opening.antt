@@ -9,7 +9,7 @@ use lib.Dec.{T, eqb}
 use Rattle.book.proofs.Lists.{eq→eqb, ne→neqb}
 use Rattle.tree_layout.specs.Values.{regionAt}
 use Rattle.tree_layout.specs.Decode.{decode, junctionCount, landmarkCount}
-use Rattle.tree.specs.Arrays.{fieldsOf}
+use Rattle.tree.specs.code.Arrays.{fieldsOf}
 use Rattle.tree_layout.specs.declared.Fields.{Fields}
 use Rattle.tree.specs.Yards.{childrenOf}
 use Rattle.tree.proofs.Recursing.{children-is}
@@ -21,16 +21,16 @@ use Rattle.search_rules.specs.Step.{SearchState, queueChildren, openInner, open
 use Rattle.search_rules.proofs.Equations.{search-of}
 use Rattle.search_rules.proofs.Steps.{leaf-is, take-leaf, take-inner, open-inner-is}
 use Rattle.search_rules.proofs.Steps.{children-is as children-of}
-use Rattle.search_bounds.specs.Bounds.{rowsBound}
+use Rattle.search_bounds.specs.code.Bounds.{rowsBound}
 use Rattle.search_bounds.proofs.Searching.{bound-of}
 use Rattle.search_held.specs.declared.Held.{Held}
-use Rattle.search_state.specs.State.{regionKeysIn, yardKeysIn, firstsIn, picksIn, fsIn, boundsIn, goneIn, stateOf}
+use Rattle.search_state.specs.code.State.{regionKeysIn, yardKeysIn, firstsIn, picksIn, fsIn, boundsIn, goneIn, stateOf}
 use Rattle.search_state.proofs.Cells.{Parts, parts-of, store-key, state-by, counts-of}
-use Rattle.search_step.specs.Children.{keyOf, putKeys, Slots}
+use Rattle.search_step.specs.code.Children.{keyOf, putKeys, Slots}
 use Rattle.search_step.proofs.Queueing.{key-of, put-parts}
-use Rattle.search_leaf.specs.Ready.{Ready, Cached, Leafed}
+use Rattle.search_leaf.specs.code.Ready.{Ready, Cached, Leafed}
 use Rattle.search_leaf.proofs.Landmarks.{well, size-of, tree-junctions}
-use Rattle.search_step.specs.Regions.{RegionQueued}
+use Rattle.search_step.specs.code.Regions.{RegionQueued}
 
 -- what is kept of the leaves, where no part that keeps it has changed
 pub cached-by : {i : Instance} {r n : ℕ} {words keys yards firsts picks fs bounds : List ℕ} {gone : List Bool}

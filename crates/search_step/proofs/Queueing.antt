@@ -8,10 +8,10 @@ use native.Mathlib.Omega.{arith}
 use lib.ListN.{length, set, length-set}
 use Rattle.tree_layout.specs.Values.{regionAt}
 use Rattle.tree_layout.specs.Decode.{decode, junctionCount, landmarkCount}
-use Rattle.tree_layout.specs.Reading.{headerOf}
+use Rattle.tree_layout.specs.code.Reading.{headerOf}
 use Rattle.tree_layout.specs.declared.Header.{Header}
 use Rattle.tree_layout.proofs.Reading.{header-junctions}
-use Rattle.tree.specs.Arrays.{Laid}
+use Rattle.tree.specs.code.Arrays.{Laid}
 use Rattle.tree.proofs.Fielding.{laid-few}
 use Rattle.tree.specs.Yards.{endOf, starts, childrenOf}
 use Rattle.tree.proofs.Siblings.{starts-none, starts-more, children-are}
@@ -19,10 +19,10 @@ use Rattle.search_rules.specs.Instance.{Instance}
 use Rattle.search_rules.specs.Bounds.{bound}
 use Rattle.search_rules.specs.Step.{queueChildren}
 use Rattle.search_rules.proofs.Steps.{queue-none, queue-more}
-use Rattle.search_bounds.specs.Bounds.{rowsBound}
-use Rattle.search_state.specs.State.{wordCount, firstsAt}
+use Rattle.search_bounds.specs.code.Bounds.{rowsBound}
+use Rattle.search_state.specs.code.State.{wordCount, firstsAt}
 use Rattle.search_state.proofs.Cells.{Parts, store-key, store-first}
-use Rattle.search_step.specs.Children.{keyOf, putKeys, Ended, Slots}
+use Rattle.search_step.specs.code.Children.{keyOf, putKeys, Ended, Slots}
 
 pub key-of : (tree table : List ℕ) (rows code : ℕ) (crews : List ℕ) (parent c x w : ℕ)
     → x ≡ rowsBound table rows code crews (regionAt (decode tree .regions) c .marks)

@@ -7,7 +7,7 @@ use lib.ListN.{length, getD, set}
 use Rattle.road_layout.specs.Road.{junctions}
 use Rattle.tree_layout.specs.Values.{Element}
 use Rattle.tree_layout.specs.Decode.{junctionCount}
-use Rattle.tree_layout.specs.Reading.{element}
+use Rattle.tree_layout.specs.code.Reading.{element}
 use Rattle.tree.specs.Yards.{treeYards}
 use Rattle.tree.proofs.Fielding.{laid-few}
 use Rattle.search_rules.specs.Instance.{Instance}
@@ -22,16 +22,16 @@ use Rattle.search_rules.proofs.Steps.{least-key-is, step-yard, step-region, tak
 use Rattle.search_rules.proofs.Taking.{unsettled-key, leaf-waits, measured-room}
 use Rattle.search_rules.proofs.Trees.{Accepted, tree-yards}
 use Rattle.search_held.specs.declared.Held.{Held}
-use Rattle.search_held.specs.Pairs.{heldOf}
-use Rattle.search_state.specs.State.{wordCount, regionKeysIn, yardKeysIn, firstsIn, picksIn, fsIn, boundsIn, goneIn, newest, stateOf, Unsettled}
+use Rattle.search_held.specs.code.Pairs.{heldOf}
+use Rattle.search_state.specs.code.State.{wordCount, regionKeysIn, yardKeysIn, firstsIn, picksIn, fsIn, boundsIn, goneIn, newest, stateOf, Unsettled}
 use Rattle.search_state.proofs.Cells.{Parts, parts-of, store-yard, state-by}
 use Rattle.search_state.proofs.Choosing.{picked-inside, picked-word, picked-region, picked-most, picked-yard, picked-less, region-low}
 use Rattle.search_state.proofs.Newest.{newest-length}
-use Rattle.search_bounds.specs.Measures.{IsDriven, totalOf}
+use Rattle.search_bounds.specs.code.Measures.{IsDriven, totalOf}
 use Rattle.search_bounds.proofs.YardsSearching.{total-of}
-use Rattle.search_leaf.specs.Ready.{Ready, Readied, Cached}
+use Rattle.search_leaf.specs.code.Ready.{Ready, Readied, Cached}
 use Rattle.search_leaf.proofs.Landmarks.{well, driven-of}
-use Rattle.search_step.specs.Regions.{RegionQueued, Going, FirstLeast}
+use Rattle.search_step.specs.code.Regions.{RegionQueued, Going, FirstLeast}
 use Rattle.search_step.proofs.Opening.{cached-by, regions-of, junctions-are}
 
 -- what is held after one more yard, by its distance

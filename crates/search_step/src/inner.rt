@@ -7,12 +7,12 @@ ghost use mathlib.Core.Path.{_≡_};
 ghost use Prim.Native.Nat.{_<_};
 ghost use lib.ListN.{length, set};
 ghost use Rattle.tree_layout.specs.Decode.{decode, junctionCount, landmarkCount};
-ghost use Rattle.tree.specs.Arrays.{Laid};
+ghost use Rattle.tree.specs.code.Arrays.{Laid};
 ghost use Rattle.tree.specs.Yards.{childrenOf};
 ghost use Rattle.search_rules.specs.Queue.{unqueued};
-ghost use Rattle.search_bounds.specs.Rows.{Rows};
-ghost use Rattle.search_bounds.specs.Bounds.{Crews};
-ghost use Rattle.search_step.specs.Children.{keyOf, putKeys, Ended, Slots};
+ghost use Rattle.search_bounds.specs.code.Rows.{Rows};
+ghost use Rattle.search_bounds.specs.code.Bounds.{Crews};
+ghost use Rattle.search_step.specs.code.Children.{keyOf, putKeys, Ended, Slots};
 
 // A region's key: "the greater of this and its parent's key".
 fn key(

@@ -14,10 +14,10 @@ ghost use lib.ListN.{length};
 ghost use Rattle.tree_layout.specs.Decode.{junctionCount};
 ghost use Rattle.search_rules.specs.Books.{searchOf};
 ghost use Rattle.search_rules.specs.Step.{step};
-ghost use Rattle.search_state.specs.State.{wordCount, picksIn, fsIn, boundsIn, stateOf};
-ghost use Rattle.search_step.specs.Children.{Ended};
-ghost use Rattle.search_leaf.specs.Ready.{Ready, Readied, Cached};
-ghost use Rattle.search_step.specs.Regions.{Going, FirstLeast};
+ghost use Rattle.search_state.specs.code.State.{wordCount, picksIn, fsIn, boundsIn, stateOf};
+ghost use Rattle.search_step.specs.code.Children.{Ended};
+ghost use Rattle.search_leaf.specs.code.Ready.{Ready, Readied, Cached};
+ghost use Rattle.search_step.specs.code.Regions.{Going, FirstLeast};
 
 // What a search has come to beside its words: the held yards, and the number of the measured ones.
 pub struct Progress {

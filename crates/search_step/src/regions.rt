@@ -10,10 +10,10 @@ ghost use Rattle.tree_layout.specs.Decode.{junctionCount};
 ghost use Rattle.search_rules.specs.Books.{searchOf};
 ghost use Rattle.search_rules.specs.Step.{takeRegion};
 ghost use Rattle.search_held.specs.declared.Held.{Held};
-ghost use Rattle.search_state.specs.State.{picksIn, fsIn, boundsIn, stateOf};
-ghost use Rattle.search_step.specs.Children.{Ended};
-ghost use Rattle.search_leaf.specs.Ready.{Ready, Readied, Cached};
-ghost use Rattle.search_step.specs.Regions.{RegionQueued};
+ghost use Rattle.search_state.specs.code.State.{picksIn, fsIn, boundsIn, stateOf};
+ghost use Rattle.search_step.specs.code.Children.{Ended};
+ghost use Rattle.search_leaf.specs.code.Ready.{Ready, Readied, Cached};
+ghost use Rattle.search_step.specs.code.Regions.{RegionQueued};
 
 // Takes region r, whose key is a.
 pub fn take(

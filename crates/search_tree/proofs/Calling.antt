@@ -18,10 +18,10 @@ use Rattle.query.specs.declared.QueryBook.{QueryBook}
 use Rattle.query.specs.declared.QueryBook.the-variants.{Asked, Refused}
 use Rattle.query.proofs.Reading.{read-asked, read-refused, number-is, its-k}
 use Rattle.search_call.specs.Call.{Found, refused, accepted, treeRefusalIn, areasRefusal, searchRefusal, searchAnswer, searchFound, resultsAfter}
-use Rattle.search_call.specs.Accepted.{AcceptedSearch}
+use Rattle.search_call.specs.code.Accepted.{AcceptedSearch}
 use Rattle.search_call.proofs.Refusing.{counts-agree, by-query, by-areas}
 use Rattle.search_call.proofs.Calls.{tests, found-accepted, found-refused, settled-writes, spent-keeps, refused-keeps}
-use Rattle.search_tree.specs.District.{District}
+use Rattle.search_tree.specs.code.District.{District}
 use Rattle.search_tree.specs.Found.{writtenBy}
 
 -- ---- a query's tests over a district

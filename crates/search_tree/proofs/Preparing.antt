@@ -10,7 +10,7 @@ use Rattle.book.proofs.Writing.{bytes-none, bytes-cons}
 use Rattle.work_area.specs.Work.{workWords, zeroed}
 use Rattle.work_area.proofs.Zeroing.{zeroed-over}
 use Rattle.adjacency.specs.Adjacency.{countIn, IsAdjacency}
-use Rattle.road.specs.Rows.{Within, Rowed}
+use Rattle.road.specs.code.Rows.{Within, Rowed}
 use Rattle.tree_layout.specs.Decode.{junctionCount}
 use Rattle.tree_layout.specs.Facts.{TreeLayout}
 use Rattle.query.specs.Query.{crewCount, crewsOf, aggregateOf, limitOf, queryOf}
@@ -18,13 +18,13 @@ use Rattle.query.specs.declared.Query.{Query}
 use Rattle.query.proofs.Reading.{its-aggregate, its-k, its-limit, its-crews}
 use Rattle.search_rules.specs.Books.{searchOf, Passed}
 use Rattle.search_rules.specs.Run.{Answer, answer}
-use Rattle.search_bounds.specs.Rows.{tableWords}
-use Rattle.search_bounds.specs.Tables.{rootPlaces}
+use Rattle.search_bounds.specs.code.Rows.{tableWords}
+use Rattle.search_bounds.specs.code.Tables.{rootPlaces}
 use Rattle.search_bounds.proofs.Filled.{table-filled}
-use Rattle.search_leaf.specs.Ready.{Ready}
+use Rattle.search_leaf.specs.code.Ready.{Ready}
 use Rattle.search_call.specs.Call.{searchAnswer}
-use Rattle.search_call.specs.Accepted.{AcceptedSearch}
-use Rattle.search_tree.specs.District.{District}
+use Rattle.search_call.specs.code.Accepted.{AcceptedSearch}
+use Rattle.search_tree.specs.code.District.{District}
 
 -- what every element says of a book
 pub bytes-all : (b : List ℕ) → ((i : ℕ) → getD b i 0 < 256) → Bytes b

@@ -16,17 +16,17 @@ use Rattle.road.specs.Refusal.{roadRefusal}
 use Rattle.road.proofs.Answering.{read-sound, read-refused}
 use Rattle.tree_layout.specs.Decode.{junctionCount, regionCount}
 use Rattle.tree_layout.specs.Facts.{TreeLayout}
-use Rattle.tree_layout.specs.Reading.{headerOf}
+use Rattle.tree_layout.specs.code.Reading.{headerOf}
 use Rattle.tree_layout.specs.declared.Header.{Header}
 use Rattle.tree_layout.proofs.Reading.{header-junctions, header-regions}
 use Rattle.tree.specs.Shape.{treeRefusal}
-use Rattle.tree.specs.Answer.{treeOf, treeNumber as tree-number, placesAfter, endsAfter}
+use Rattle.tree.specs.code.Answer.{treeOf, treeNumber as tree-number, placesAfter, endsAfter}
 use Rattle.tree.specs.declared.Tree.{Tree}
 use Rattle.tree.specs.declared.Tree.the-variants.{Shaped, Refused as tree-refused}
 use Rattle.tree.proofs.Answering.{shaped-answer, shaped-found, number-is, accepted-laid, accepted-room, accepted-ends}
 use Rattle.search_call.specs.Call.{treeRefusalIn, searchRefusal}
 use Rattle.search_call.proofs.Refusing.{tree-turned-back, counts-differ, counts-agree, tree-passed, by-road, by-tree}
-use Rattle.search_tree.specs.District.{districtRefusal, District}
+use Rattle.search_tree.specs.code.District.{districtRefusal, District}
 
 -- ---- the tree book's tests
 

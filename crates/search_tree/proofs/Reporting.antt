@@ -9,10 +9,10 @@ use Rattle.book.specs.Writing.{write}
 use Rattle.book.proofs.Choosing.{choose-yes, choose-no, true-T, false-T}
 use Rattle.tree_layout.specs.Values.{Element}
 use Rattle.search_rules.specs.Run.{Answer, words}
-use Rattle.search_held.specs.Pairs.{heldOf}
+use Rattle.search_held.specs.code.Pairs.{heldOf}
 use Rattle.search_held.proofs.Pairing.{held-length}
 use Rattle.search_run.specs.declared.Outcome.{Outcome}
-use Rattle.search_run.specs.Answers.{answerOf}
+use Rattle.search_run.specs.code.Answers.{answerOf}
 use Rattle.search_call.specs.Call.{Found, accepted}
 use Rattle.search_call.proofs.Calls.{accepted-is}
 use Rattle.search_tree.specs.Found.{foundOf, writtenBy}

@@ -1,2 +1,2 @@
-pub mod District
 pub mod Found
+pub mod code

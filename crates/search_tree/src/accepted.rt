@@ -9,10 +9,10 @@ ghost use Prim.Native.Nat.{ℕ, _*_, _≤_};
 ghost use lib.ListN.{length};
 ghost use Rattle.work_area.specs.Work.{workWords, zeroed};
 ghost use Rattle.query.specs.Query.{queryOf};
-ghost use Rattle.search_run.specs.Answers.{answerOf};
+ghost use Rattle.search_run.specs.code.Answers.{answerOf};
 ghost use Rattle.search_call.specs.Call.{accepted, searchAnswer};
-ghost use Rattle.search_call.specs.Accepted.{AcceptedSearch};
-ghost use Rattle.search_tree.specs.District.{District, IsDistrict};
+ghost use Rattle.search_call.specs.code.Accepted.{AcceptedSearch};
+ghost use Rattle.search_tree.specs.code.District.{District, IsDistrict};
 ghost use Rattle.search_tree.specs.Found.{foundOf, writtenBy};
 
 // The most crews that a query has.

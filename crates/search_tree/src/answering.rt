@@ -9,7 +9,7 @@ ghost use Prim.Native.Nat.{ℕ};
 ghost use lib.ListN.{length};
 ghost use Rattle.work_area.specs.Work.{workAfter};
 ghost use Rattle.search_call.specs.Call.{areasRefusal, searchRefusal, searchFound, resultsAfter};
-ghost use Rattle.search_tree.specs.District.{District, IsDistrict};
+ghost use Rattle.search_tree.specs.code.District.{District, IsDistrict};
 ghost use Rattle.search_tree.specs.Found.{foundOf};
 
 // Test 12, of a query that wants k yards: 12 or 0.

@@ -6,9 +6,9 @@ ghost use Prim.Native.Nat.{_≤_};
 ghost use lib.ListN.{length, take};
 ghost use Rattle.adjacency.specs.Adjacency.{adjacencyWords};
 ghost use Rattle.tree_layout.specs.Decode.{regionCount};
-ghost use Rattle.tree.specs.Answer.{placesAfter, endsAfter};
+ghost use Rattle.tree.specs.code.Answer.{placesAfter, endsAfter};
 ghost use Rattle.search_call.specs.Call.{treeRefusalIn};
-ghost use Rattle.search_tree.specs.District.{districtRefusal, District};
+ghost use Rattle.search_tree.specs.code.District.{districtRefusal, District};
 
 // The number of the first of a tree book's tests that turns it back beside a road book with n junctions, or 0.
 fn read_tree(tree: &[u8], n: u16, places: &mut [usize], ends: &mut [usize]) -> u8

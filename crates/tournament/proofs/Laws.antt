@@ -6,7 +6,7 @@ use native.Mathlib.Decide.{ℕ-discrete, decLe}
 use native.Mathlib.Omega.{arith}
 use lib.ListN.{length, getD, set, length-set, replicate, length-replicate, getD-replicate}
 use lib.Seq.{getD-set-same, getD-set-other}
-use Rattle.tournament.specs.Tournament.{queueWords, lesserOf, mend, repair, putLeaf, leaf, top, Tournament}
+use Rattle.tournament.specs.code.Tournament.{queueWords, lesserOf, mend, repair, putLeaf, leaf, top, Tournament}
 
 -- word i is one of the four below word j
 abbrev pub Child : ℕ → ℕ → Type 0

@@ -6,7 +6,7 @@ use native.Mathlib.Decide.{ℕ-discrete}
 use native.Mathlib.Omega.{arith}
 use lib.ListN.{length, getD, set, length-set}
 use lib.Seq.{getD-set-same, getD-set-other}
-use Rattle.tournament.specs.Tournament.{queueWords, lesserOf, mend, repair, putLeaf, leaf, Tournament}
+use Rattle.tournament.specs.code.Tournament.{queueWords, lesserOf, mend, repair, putLeaf, leaf, Tournament}
 use Rattle.tournament.proofs.Laws.{Child, Low, Found, least-low, least-found, Good, LeastBut, stored, higher, Level, level-up, level-leaf}
 
 -- t with f words above word i made the lesser of themselves and x

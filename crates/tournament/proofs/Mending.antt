@@ -4,7 +4,7 @@ use mathlib.Core.List.{List}
 use Prim.Native.Nat.{ℕ, suc, _+_, _-_, _*_, _/_, _≤_, _<_, min}
 use native.Mathlib.Omega.{arith}
 use lib.ListN.{getD, set}
-use Rattle.tournament.specs.Tournament.{lesserOf, other, across, leastBeside, repair}
+use Rattle.tournament.specs.code.Tournament.{lesserOf, other, across, leastBeside, repair}
 use Rattle.tournament.proofs.Laws.{Child, child-case}
 
 module _ (n k : ℕ) (t : List ℕ) (i : ℕ) where

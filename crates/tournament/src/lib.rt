@@ -1,7 +1,7 @@
 ghost use mathlib.Core.Path.{_≡_};
 ghost use Prim.Native.Nat.{ℕ, _≤_, _<_, min};
 ghost use lib.ListN.{length, replicate};
-ghost use Rattle.tournament.specs.Tournament.{queueWords, leaf, top, leastBeside, putLeaf, Tournament};
+ghost use Rattle.tournament.specs.code.Tournament.{queueWords, leaf, top, leastBeside, putLeaf, Tournament};
 
 // The number of a tree's words.
 pub const WORDS: usize = 2048;

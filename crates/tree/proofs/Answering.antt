@@ -17,15 +17,15 @@ use Rattle.tree_layout.proofs.Accepting.{layout-facts}
 use Rattle.tree_layout.proofs.Reading.{refused-answer as layout-answer}
 use Rattle.tree.specs.Shape.{shaped, treeRefusal}
 use Rattle.tree.specs.Yards.{endOf}
-use Rattle.tree.specs.Arrays.{overwrite, Laid}
-use Rattle.tree_layout.specs.Reading.{headerOf, headerValues, treeBook, layoutNumber as layout-number}
+use Rattle.tree.specs.code.Arrays.{overwrite, Laid}
+use Rattle.tree_layout.specs.code.Reading.{headerOf, headerValues, treeBook, layoutNumber as layout-number}
 use Rattle.tree_layout.specs.declared.Header.{Header}
 use Rattle.tree_layout.specs.declared.TreeBook.{TreeBook}
 use Rattle.tree_layout.specs.declared.TreeBook.the-variants.{Refused as layout-refused}
 use Rattle.tree_layout.proofs.Refusing.{refused-number}
 use Rattle.tree.specs.declared.Tree.{Tree}
 use Rattle.tree.specs.declared.Tree.the-variants.{Shaped, Refused}
-use Rattle.tree.specs.Answer.{treeAnswer, treeCase, treeNumber, treeOf, placesAfter, endsAfter}
+use Rattle.tree.specs.code.Answer.{treeAnswer, treeCase, treeNumber, treeOf, placesAfter, endsAfter}
 use Rattle.tree.proofs.Filling.{overwrite-length, overwrite-new}
 
 -- ---- a book that the layout's tests accept

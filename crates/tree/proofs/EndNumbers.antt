@@ -5,7 +5,7 @@ use native.Mathlib.Omega.{arith}
 use Rattle.tree_layout.specs.declared.Region.{Region}
 use Rattle.tree.specs.declared.shape.End.{End}
 use Rattle.tree.specs.declared.shape.End.the-variants.{At, Broken}
-use Rattle.tree.specs.Ends.{endAt}
+use Rattle.tree.specs.code.Ends.{endAt}
 
 -- a number's answer
 pub broken : (n : ℕ) → 0 ≡ n → Broken ≡ endAt n

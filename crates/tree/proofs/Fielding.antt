@@ -4,13 +4,13 @@ use mathlib.Core.List.{List}
 use Prim.Native.Nat.{ℕ, _+_, _≤_, _<_}
 use native.Mathlib.Omega.{arith}
 use lib.ListN.{length, getD}
-use Rattle.tree_layout.specs.Accessors.{fieldsAt}
+use Rattle.tree_layout.specs.code.Accessors.{fieldsAt}
 use Rattle.tree_layout.specs.Values.{Region, regionAt}
 use Rattle.tree_layout.specs.Decode.{readRegion, sizeAt, placeOf, landmarkCount, regionCount, decode}
 use Rattle.tree_layout.proofs.Places.{size-least, region-at, record-inside, decode-length}
 use Rattle.tree_layout.proofs.Formed.{at-mem}
 use Rattle.tree_layout.proofs.Reading.{region-first, region-after, region-children, region-yards}
-use Rattle.tree.specs.Arrays.{Laid, fieldsOf}
+use Rattle.tree.specs.code.Arrays.{Laid, fieldsOf}
 use Rattle.tree_layout.specs.declared.Fields.{Fields}
 
 module _ (b places : List ℕ) (laid : Laid b places) where

@@ -15,7 +15,7 @@ use Rattle.tree_layout.specs.Refusal.{treeLayoutRefusal}
 use Rattle.tree_layout.specs.Facts.{TreeLayout, RegionValues}
 use Rattle.tree_layout.proofs.Accepting.{layout-facts, facts-layout}
 use Rattle.tree_layout.proofs.Places.{decode-length, decode-junctions, decode-yards, decode-landmarks}
-use Rattle.tree_layout.specs.Formed.{FormedTree}
+use Rattle.tree_layout.specs.code.Formed.{FormedTree}
 use Rattle.tree_layout.proofs.Formed.{decode-formed, at-mem}
 use Rattle.tree_leaf.specs.Leaf.{firstList}
 use Rattle.tree.specs.Shape.{shaped, treeRefusal}

@@ -2,8 +2,6 @@ pub mod Shape
 pub mod Yards
 pub mod Facts
 pub mod Theorems
-pub mod Arrays
-pub mod Answer
 pub mod RegionYards
 pub mod Tests
-pub mod Ends
+pub mod code

@@ -18,7 +18,7 @@ use Rattle.tree_layout.specs.Values.{Element, Mark, Region, Tree, leafMark, inn
 use Rattle.tree_layout.specs.Decode.{elementAt, readList, listPart, readLists, readSpans, readMarks, readRegion, readRegions, markSize, recordSize, sizeAt}
 use Rattle.tree_layout.specs.Decode.{placeFrom, junctionCount, regionCount, treeYardCount, landmarkCount, decode}
 use Rattle.tree_layout.proofs.Places.{mark-size-leaf, mark-size-inner, place-zero, place-suc}
-use Rattle.tree_layout.specs.Formed.{Formed, FormedTree}
+use Rattle.tree_layout.specs.code.Formed.{Formed, FormedTree}
 use Rattle.tree_layout.proofs.Formed.{marks-lists, marks-spans}
 use Rattle.tree_layout.proofs.Decoding.{element-is, read-list-none, read-list-next, list-part-is, read-lists-none, read-lists-next, read-spans-none}
 use Rattle.tree_layout.proofs.Decoding.{read-spans-next, record-size, size-of, read-region, read-regions-none, read-regions-next, count-junctions}

@@ -15,13 +15,13 @@ use Rattle.book.proofs.Writing.{u16-length, u32-length}
 use Rattle.tree_layout.specs.Values.{Element, Mark, Region, Tree}
 use Rattle.tree_layout.specs.Decode.{markSize}
 use Rattle.tree_layout.proofs.Places.{mark-size-leaf, mark-size-inner}
-use Rattle.tree_layout.specs.Formed.{Formed, FormedTree}
+use Rattle.tree_layout.specs.code.Formed.{Formed, FormedTree}
 use Rattle.tree_layout.proofs.Decoding.{record-size}
 use Rattle.tree.specs.Yards.{sumFrom}
 use Rattle.tree.proofs.Sums.{sum-nothing, sum-cons}
 use Rattle.tree_encode.specs.Encode.{encodeElement, encodeList, encodeLeafMark, encodeInnerMark, encodeMark, encodeMarks, encodeRegion, encodeRegions}
 use Rattle.tree_encode.specs.Encode.{encodeBody, encode}
-use Rattle.tree_encode.specs.Facts.{sizeOf}
+use Rattle.tree_encode.specs.code.Facts.{sizeOf}
 
 -- ---- a landmark by its region's kind
 

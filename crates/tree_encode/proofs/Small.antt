@@ -13,7 +13,7 @@ use Rattle.book.proofs.Writing.{bytes-none, bytes-cons, bytes-append, u16-bytes
 use Rattle.tree_layout.specs.Values.{Element, Mark, Region, Tree}
 use Rattle.tree_encode.specs.Encode.{encodeElement, encodeList, encodeLeafMark, encodeInnerMark, encodeMark, encodeMarks, encodeRegion, encodeRegions}
 use Rattle.tree_encode.specs.Encode.{encodeBody, encode}
-use Rattle.tree_encode.specs.Facts.{SmallRegion, SmallTree}
+use Rattle.tree_encode.specs.code.Facts.{SmallRegion, SmallTree}
 
 list-bytes : (es : List Element) → ((e : Element) → Mem e es → (e .distance < 4294967296) × (e .yard < 65536)) → Bytes (encodeList es)
 unfolding encodeList encodeElement

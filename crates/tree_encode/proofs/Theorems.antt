@@ -20,7 +20,7 @@ use Rattle.tree.proofs.Shaping.{facts-shaped, root-forest, root-yards}
 use Rattle.tree.proofs.Sums.{sum-all}
 use Rattle.tree.proofs.Theorems.{sane-of, facts-tree, tree-facts}
 use Rattle.tree_encode.specs.Encode.{encode}
-use Rattle.tree_encode.specs.Facts.{SoundTree, SmallTree, sizeOf, WrittenTree}
+use Rattle.tree_encode.specs.code.Facts.{SoundTree, SmallTree, sizeOf, WrittenTree}
 use Rattle.tree_encode.proofs.Sizes.{body-length, encode-length, encode-sizes}
 use Rattle.tree_encode.proofs.Back.{header-back, regions-back, decode-encode}
 use Rattle.tree_encode.proofs.Small.{encode-bytes}

@@ -1,3 +1,2 @@
 pub mod Encode
-pub mod Parts
-pub mod Facts
+pub mod code

@@ -13,7 +13,7 @@ use Rattle.book.proofs.Lists.{eq→eqb, ne→neqb, neqb→ne, getD-mem}
 use Rattle.tree_layout.specs.Values.{Mark, Region, leafMark, innerMark, noRegion, regionAt}
 use Rattle.tree_layout.specs.Decode.{readList, listPart, readLists, readSpans, readMarks, readRegion, readRegions, sizeAt, decode, landmarkCount}
 use Rattle.tree_layout.specs.Decode.{regionCount}
-use Rattle.tree_layout.specs.Formed.{Formed, FormedTree}
+use Rattle.tree_layout.specs.code.Formed.{Formed, FormedTree}
 
 pub readList-length : (p : List ℕ) (n at : ℕ) → length (readList p n at) ≡ n
 unfolding readList

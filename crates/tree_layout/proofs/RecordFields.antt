@@ -13,7 +13,7 @@ use Rattle.tree_layout.proofs.Reading.{list-part}
 use Rattle.tree_layout.proofs.Ends.{leaf-is, inner-is, first-read, last-read}
 use Rattle.tree_layout.proofs.MarkPlaces.{region-marks, leaf-mark-at, inner-mark-at}
 use Rattle.tree_layout.specs.declared.Landmark.{Landmark}
-use Rattle.tree_layout.specs.Marks.{markPlace, marksAt, landmarkOf, RecordAt}
+use Rattle.tree_layout.specs.code.Marks.{markPlace, marksAt, landmarkOf, RecordAt}
 
 -- ---- a landmark's bytes
 

@@ -8,7 +8,7 @@ use Rattle.book.specs.Bytes.{u16At}
 use Rattle.tree_layout.specs.Values.{Mark, Region, regionAt}
 use Rattle.tree_layout.specs.Decode.{readRegion, sizeAt, junctionCount, regionCount, landmarkCount, placeOf, decode}
 use Rattle.tree_layout.specs.Facts.{TreeLayout}
-use Rattle.tree_layout.specs.Marks.{marksAt, RecordAt}
+use Rattle.tree_layout.specs.code.Marks.{marksAt, RecordAt}
 use Rattle.tree_layout.proofs.Places.{region-at, decode-length, record-inside}
 use Rattle.tree_layout.proofs.Formed.{at-mem}
 use Rattle.tree_layout.proofs.Reading.{region-yards}

@@ -3,8 +3,5 @@ pub mod Sizes
 pub mod Decode
 pub mod Refusal
 pub mod Facts
-pub mod Reading
-pub mod Formed
-pub mod Accessors
-pub mod Marks
 pub mod Tests
+pub mod code

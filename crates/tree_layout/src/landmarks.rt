@@ -7,7 +7,7 @@ ghost use lib.ListN.{length, getD};
 ghost use Rattle.book.specs.Bytes.{u8At, u16At, u32At};
 ghost use Rattle.tree_layout.specs.Values.{noMark, leafMark, innerMark};
 ghost use Rattle.tree_layout.specs.Decode.{readList, markSize, landmarkCount};
-ghost use Rattle.tree_layout.specs.Marks.{markPlace, marksAt, landmarkOf, RecordAt};
+ghost use Rattle.tree_layout.specs.code.Marks.{markPlace, marksAt, landmarkOf, RecordAt};
 
 // The bytes of one landmark of the record at a place.
 fn mark_size(tree: &[u8], at: usize) -> usize

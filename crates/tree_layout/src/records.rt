@@ -11,8 +11,8 @@ ghost use Rattle.book.specs.Bytes.{u16At};
 ghost use Rattle.tree_layout.specs.Sizes.{headerSize, fieldsSize, junctionSize, elementSize};
 ghost use Rattle.tree_layout.specs.Sizes.{leafMarkSize, innerMarkSize};
 ghost use Rattle.tree_layout.specs.Decode.{listPart};
-ghost use Rattle.tree_layout.specs.Accessors.{fieldsAt, spanAt, listedAt};
-ghost use Rattle.tree_layout.specs.Reading.{headerOf};
+ghost use Rattle.tree_layout.specs.code.Accessors.{fieldsAt, spanAt, listedAt};
+ghost use Rattle.tree_layout.specs.code.Reading.{headerOf};
 
 // Where the first region's record stands, after the header.
 pub const FIRST_RECORD: usize = 12;

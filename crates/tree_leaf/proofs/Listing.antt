@@ -11,7 +11,7 @@ use Rattle.book.specs.Bytes.{u8At, u16At}
 use Rattle.tree_layout.specs.Values.{Element, Mark, leafMark}
 use Rattle.tree_layout.specs.Decode.{elementAt, readList, listPart, readLists, readRegion, sizeAt, landmarkCount}
 use Rattle.tree_layout.specs.Refusal.{all}
-use Rattle.tree_layout.specs.Accessors.{fieldsAt}
+use Rattle.tree_layout.specs.code.Accessors.{fieldsAt}
 use Rattle.tree_layout.specs.declared.Fields.{Fields}
 use Rattle.tree_layout.proofs.Places.{mark-size-leaf, size-at}
 use Rattle.tree_layout.proofs.Reading.{all-none, all-next, list-turn, list-none, leaf-list, lists-turn, lists-none, region-first, region-after, region-lists}

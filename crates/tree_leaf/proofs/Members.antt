@@ -17,7 +17,7 @@ use Rattle.tree_layout.specs.Refusal.{all}
 use Rattle.tree_layout.proofs.Accessing.{part-length}
 use Rattle.tree_layout.proofs.Reading.{all-none, all-next, list-turn, list-none}
 use Rattle.tree_leaf.specs.Leaf.{names, once, inRange, namedBy, firstList, sameYards, agreeing}
-use Rattle.tree_leaf.specs.Members.{membersOf, isMember, fits}
+use Rattle.tree_leaf.specs.code.Members.{membersOf, isMember, fits}
 use Rattle.tree_leaf.proofs.Listing.{once-stop, once-next, range-low, range-high, range-next, same-to, same-from, first-list, agree-stop, agree-end}
 
 -- ---- what a members has

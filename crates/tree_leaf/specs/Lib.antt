@@ -1,3 +1,3 @@
 pub mod Leaf
 pub mod Facts
-pub mod Members
+pub mod code

@@ -8,10 +8,10 @@ ghost use Prim.Native.Nat.{_+_, _*_, _≤_};
 ghost use lib.ListN.{length, replicate};
 ghost use Rattle.tree_layout.specs.Sizes.{headerSize, elementSize, junctionSize, leafMarkSize};
 ghost use Rattle.tree_layout.specs.Decode.{readList, listPart, readLists, sizeAt, readRegion, landmarkCount};
-ghost use Rattle.tree_layout.specs.Accessors.{fieldsAt};
+ghost use Rattle.tree_layout.specs.code.Accessors.{fieldsAt};
 ghost use Rattle.tree_layout.specs.Refusal.{all};
 ghost use Rattle.tree_leaf.specs.Leaf.{firstList, sameYards, agreeing, leafOk};
-ghost use Rattle.tree_leaf.specs.Members.{membersOf, isMember, fits};
+ghost use Rattle.tree_leaf.specs.code.Members.{membersOf, isMember, fits};
 
 // Makes a set hold no yard.
 fn clear(members: &mut [bool])

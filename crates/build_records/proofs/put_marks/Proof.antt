@@ -7,7 +7,7 @@ use Rattle.road_layout.specs.Road.{roads}
 use Rattle.adjacency.specs.Adjacency.{Adjacency}
 use Rattle.adjacency.proofs.Linking.{few-junctions}
 use Rattle.build_rules.specs.Cut.{borders}
-use Rattle.build_records.specs.Marks.{markBytes}
+use Rattle.build_records.specs.code.Marks.{markBytes}
 use Rattle.build_records.proofs.Numbered.{yards-few}
 use Rattle.build_records.proofs.Writing.{mark-length}
 use Rattle.build_records.proofs.Turns.{Marking, marking-start, marking-room, marking-turn, marking-end, marking-place, landmark-same, landmark-low}

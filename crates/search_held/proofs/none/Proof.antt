@@ -1,4 +1,4 @@
-use Rattle.search_held.specs.Pairs.{pairs, heldOf}
+use Rattle.search_held.specs.code.Pairs.{pairs, heldOf}
 use mathlib.Core.Path.{refl}
 use Rattle.search_held.proofs.none.Statement.{statement}
 use Rattle.search_held.proofs.none.Tie as tie

@@ -4,7 +4,7 @@ use Prim.Native.Nat.{_-_, _≤_}
 use native.Mathlib.Omega.{arith}
 use lib.ListN.{length, length-set}
 use Rattle.book.proofs.Filling.{filled, filled-none, filled-more, filled-all}
-use Rattle.tournament.specs.Tournament.{queueWords}
+use Rattle.tournament.specs.code.Tournament.{queueWords}
 use Rattle.tournament.proofs.clear.Statement.{statement}
 use Rattle.tournament.proofs.clear.Tie as tie
 

@@ -1,5 +1,5 @@
 use borrow.Author.Needs.{needs}
-use Rattle.tournament.specs.Tournament.{top}
+use Rattle.tournament.specs.code.Tournament.{top}
 use Rattle.tournament.proofs.least.Statement.{statement}
 use Rattle.tournament.proofs.least.Tie as tie
 

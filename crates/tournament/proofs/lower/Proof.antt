@@ -3,7 +3,7 @@ use mathlib.Core.Path.{_≡_, refl, sym, _∙_}
 use Prim.Native.Nat.{_-_, _≤_, _<_}
 use native.Mathlib.Omega.{arith}
 use lib.ListN.{length, length-set}
-use Rattle.tournament.specs.Tournament.{queueWords}
+use Rattle.tournament.specs.code.Tournament.{queueWords}
 use Rattle.tournament.proofs.Lowering.{lowered, one-lowered, all-lowered, lowered-put}
 use Rattle.tournament.proofs.lower.Statement.{statement}
 use Rattle.tournament.proofs.lower.Tie as tie

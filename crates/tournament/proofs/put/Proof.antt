@@ -4,7 +4,7 @@ use Prim.Native.Nat.{_+_, _-_, _/_, _≤_, _<_}
 use native.Mathlib.Omega.{arith}
 use lib.ListN.{length, getD, length-set}
 use lib.Seq.{getD-set-same}
-use Rattle.tournament.specs.Tournament.{queueWords, lesserOf, repair, putLeaf}
+use Rattle.tournament.specs.code.Tournament.{queueWords, lesserOf, repair, putLeaf}
 use Rattle.tournament.proofs.Mending.{mended, all-mended, beside}
 use Rattle.tournament.proofs.put.Statement.{statement}
 use Rattle.tournament.proofs.put.Tie as tie

@@ -7,7 +7,7 @@ use native.Mathlib.Omega.{arith}
 use Rattle.tree_layout.specs.Decode.{readList}
 use Rattle.tree_layout.specs.Refusal.{all}
 use Rattle.tree_layout.proofs.Accessing.{listed-yard}
-use Rattle.tree_leaf.specs.Members.{isMember}
+use Rattle.tree_leaf.specs.code.Members.{isMember}
 use Rattle.tree_leaf.proofs.Listing.{all-end}
 use Rattle.tree_leaf.proofs.Members.{in-beyond, in-absent, in-next}
 use Rattle.tree_leaf.proofs.all_in.Statement.{statement}

@@ -6,7 +6,7 @@ use native.Mathlib.Omega.{arith}
 use lib.ListN.{length, length-set, length-replicate}
 use Rattle.tree_layout.specs.Decode.{readList}
 use Rattle.tree_layout.proofs.Accessing.{listed-yard}
-use Rattle.tree_leaf.specs.Members.{membersOf, fits}
+use Rattle.tree_leaf.specs.code.Members.{membersOf, fits}
 use Rattle.tree_leaf.proofs.Members.{none-done, all-done, failed, fails-low, fails-high, fails-twice, one-more}
 use Rattle.tree_leaf.proofs.fill_members.Statement.{statement}
 use Rattle.tree_leaf.proofs.fill_members.Tie as tie

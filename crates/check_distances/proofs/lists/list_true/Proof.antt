@@ -4,7 +4,7 @@ use native.Mathlib.Nat.{sub-zero}
 use native.Mathlib.Omega.{arith}
 use borrow.Author.Needs.{needs}
 use Rattle.tree_layout.specs.Decode.{readList}
-use Rattle.check_distances.specs.Row.{listIn}
+use Rattle.check_distances.specs.code.Row.{listIn}
 use Rattle.check_distances.proofs.Listing.{list-stop, list-next, list-end}
 use Rattle.check_distances.proofs.lists.list_true.Statement.{statement}
 use Rattle.check_distances.proofs.lists.list_true.Tie as tie

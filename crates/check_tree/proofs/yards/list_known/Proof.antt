@@ -6,7 +6,7 @@ use borrow.Author.Needs.{needs}
 use borrow.Author.Tests.{not-true, not-false}
 use Rattle.yard.specs.Yards.{yardsOf}
 use Rattle.tree_layout.specs.Decode.{readList}
-use Rattle.check_tree.specs.Known.{knownList}
+use Rattle.check_tree.specs.code.Known.{knownList}
 use Rattle.check_tree.proofs.Knowing.{list-unknown, list-known, list-done}
 use Rattle.check_tree.proofs.yards.list_known.Statement.{statement}
 use Rattle.check_tree.proofs.yards.list_known.Tie as tie

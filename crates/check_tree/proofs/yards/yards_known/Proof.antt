@@ -12,7 +12,7 @@ use Rattle.tree_layout.proofs.Places.{place-first}
 use Rattle.tree_layout.proofs.RecordFields.{fields-inside}
 use Rattle.tree_layout.proofs.RegionRecords.{layout-record}
 use Rattle.check_distances.proofs.Records.{header-counts, record-end, record-next, regions-on, regions-off, regions-done}
-use Rattle.check_tree.specs.Known.{knownRegion, knownTree}
+use Rattle.check_tree.specs.code.Known.{knownRegion, knownTree}
 use Rattle.check_tree.proofs.Knowing.{tree-known}
 use Rattle.check_tree.proofs.yards.yards_known.Statement.{statement}
 use Rattle.check_tree.proofs.yards.yards_known.Tie as tie

@@ -4,9 +4,9 @@ use mathlib.Core.Path.{_≡_, refl, sym, _∙_}
 use Prim.Native.Nat.{ℕ, _-_, _≤_, _<_}
 use native.Mathlib.Omega.{arith}
 use lib.ListN.{length}
-use Rattle.tournament.specs.Tournament.{queueWords}
+use Rattle.tournament.specs.code.Tournament.{queueWords}
 use Rattle.adjacency.proofs.Linking.{few-junctions}
-use Rattle.road.specs.Queue.{WalkingIn}
+use Rattle.road.specs.code.Queue.{WalkingIn}
 use Rattle.road.proofs.Stepping.{walking-sizes, walking-start, finished}
 use Rattle.road.proofs.walk.distances.Statement.{statement}
 use Rattle.road.proofs.walk.distances.Tie as tie

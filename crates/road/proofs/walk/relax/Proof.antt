@@ -4,7 +4,7 @@ use mathlib.Core.List.{List}
 use Prim.Native.Nat.{ℕ}
 use native.Mathlib.Omega.{arith}
 use Rattle.adjacency.specs.Adjacency.{Adjacency}
-use Rattle.road.specs.Queue.{reach}
+use Rattle.road.specs.code.Queue.{reach}
 use Rattle.road.proofs.Following.{Chain, ArcFacts, chain-starts, chain-facts, chain-goes-on, chain-ends}
 use Rattle.road.proofs.walk.relax.Statement.{statement}
 use Rattle.road.proofs.walk.relax.Tie as tie

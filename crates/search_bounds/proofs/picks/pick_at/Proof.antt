@@ -1,7 +1,7 @@
 use Prim.Native.Nat.{_-_}
 use native.Mathlib.Omega.{arith}
-use Rattle.tree_layout.specs.Marks.{marksAt}
-use Rattle.search_bounds.specs.Bounds.{markWeight}
+use Rattle.tree_layout.specs.code.Marks.{marksAt}
+use Rattle.search_bounds.specs.code.Bounds.{markWeight}
 use Rattle.search_bounds.proofs.Picking.{Picked, picked-first, picked-turn, picked-all}
 use Rattle.search_bounds.proofs.Bounding.{count-read, count-marks, chosen-made}
 use borrow.Author.Needs.{needs}

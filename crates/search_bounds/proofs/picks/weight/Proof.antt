@@ -1,7 +1,7 @@
 use Prim.Native.Nat.{_-_}
 use lib.ListN.{length}
 use native.Mathlib.Omega.{arith}
-use Rattle.search_bounds.specs.Rows.{rowsLower}
+use Rattle.search_bounds.specs.code.Rows.{rowsLower}
 use Rattle.search_bounds.proofs.Folds.{Summed, summed-none, summed-room, summed-turn, summed-all}
 use Rattle.search_bounds.proofs.Bounding.{crew-there, weight-made}
 use borrow.Author.Needs.{needs}

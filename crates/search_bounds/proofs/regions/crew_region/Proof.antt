@@ -1,7 +1,7 @@
 use Prim.Native.Nat.{_-_}
 use native.Mathlib.Omega.{arith}
-use Rattle.tree_layout.specs.Marks.{marksAt}
-use Rattle.search_bounds.specs.Bounds.{rowsMark}
+use Rattle.tree_layout.specs.code.Marks.{marksAt}
+use Rattle.search_bounds.specs.code.Bounds.{rowsMark}
 use Rattle.search_bounds.proofs.Folds.{Greatest, greatest-start, greatest-turn, greatest-all}
 use Rattle.search_bounds.proofs.Bounding.{count-read, count-marks, place-there, mark-read, crew-made}
 use borrow.Author.Needs.{needs}

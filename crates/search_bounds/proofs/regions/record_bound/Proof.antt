@@ -1,8 +1,8 @@
 use Prim.Native.Nat.{_-_}
 use lib.ListN.{length}
 use native.Mathlib.Omega.{arith}
-use Rattle.tree_layout.specs.Marks.{marksAt}
-use Rattle.search_bounds.specs.Bounds.{rowsCrew}
+use Rattle.tree_layout.specs.code.Marks.{marksAt}
+use Rattle.search_bounds.specs.code.Bounds.{rowsCrew}
 use Rattle.search_bounds.proofs.Folds.{Summed, summed-none, summed-room, summed-turn, summed-all}
 use Rattle.search_bounds.proofs.Bounding.{crew-there, bound-made}
 use borrow.Author.Needs.{needs}

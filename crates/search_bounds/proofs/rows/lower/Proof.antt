@@ -1,7 +1,7 @@
 use mathlib.Core.Path.{_≡_, sym}
 use Prim.Native.Nat.{_-_, _≤_}
 use native.Mathlib.Omega.{arith}
-use Rattle.search_bounds.specs.Rows.{rowsLower}
+use Rattle.search_bounds.specs.code.Rows.{rowsLower}
 use Rattle.search_bounds.proofs.Cells.{lower-none, lower-turn, lower-end}
 use borrow.Author.Needs.{needs}
 use Rattle.search_bounds.proofs.rows.lower.Statement.{statement}

@@ -1,7 +1,7 @@
 use mathlib.Core.Path.{_≡_, sym, _∙_}
 use Prim.Native.Nat.{_-_, _≤_, _<_}
 use native.Mathlib.Omega.{arith}
-use Rattle.search_bounds.specs.Rows.{rowsUpper}
+use Rattle.search_bounds.specs.code.Rows.{rowsUpper}
 use Rattle.search_bounds.proofs.Cells.{upper-one, upper-turn, upper-end}
 use borrow.Author.Needs.{needs}
 use Rattle.search_bounds.proofs.rows.upper.Statement.{statement}

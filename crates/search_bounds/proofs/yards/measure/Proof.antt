@@ -6,7 +6,7 @@ use lib.ListN.{length}
 use Rattle.road_layout.specs.Road.{junctions}
 use Rattle.road.specs.Dijkstra.{dist}
 use Rattle.search_bounds.proofs.Folds.{Summed, summed-none, summed-room, summed-turn, summed-all}
-use Rattle.search_bounds.specs.Measures.{Driven}
+use Rattle.search_bounds.specs.code.Measures.{Driven}
 use Rattle.search_bounds.proofs.Driving.{cell-inside, cell-from, measured}
 use borrow.Author.Needs.{needs}
 use Rattle.search_bounds.proofs.yards.measure.Statement.{statement}

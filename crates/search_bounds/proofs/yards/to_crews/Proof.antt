@@ -4,7 +4,7 @@ use Prim.Native.Nat.{ℕ, _-_, _<_}
 use native.Mathlib.Omega.{arith}
 use lib.ListN.{length, length-set}
 use Rattle.road_layout.specs.Road.{junctions}
-use Rattle.search_bounds.specs.Measures.{Driven}
+use Rattle.search_bounds.specs.code.Measures.{Driven}
 use Rattle.search_bounds.proofs.ToCrews.{Towards, towards-none, towards-more, towards-all}
 use Rattle.search_bounds.proofs.Driving.{cell-inside, cell-to}
 use borrow.Author.Needs.{needs}

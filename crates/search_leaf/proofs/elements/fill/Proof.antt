@@ -1,7 +1,7 @@
 use Prim.Native.Nat.{_-_}
 use native.Mathlib.Omega.{arith}
 use lib.ListN.{length-set}
-use Rattle.search_leaf.specs.Leaves.{fIn, boundIn}
+use Rattle.search_leaf.specs.code.Leaves.{fIn, boundIn}
 use Rattle.search_leaf.proofs.Filling.{yard-near, Filled, filled-none, filled-more, filled-all}
 use borrow.Author.Needs.{needs}
 use Rattle.search_leaf.proofs.elements.fill.Statement.{statement}

@@ -2,8 +2,8 @@ use mathlib.Core.Logic.{⊎-elim}
 use Prim.Native.Nat.{_-_, _≤_}
 use native.Mathlib.Omega.{arith}
 use Rattle.tree_layout.specs.Decode.{readList}
-use Rattle.search_state.specs.State.{fsIn, goneIn}
-use Rattle.search_leaf.specs.Leaves.{wordsOf}
+use Rattle.search_state.specs.code.State.{fsIn, goneIn}
+use Rattle.search_leaf.specs.code.Leaves.{wordsOf}
 use Rattle.search_leaf.proofs.Scanning.{words-by, Scanned, scanned-first, scanned-on, scanned-still, scanned-all}
 use Rattle.search_leaf.proofs.Filling.{yard-near}
 use borrow.Author.Needs.{needs}

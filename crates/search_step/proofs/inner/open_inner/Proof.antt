@@ -6,7 +6,7 @@ use lib.ListN.{length, length-set}
 use Rattle.tree_layout.specs.Decode.{junctionCount, landmarkCount}
 use Rattle.tree.proofs.Fielding.{laid-header, laid-few}
 use Rattle.tree.proofs.Recursing.{children-is}
-use Rattle.search_step.specs.Children.{keyOf}
+use Rattle.search_step.specs.code.Children.{keyOf}
 use Rattle.search_step.proofs.Queueing.{Counted, counted, Queueing, queueing-none, queueing-on, queueing-all, Next, next-slot, key-rows}
 use Rattle.search_step.proofs.inner.open_inner.Statement.{statement}
 use Rattle.search_step.proofs.inner.open_inner.Tie as tie

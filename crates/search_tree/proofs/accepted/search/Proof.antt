@@ -3,9 +3,9 @@ use mathlib.Core.List.{List}
 use Prim.Native.Nat.{ℕ}
 use native.Mathlib.Omega.{arith}
 use Rattle.book.specs.Bytes.{Bytes}
-use Rattle.search_run.specs.Answers.{answerOf}
+use Rattle.search_run.specs.code.Answers.{answerOf}
 use Rattle.search_call.specs.Call.{searchAnswer}
-use Rattle.search_tree.specs.District.{District}
+use Rattle.search_tree.specs.code.District.{District}
 use Rattle.search_tree.proofs.Reporting.{found-so, written-so}
 use Rattle.search_tree.proofs.Preparing.{bytes-all, part-room, part-of, lent-size, back-full, back-part, back-taken, back-zeroed}
 use Rattle.search_tree.proofs.Preparing.{crews-needs, few-crews, few-k, results-room, rows-need, ready, answered}

@@ -5,7 +5,7 @@ use native.Mathlib.Omega.{arith}
 use borrow.Author.Tests.{not-true, not-false}
 use Rattle.tree.proofs.Recursing.{none-left, past-end, at-inner, at-leaf, at-bad, at-good, sum-over, sum-done, none-there, sub-none, not-fitting}
 use Rattle.tree.proofs.Recursing.{fitting, goes-on}
-use Rattle.tree.specs.Ends.{endAt}
+use Rattle.tree.specs.code.Ends.{endAt}
 use Rattle.tree.proofs.EndNumbers.{broken, reached, broken-zero, reached-number}
 use borrow.Author.Needs.{needs}
 use Prim.Native.Nat.{ℕ, _+_, _*_, _-_, _<_}

@@ -1,0 +1,4 @@
+pub mod Bounds
+pub mod Measures
+pub mod Rows
+pub mod Tables

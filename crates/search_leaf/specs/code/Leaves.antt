@@ -1,0 +1,56 @@
+-- A leaf's list by arrays: a word for each of its yards, and which leaves next. Assumes nothing: these are definitions.
+use mathlib.Core.Path.{_≡_}
+use mathlib.Core.Bool.{Bool}
+use mathlib.Core.List.{List, [], _∷_, List·Memᴰ as Mem}
+use Prim.Native.Nat.{ℕ, _+_, _<_}
+use lib.ListN.{length, getD, set}
+use Rattle.book.specs.Choose.{choose}
+use Rattle.tree_layout.specs.Values.{Element, Mark}
+use Rattle.tree_layout.specs.Decode.{readList, listPart}
+use Rattle.search_rules.specs.Instance.{Instance}
+use Rattle.search_rules.specs.Bounds.{f, yardBound}
+use Rattle.search_rules.specs.Queue.{unqueued}
+use Rattle.search_rules.specs.Step.{left}
+use Rattle.search_bounds.specs.code.Measures.{fBy, yardBoundBy}
+use Rattle.search_state.specs.code.State.{fsAt, boundsAt}
+
+-- every yard of a list is below n
+abbrev pub Near : ℕ → List Element → Type 0
+Near n es = (e : Element) → Mem e es → e .yard < n
+
+-- words by junction, with that of each element of a list set at its yard
+unfoldable pub byYard : (Element → ℕ) → List Element → List ℕ → List ℕ
+byYard g [] ws = ws
+byYard g (e ∷ es) ws = byYard g es (set ws (e .yard) (g e))
+
+-- a search's words, with g of each element of a list set at its yard among the f's, and b of it among the bounds
+unfoldable pub byYards : (regions junctions : ℕ) → (g b : Element → ℕ) → List Element → List ℕ → List ℕ
+byYards regions junctions g b [] ws = ws
+byYards regions junctions g b (e ∷ es) ws =
+    byYards regions junctions g b es
+    (set (set ws (fsAt regions junctions + e .yard) (g e)) (boundsAt regions junctions + e .yard) (b e))
+
+-- an element's f, and its yard's bound: out has the landmark's distances to the crews
+abbrev pub fIn : ℕ → List ℕ → Element → ℕ
+fIn code out e = fBy code out (e .distance)
+
+abbrev pub boundIn : ℕ → List ℕ → ℕ → List ℕ → List ℕ → Element → ℕ
+boundIn code table rows crews out e = yardBoundBy code table rows crews out (e .yard) (e .distance) (length crews)
+
+-- yard y's word, or `unqueued` if it has left
+unfoldable pub elementWord : List ℕ → List Bool → ℕ → ℕ
+elementWord fs gone y = choose (left gone y) unqueued (getD fs y 0)
+
+-- for each element its word
+unfoldable pub wordsOf : List ℕ → List Bool → List Element → List ℕ
+wordsOf fs gone [] = []
+wordsOf fs gone (e ∷ es) = elementWord fs gone (e .yard) ∷ wordsOf fs gone es
+
+-- the list of the leaf's landmark that stands at a place of a tree book
+unfoldable pub listAt : List ℕ → ℕ → ℕ → List Element
+listAt tree at yards = readList (listPart tree yards (at + 2)) yards 0
+
+-- f and the bound of each yard of a landmark's list stand at its junction
+pub record Opened (i : Instance) (m : Mark) (fs bounds : List ℕ) : Type 0 where
+  pub words : (e : Element) → Mem e (m .list) → getD fs (e .yard) 0 ≡ f i m e
+  pub keys : (e : Element) → Mem e (m .list) → getD bounds (e .yard) 0 ≡ yardBound i m e

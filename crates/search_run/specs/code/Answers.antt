@@ -1,0 +1,22 @@
+-- The words of a search before its first step, and what a search answers. Assumes nothing: these are definitions.
+use mathlib.Core.List.{List, []}
+use Prim.Native.Nat.{ℕ}
+use lib.ListN.{set}
+use Rattle.book.specs.Choose.{choose}
+use Rattle.search_rules.specs.Run.{Answer}
+use Rattle.search_held.specs.code.Pairs.{heldOf}
+use Rattle.search_state.specs.code.State.{firstsAt}
+use Rattle.search_run.specs.declared.Outcome.{Outcome}
+
+-- "The queue starts with the root.": its key and its first key set
+unfoldable pub putRoot : (r n key : ℕ) → List ℕ → List ℕ
+putRoot r n key ws = set (set ws 0 key) (firstsAt r n) key
+
+-- "Both return taken and measured, and settled also the number of yards listed."
+unfoldable pub answerOf : Outcome → Answer
+answerOf o = record {
+  settled = o .settled;
+  listed = choose (o .settled) (heldOf (o .held)) [];
+  taken = o .taken;
+  measured = o .measured;
+}

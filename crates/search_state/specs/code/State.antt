@@ -1,0 +1,98 @@
+-- A search's state in one array of words, and when it is settled. Assumes nothing: these are definitions.
+use mathlib.Core.Path.{_≡_}
+use mathlib.Core.Bool.{Bool, not, _&&_, _||_}
+use mathlib.Core.List.{List, [], _∷_}
+use Prim.Native.Nat.{ℕ, zero, suc, _+_, _*_}
+use lib.ListN.{length, getD, take, drop}
+use lib.Dec.{T, ltb, eqb}
+use Rattle.search_rules.specs.Instance.{Instance}
+use Rattle.search_rules.specs.Queue.{queued}
+use Rattle.search_rules.specs.Held.{greatestHeld}
+use Rattle.search_rules.specs.Step.{SearchState, settled}
+use Rattle.search_rules.specs.Run.{run}
+use Rattle.search_held.specs.declared.Held.{Held}
+use Rattle.search_held.specs.code.Pairs.{heldOf}
+
+-- The words of a search of r regions and n junctions, each part one word for each of them, one part after the other:
+-- regions' keys, yards' keys, regions' first keys, the landmarks that leaves picked, yards' f, yards' bounds, and which
+-- yards have left (0 if so).
+abbrev pub wordCount : ℕ → ℕ → ℕ
+wordCount r n = 3 * r + 4 * n
+
+-- where each part begins
+abbrev pub yardKeysAt : ℕ → ℕ → ℕ
+yardKeysAt r n = r
+
+abbrev pub firstsAt : ℕ → ℕ → ℕ
+firstsAt r n = r + n
+
+abbrev pub picksAt : ℕ → ℕ → ℕ
+picksAt r n = 2 * r + n
+
+abbrev pub fsAt : ℕ → ℕ → ℕ
+fsAt r n = 3 * r + n
+
+abbrev pub boundsAt : ℕ → ℕ → ℕ
+boundsAt r n = 3 * r + 2 * n
+
+abbrev pub goneAt : ℕ → ℕ → ℕ
+goneAt r n = 3 * r + 3 * n
+
+-- n words from a place on
+unfoldable pub part : List ℕ → ℕ → ℕ → List ℕ
+part ws at n = take n (drop at ws)
+
+-- each word is 0
+unfoldable pub zeros : List ℕ → List Bool
+zeros [] = []
+zeros (w ∷ ws) = eqb w 0 ∷ zeros ws
+
+module _ (r n : ℕ) (ws : List ℕ) where
+  abbrev pub regionKeysIn : List ℕ
+  regionKeysIn = part ws 0 r
+
+  abbrev pub yardKeysIn : List ℕ
+  yardKeysIn = part ws (yardKeysAt r n) n
+
+  abbrev pub firstsIn : List ℕ
+  firstsIn = part ws (firstsAt r n) r
+
+  abbrev pub picksIn : List ℕ
+  picksIn = part ws (picksAt r n) r
+
+  abbrev pub fsIn : List ℕ
+  fsIn = part ws (fsAt r n) n
+
+  abbrev pub boundsIn : List ℕ
+  boundsIn = part ws (boundsAt r n) n
+
+  abbrev pub goneIn : List Bool
+  goneIn = zeros (part ws (goneAt r n) n)
+
+-- the first n numbers of an array, the last one first
+unfoldable pub newest : List ℕ → ℕ → List ℕ
+newest l zero = []
+newest l (suc n) = getD l n 0 ∷ newest l n
+
+-- the state of a search of r regions and n junctions: its words, the held yards, and the measured yards with their
+-- number
+unfoldable pub stateOf : (r n : ℕ) → (ws : List ℕ) → Held → (measured : List ℕ) → ℕ → SearchState
+stateOf r n ws held measured count = record {
+  regionKeys = regionKeysIn r n ws;
+  yardKeys = yardKeysIn r n ws;
+  firsts = firstsIn r n ws;
+  gone = goneIn r n ws;
+  held = heldOf held;
+  measured = newest measured count;
+}
+
+-- "The search is settled when the queue is empty, or k are held and every queued key is above the greatest held
+-- distance.": by the least key
+unfoldable pub settledBy : (k least : ℕ) → Held → Bool
+settledBy k least held = not (queued least) || (eqb (held .count) k && ltb (greatestHeld (heldOf held)) least)
+
+-- a search has come to a state by a number of steps, and isn't settled
+pub record Unsettled (i : Instance) (st : SearchState) : Type 0 where
+  pub steps : ℕ
+  pub is : st ≡ run i steps .state
+  pub unsettled : T (not (settled i st))

@@ -1,0 +1,4 @@
+pub mod Accessors
+pub mod Formed
+pub mod Marks
+pub mod Reading
