@@ -10,7 +10,7 @@ use Rattle.book.proofs.Lists.{getD-mem}
 use Rattle.tree_layout.specs.Values.{Mark, Region, noMark, noRegion, regionAt}
 use Rattle.tree_layout.specs.Decode.{readRegion, sizeAt, markSize, regionCount, landmarkCount, placeOf, decode}
 use Rattle.tree_layout.specs.Refusal.{all, treeLayoutRefusal}
-use Rattle.tree_layout.specs.code.Reading.{headerOf}
+use Rattle.tree_layout.specs.Reading.{headerOf}
 use Rattle.tree_layout.specs.code.Marks.{marksAt, markPlace, RecordAt}
 use Rattle.tree_layout.specs.declared.Header.{Header}
 use Rattle.tree_layout.proofs.Accepting.{layout-facts}

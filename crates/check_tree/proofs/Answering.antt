@@ -27,7 +27,7 @@ use Rattle.yard.proofs.Answering.{yards-number, refused-number, number-is}
 use Rattle.tree_layout.specs.Decode.{junctionCount, decode}
 use Rattle.tree_layout.specs.Decode as Book
 use Rattle.tree_layout.specs.Refusal.{treeLayoutRefusal}
-use Rattle.tree_layout.specs.code.Reading.{headerOf}
+use Rattle.tree_layout.specs.Reading.{headerOf}
 use Rattle.tree_layout.specs.declared.Header.{Header}
 use Rattle.tree_layout.proofs.Accepting.{facts-layout}
 use Rattle.tree_layout.proofs.Reading.{header-junctions, header-yards}

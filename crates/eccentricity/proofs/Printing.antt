@@ -6,7 +6,7 @@ use lib.ListN.{take}
 use lib.Dec.{eqb}
 use Rattle.book.proofs.Choosing.{choose-yes, choose-no}
 use Rattle.book.proofs.Lists.{eq→eqb, ne→neqb}
-use Rattle.text.specs.code.Text.{inTurn, refusedText, Appended}
+use Rattle.text.specs.Text.{inTurn, refusedText, Appended}
 use Rattle.text.proofs.Appending.{append-as, append-then, append-whole}
 use Rattle.road_layout.specs.Road.{junctions, roadCount}
 use Rattle.road_layout.specs.Layout.{told, roadNumber}

@@ -3,7 +3,7 @@ use mathlib.Core.List.{List, [], _∷_, _++_}
 use Prim.Native.Nat.{ℕ}
 use lib.Dec.{eqb}
 use Rattle.book.specs.Choose.{choose}
-use Rattle.text.specs.code.Text.{decimal, space, lineEnd, inTurn, refusedText}
+use Rattle.text.specs.Text.{decimal, space, lineEnd, inTurn, refusedText}
 use Rattle.road_layout.specs.Road.{junctions}
 use Rattle.adjacency.specs.Arcs.{net}
 use Rattle.road.specs.Dijkstra.{distances}

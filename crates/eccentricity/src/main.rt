@@ -6,7 +6,7 @@ ghost use mathlib.Core.Path.{_≡_};
 ghost use mathlib.Core.List.{List, _++_};
 ghost use Prim.Native.Nat.{ℕ, _+_, _≤_, _<_, max};
 ghost use lib.ListN.{length, take};
-ghost use Rattle.text.specs.code.Text.{inTurn, Appended};
+ghost use Rattle.text.specs.Text.{inTurn, Appended};
 ghost use Rattle.road_layout.specs.Road.{junctions};
 ghost use Rattle.adjacency.specs.Adjacency.{countIn, Adjacency, IsAdjacency};
 ghost use Rattle.eccentricity.specs.Rows.{furthestOf, rowTotal};

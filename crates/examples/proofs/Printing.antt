@@ -5,7 +5,7 @@ use Prim.Native.Nat.{ℕ}
 use lib.Dec.{eqb}
 use Rattle.book.proofs.Choosing.{choose-yes, choose-no}
 use Rattle.book.proofs.Lists.{eq→eqb, ne→neqb}
-use Rattle.text.specs.code.Text.{decimal, refusedText}
+use Rattle.text.specs.Text.{decimal, refusedText}
 use Rattle.examples.specs.Output.{acceptedText, exampleLine}
 
 module _ (name : List ℕ) (n : ℕ) (then : List ℕ) (why : ℕ) where

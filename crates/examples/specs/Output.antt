@@ -3,7 +3,7 @@ use mathlib.Core.List.{List, [], _∷_, _++_}
 use Prim.Native.Nat.{ℕ}
 use lib.Dec.{eqb}
 use Rattle.book.specs.Choose.{choose}
-use Rattle.text.specs.code.Text.{decimal, refusedText}
+use Rattle.text.specs.Text.{decimal, refusedText}
 
 -- `accepted` and a line end
 abbrev pub acceptedText : List ℕ

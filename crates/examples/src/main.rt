@@ -4,7 +4,7 @@ ghost use mathlib.Core.Path.{_≡_};
 ghost use mathlib.Core.List.{_∷_, []};
 ghost use Prim.Native.Nat.{_+_, _*_, _≤_, _<_};
 ghost use lib.ListN.{length};
-ghost use Rattle.text.specs.code.Text.{Appended};
+ghost use Rattle.text.specs.Text.{Appended};
 ghost use Rattle.search_call.specs.Call.{searchRefusal};
 ghost use Rattle.examples.specs.Books.{roadN, treeN, asking};
 ghost use Rattle.examples.specs.Output.{exampleLine};

@@ -7,7 +7,7 @@ use lib.Dec.{eqb}
 use Rattle.book.specs.Choose.{choose}
 use Rattle.book.proofs.Choosing.{choose-yes, choose-no}
 use Rattle.book.proofs.Lists.{eq→eqb, ne→neqb}
-use Rattle.text.specs.code.Text.{inTurn, refusedText}
+use Rattle.text.specs.Text.{inTurn, refusedText}
 use Rattle.search_call.specs.Call.{Found}
 use Rattle.search_tree.specs.declared.Found.{Found as Returned}
 use Rattle.search_tree.specs.Found.{foundOf}

@@ -4,7 +4,7 @@ use Prim.Native.Nat.{ℕ, _+_, _*_}
 use lib.ListN.{getD, replicate}
 use lib.Dec.{eqb}
 use Rattle.book.specs.Choose.{choose}
-use Rattle.text.specs.code.Text.{decimal, space, lineEnd, inTurn, refusedText}
+use Rattle.text.specs.Text.{decimal, space, lineEnd, inTurn, refusedText}
 use Rattle.search_call.specs.Call.{Found}
 use Rattle.list.specs.Input.{foundIn, resultsIn}
 

@@ -3,7 +3,7 @@ use search_tree::Found;
 ghost use mathlib.Core.Path.{_≡_};
 ghost use Prim.Native.Nat.{_+_, _*_, _≤_};
 ghost use lib.ListN.{length, take};
-ghost use Rattle.text.specs.code.Text.{inTurn, Appended};
+ghost use Rattle.text.specs.Text.{inTurn, Appended};
 ghost use Rattle.search_tree.specs.Found.{foundOf};
 ghost use Rattle.list.specs.Output.{yardLine, countsLine, listedLine, answerText};
 

@@ -8,16 +8,16 @@ use lib.Seq.{length-take-le}
 use lib.Dec.{eqb}
 use Rattle.book.proofs.Choosing.{choose-yes, choose-no}
 use Rattle.book.proofs.Lists.{eq→eqb, ne→neqb}
-use Rattle.text.specs.code.Text.{inTurn, refusedText}
+use Rattle.text.specs.Text.{inTurn, refusedText}
 use Rattle.tree_layout.specs.Decode.{regionCount, decode}
-use Rattle.tree_layout.specs.code.Reading.{headerOf}
+use Rattle.tree_layout.specs.Reading.{headerOf}
 use Rattle.tree_layout.specs.declared.Header.{Header}
 use Rattle.tree_layout.specs.declared.Fields.{Fields}
 use Rattle.tree_layout.proofs.Reading.{header-regions}
 use Rattle.tree.specs.declared.Tree.{Tree}
 use Rattle.tree.specs.declared.Tree.the-variants.{Shaped, Refused}
 use Rattle.tree.specs.Shape.{treeRefusal}
-use Rattle.tree.specs.code.Arrays.{Laid, fieldsOf}
+use Rattle.tree.specs.Arrays.{Laid, fieldsOf}
 use Rattle.tree.specs.Yards.{endOf, levelBy, levelOf}
 use Rattle.tree.specs.code.Answer.{treeOf, treeNumber, placesAfter, endsAfter}
 use Rattle.tree.proofs.Answering.{shaped-found, shaped-answer, accepted-laid, accepted-slots, accepted-room, accepted-ends, number-is}

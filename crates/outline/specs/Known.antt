@@ -6,7 +6,7 @@ use Prim.Native.Nat.{ℕ, _<_}
 use lib.ListN.{length, getD}
 use Rattle.tree_layout.specs.Decode.{decode}
 use Rattle.tree.specs.Yards.{endOf}
-use Rattle.tree.specs.code.Arrays.{Laid}
+use Rattle.tree.specs.Arrays.{Laid}
 
 -- the place of each region's record, and the region after its subtree
 pub record Known (b places ends : List ℕ) : Type 0 where

@@ -3,14 +3,14 @@ use mathlib.Core.List.{List, [], _∷_, _++_}
 use Prim.Native.Nat.{ℕ}
 use lib.Dec.{eqb}
 use Rattle.book.specs.Choose.{choose}
-use Rattle.text.specs.code.Text.{decimal, space, lineEnd, inTurn, refusedText}
+use Rattle.text.specs.Text.{decimal, space, lineEnd, inTurn, refusedText}
 use Rattle.tree_layout.specs.Decode.{regionCount, decode}
-use Rattle.tree_layout.specs.code.Reading.{headerOf}
+use Rattle.tree_layout.specs.Reading.{headerOf}
 use Rattle.tree_layout.specs.declared.Header.{Header}
 use Rattle.tree_layout.specs.declared.Fields.{Fields}
 use Rattle.tree.specs.Shape.{treeRefusal}
 use Rattle.tree.specs.Yards.{levelOf}
-use Rattle.tree.specs.code.Arrays.{fieldsOf}
+use Rattle.tree.specs.Arrays.{fieldsOf}
 
 -- `junctions `
 abbrev pub wordJunctions : List ℕ

@@ -8,7 +8,7 @@ use tree_layout::Region;
 ghost use mathlib.Core.Path.{_≡_};
 ghost use Prim.Native.Nat.{_+_, _*_, _≤_, _<_};
 ghost use lib.ListN.{length, take};
-ghost use Rattle.text.specs.code.Text.{inTurn, Appended};
+ghost use Rattle.text.specs.Text.{inTurn, Appended};
 ghost use Rattle.outline.specs.Output.{headerText, lineOf, regionText, outlineText};
 ghost use Rattle.outline.specs.Known.{Known};
 

@@ -7,7 +7,7 @@ use lib.ListN.{length, getD}
 use Rattle.book.proofs.Lists.{getD-mem}
 use Rattle.tree_layout.specs.Values.{Mark}
 use Rattle.tree_layout.specs.Decode.{landmarkCount}
-use Rattle.tree_layout.specs.code.Reading.{headerOf}
+use Rattle.tree_layout.specs.Reading.{headerOf}
 use Rattle.tree_layout.specs.declared.Header.{Header}
 use Rattle.search_rules.specs.Bounds.{aggregate, greatestOf, crewBound}
 use Rattle.tree_layout.specs.Values.{noMark}

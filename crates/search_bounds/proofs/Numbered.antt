@@ -8,7 +8,7 @@ use Rattle.tree_layout.specs.Values.{regionAt}
 use Rattle.tree_layout.specs.Decode.{regionCount, decode}
 use Rattle.tree_layout.specs.code.Marks.{marksAt, RecordAt}
 use Rattle.tree_layout.proofs.RegionRecords.{layout-marks, layout-record}
-use Rattle.tree.specs.code.Arrays.{Laid}
+use Rattle.tree.specs.Arrays.{Laid}
 
 module _ (b places : List ℕ) (laid : Laid b places) (i : ℕ) (h : i < length places) (at : ℕ) (e : at ≡ getD places i 0) where
   below : i < regionCount b

@@ -8,7 +8,7 @@ use lib.Seq.{ext-getD}
 use Rattle.book.proofs.Lists.{getD-mem, mem-getD}
 use Rattle.tree_layout.specs.Values.{Mark}
 use Rattle.tree_layout.specs.Decode.{landmarkCount}
-use Rattle.tree.specs.code.Arrays.{overwrite}
+use Rattle.tree.specs.Arrays.{overwrite}
 use Rattle.tree.proofs.Filling.{overwrite-length, overwrite-new, overwrite-none, overwrite-next}
 use Rattle.tree_layout.specs.Values.{noMark}
 use Rattle.tree_layout.specs.declared.Landmark.{Landmark}

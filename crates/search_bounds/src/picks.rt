@@ -12,7 +12,7 @@ ghost use lib.Dec.{ltb};
 ghost use Rattle.book.specs.Choose.{choose};
 ghost use Rattle.tree_layout.specs.Values.{regionAt};
 ghost use Rattle.tree_layout.specs.Decode.{decode, landmarkCount};
-ghost use Rattle.tree.specs.code.Arrays.{Laid};
+ghost use Rattle.tree.specs.Arrays.{Laid};
 ghost use Rattle.search_bounds.specs.code.Rows.{Rows};
 ghost use Rattle.tree_layout.specs.code.Marks.{marksAt, RecordAt};
 ghost use Rattle.search_bounds.specs.code.Bounds.{rowsWeight, markWeight, rowsChosen, Crews};

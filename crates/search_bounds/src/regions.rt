@@ -11,7 +11,7 @@ ghost use Prim.Native.Nat.{_<_};
 ghost use lib.ListN.{length};
 ghost use Rattle.tree_layout.specs.Values.{regionAt};
 ghost use Rattle.tree_layout.specs.Decode.{decode};
-ghost use Rattle.tree.specs.code.Arrays.{Laid};
+ghost use Rattle.tree.specs.Arrays.{Laid};
 ghost use Rattle.search_rules.specs.Bounds.{crewBound};
 ghost use Rattle.search_bounds.specs.code.Rows.{rowsLower, rowsUpper, Rows};
 ghost use Rattle.tree_layout.specs.code.Marks.{marksAt, RecordAt};

@@ -5,7 +5,7 @@ ghost use mathlib.Core.List.{List, []};
 ghost use Prim.Native.Nat.{ℕ, _+_, _*_, _≤_, _<_};
 ghost use lib.ListN.{length};
 ghost use Rattle.book.specs.Writing.{write};
-ghost use Rattle.tree_layout.specs.code.Reading.{element};
+ghost use Rattle.tree_layout.specs.Reading.{element};
 ghost use Rattle.search_rules.specs.Order.{yardFirst};
 ghost use Rattle.search_rules.specs.Held.{hold, greatestHeld};
 ghost use Rattle.search_rules.specs.Run.{words};

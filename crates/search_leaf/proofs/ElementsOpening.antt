@@ -10,7 +10,7 @@ use lib.Seq.{take-at}
 use Rattle.book.specs.Bytes.{u16At}
 use Rattle.tree_layout.specs.Values.{Element, Mark}
 use Rattle.tree_layout.specs.Decode.{readList, listPart, regionCount, junctionCount, landmarkCount}
-use Rattle.tree_layout.specs.code.Reading.{headerOf}
+use Rattle.tree_layout.specs.Reading.{headerOf}
 use Rattle.tree_layout.specs.declared.Header.{Header}
 use Rattle.tree_layout.proofs.Reading.{header-regions, header-junctions}
 use Rattle.tree_layout.proofs.Decoding.{list-part-is}

@@ -13,7 +13,7 @@ use Rattle.road_layout.specs.Road.{junctions}
 use Rattle.search_bounds.specs.code.Measures.{Driven, IsDriven, toCrews}
 use Rattle.tree_layout.specs.Values.{Mark, Region, regionAt}
 use Rattle.tree_layout.specs.Decode.{decode, junctionCount, regionCount, landmarkCount, placeOf, listPart, readList, markSize}
-use Rattle.tree_layout.specs.code.Reading.{headerOf}
+use Rattle.tree_layout.specs.Reading.{headerOf}
 use Rattle.tree_layout.specs.code.Accessors.{fieldsAt}
 use Rattle.tree_layout.specs.declared.Header.{Header}
 use Rattle.tree_layout.specs.declared.Fields.{Fields}

@@ -23,7 +23,7 @@ use Rattle.search_rules.specs.Step.{SearchState, left, noElement, againK
 use Rattle.search_rules.specs.Step.{openLeaf}
 use Rattle.search_rules.specs.Step.{takeRegion, takeYard, nextRegion, nextYard, leastKey, step, settled, startSearch}
 use Rattle.search_rules.specs.Run.{Outcome, Answer, words, advance, run, report, answer}
-use Rattle.search_rules.specs.code.Examples.{onChain, at, leafOf, three, from0, from2}
+use Rattle.search_rules.specs.Examples.{onChain, at, leafOf, three, from0, from2}
 
 -- ---- nets that are chains
 

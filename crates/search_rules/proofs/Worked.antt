@@ -16,8 +16,8 @@ use Rattle.search_rules.specs.Keeping.{keep, enough}
 use Rattle.search_rules.specs.Step.{left, noElement, againKey, waiting, nextPlace, nextF, queueChildren, openInner, queueNext, closeLeaf, openLeaf}
 use Rattle.search_rules.specs.Step.{takeRegion, takeYard, nextRegion, nextYard, leastKey, step, settled, startSearch}
 use Rattle.search_rules.specs.Run.{advance, run}
-use Rattle.search_rules.specs.code.Examples.{onChain, at, leafOf, three, from0, from2, heavy, near, six}
-use Rattle.search_rules.specs.code.Examples.{regionKeysAfter, yardKeysAfter, measuredAfter, Worked}
+use Rattle.search_rules.specs.Examples.{onChain, at, leafOf, three, from0, from2, heavy, near, six}
+use Rattle.search_rules.specs.Examples.{regionKeysAfter, yardKeysAfter, measuredAfter, Worked}
 
 pub worked : Worked
 unfolding onChain at leafOf three from0 from2 heavy near six regionKeysAfter yardKeysAfter measuredAfter choose leafMark innerMark firstDistance lastFrom

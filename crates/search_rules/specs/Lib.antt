@@ -10,4 +10,4 @@ pub mod Run
 pub mod Facts
 pub mod Theorems
 pub mod Walks
-pub mod code
+pub mod Examples

@@ -8,10 +8,10 @@ use lib.ListN.{length, getD, take, set, replicate, length-set, length-replicate,
 use lib.Seq.{length-take-le}
 use Rattle.tree_layout.specs.Values.{regionAt}
 use Rattle.tree_layout.specs.Decode.{decode, junctionCount, landmarkCount}
-use Rattle.tree_layout.specs.code.Reading.{headerOf}
+use Rattle.tree_layout.specs.Reading.{headerOf}
 use Rattle.tree_layout.specs.declared.Header.{Header}
 use Rattle.tree_layout.proofs.Reading.{header-junctions}
-use Rattle.tree.specs.code.Arrays.{Laid}
+use Rattle.tree.specs.Arrays.{Laid}
 use Rattle.tree.proofs.Fielding.{laid-few}
 use Rattle.search_rules.specs.Instance.{Instance, size}
 use Rattle.search_rules.specs.Books.{searchOf}

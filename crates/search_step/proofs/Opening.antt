@@ -9,7 +9,7 @@ use lib.Dec.{T, eqb}
 use Rattle.book.proofs.Lists.{eq→eqb, ne→neqb}
 use Rattle.tree_layout.specs.Values.{regionAt}
 use Rattle.tree_layout.specs.Decode.{decode, junctionCount, landmarkCount}
-use Rattle.tree.specs.code.Arrays.{fieldsOf}
+use Rattle.tree.specs.Arrays.{fieldsOf}
 use Rattle.tree_layout.specs.declared.Fields.{Fields}
 use Rattle.tree.specs.Yards.{childrenOf}
 use Rattle.tree.proofs.Recursing.{children-is}

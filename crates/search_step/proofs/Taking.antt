@@ -7,7 +7,7 @@ use lib.ListN.{length, getD, set}
 use Rattle.road_layout.specs.Road.{junctions}
 use Rattle.tree_layout.specs.Values.{Element}
 use Rattle.tree_layout.specs.Decode.{junctionCount}
-use Rattle.tree_layout.specs.code.Reading.{element}
+use Rattle.tree_layout.specs.Reading.{element}
 use Rattle.tree.specs.Yards.{treeYards}
 use Rattle.tree.proofs.Fielding.{laid-few}
 use Rattle.search_rules.specs.Instance.{Instance}

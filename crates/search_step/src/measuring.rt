@@ -7,7 +7,7 @@ ghost use mathlib.Core.List.{List, _∷_};
 ghost use Prim.Native.Nat.{ℕ, _+_, _≤_, _<_};
 ghost use lib.ListN.{length};
 ghost use Rattle.road_layout.specs.Road.{junctions};
-ghost use Rattle.tree_layout.specs.code.Reading.{element};
+ghost use Rattle.tree_layout.specs.Reading.{element};
 ghost use Rattle.search_rules.specs.Held.{hold};
 ghost use Rattle.search_held.specs.code.Pairs.{heldOf};
 ghost use Rattle.search_state.specs.code.State.{newest};

@@ -16,7 +16,7 @@ use Rattle.road.specs.Refusal.{roadRefusal}
 use Rattle.road.proofs.Answering.{read-sound, read-refused}
 use Rattle.tree_layout.specs.Decode.{junctionCount, regionCount}
 use Rattle.tree_layout.specs.Facts.{TreeLayout}
-use Rattle.tree_layout.specs.code.Reading.{headerOf}
+use Rattle.tree_layout.specs.Reading.{headerOf}
 use Rattle.tree_layout.specs.declared.Header.{Header}
 use Rattle.tree_layout.proofs.Reading.{header-junctions, header-regions}
 use Rattle.tree.specs.Shape.{treeRefusal}

@@ -6,7 +6,7 @@ use native.Mathlib.Omega.{arith}
 use lib.ListN.{length, take, drop, length-append, length-take, length-drop}
 use Rattle.streams.specs.declared.Read.{Read}
 use Rattle.streams.specs.declared.Read.the-variants.{Bytes}
-use Rattle.streams.specs.code.Moved.{bytesIn}
+use Rattle.streams.specs.Moved.{bytesIn}
 
 -- the part, as code takes it
 abbrev pub from : List ℕ → ℕ → List ℕ

@@ -5,7 +5,7 @@ use libc::STDOUT_FILENO;
 ghost use Prim.Native.Nat.{_≤_};
 ghost use lib.ListN.{length};
 ghost use Rattle.io.specs.Counts.{Counts};
-ghost use Rattle.streams.specs.code.Moved.{bytesIn};
+ghost use Rattle.streams.specs.Moved.{bytesIn};
 
 // How often a read or a write that a signal interrupts is begun again: far more than any run takes, since a loop has to
 // end.

@@ -6,7 +6,7 @@ use native.Mathlib.Numerals.{add-one}
 use native.Mathlib.Omega.{arith}
 use lib.ListN.{length, take, getD, set, length-append}
 use lib.Seq.{take-suc, take-suc-set, take-all}
-use Rattle.text.specs.code.Text.{inTurn, Appended}
+use Rattle.text.specs.Text.{inTurn, Appended}
 
 -- what a loop that copies bytes knows after i of them
 pub copied-none : (out bytes : List ℕ) (at : ℕ) → take (at + 0) out ≡ take at out ++ take 0 bytes

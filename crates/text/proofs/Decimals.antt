@@ -10,7 +10,7 @@ use borrow.Author.Tests.{lt-ltb, le-ltb}
 use Rattle.io.specs.Digits.{digits, Fewest, glyph}
 use Rattle.book.specs.Choose.{choose}
 use Rattle.book.proofs.Choosing.{lt-or-ge}
-use Rattle.text.specs.code.Text.{digit, decimalWithin, decimal}
+use Rattle.text.specs.Text.{digit, decimalWithin, decimal}
 
 -- a number below 10, and any other
 within-small : (most n : ℕ) → n < 10 → decimalWithin (suc most) n ≡ digit n

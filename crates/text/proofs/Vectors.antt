@@ -2,7 +2,7 @@
 use mathlib.Core.Path.{_≡_, refl}
 use mathlib.Core.List.{List, [], _∷_}
 use Rattle.book.specs.Choose.{choose}
-use Rattle.text.specs.code.Text.{decimalWithin, decimal}
+use Rattle.text.specs.Text.{decimalWithin, decimal}
 
 -- `0`, `9`, `10` and `305`
 none : decimal 0 ≡ 48 ∷ []

@@ -2,7 +2,7 @@
 ghost use mathlib.Core.List.{_++_};
 ghost use Prim.Native.Nat.{_+_, _≤_};
 ghost use lib.ListN.{length};
-ghost use Rattle.text.specs.code.Text.{decimal, refusedText, Appended};
+ghost use Rattle.text.specs.Text.{decimal, refusedText, Appended};
 
 // Appends some bytes to the first `at` of an array, and answers how many it then holds.
 pub fn put(out: &mut [u8], at: usize, bytes: &[u8]) -> usize

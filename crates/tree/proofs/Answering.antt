@@ -17,8 +17,8 @@ use Rattle.tree_layout.proofs.Accepting.{layout-facts}
 use Rattle.tree_layout.proofs.Reading.{refused-answer as layout-answer}
 use Rattle.tree.specs.Shape.{shaped, treeRefusal}
 use Rattle.tree.specs.Yards.{endOf}
-use Rattle.tree.specs.code.Arrays.{overwrite, Laid}
-use Rattle.tree_layout.specs.code.Reading.{headerOf, headerValues, treeBook, layoutNumber as layout-number}
+use Rattle.tree.specs.Arrays.{overwrite, Laid}
+use Rattle.tree_layout.specs.Reading.{headerOf, headerValues, treeBook, layoutNumber as layout-number}
 use Rattle.tree_layout.specs.declared.Header.{Header}
 use Rattle.tree_layout.specs.declared.TreeBook.{TreeBook}
 use Rattle.tree_layout.specs.declared.TreeBook.the-variants.{Refused as layout-refused}

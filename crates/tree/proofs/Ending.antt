@@ -11,7 +11,7 @@ use Rattle.tree_layout.specs.Values.{Region, regionAt}
 use Rattle.tree_layout.specs.Decode.{regionCount, decode}
 use Rattle.tree.specs.Shape.{treeRefusal}
 use Rattle.tree.specs.Yards.{endOf, hops, starts, childrenOf}
-use Rattle.tree.specs.code.Arrays.{overwrite, Laid, fieldsOf}
+use Rattle.tree.specs.Arrays.{overwrite, Laid, fieldsOf}
 use Rattle.tree_layout.specs.declared.Fields.{Fields}
 use Rattle.tree.specs.Theorems.{Regions}
 use Rattle.tree.proofs.Fielding.{laid-length}

@@ -10,7 +10,7 @@ use Rattle.tree_layout.specs.Decode.{readRegion, sizeAt, placeOf, landmarkCount
 use Rattle.tree_layout.proofs.Places.{size-least, region-at, record-inside, decode-length}
 use Rattle.tree_layout.proofs.Formed.{at-mem}
 use Rattle.tree_layout.proofs.Reading.{region-first, region-after, region-children, region-yards}
-use Rattle.tree.specs.code.Arrays.{Laid, fieldsOf}
+use Rattle.tree.specs.Arrays.{Laid, fieldsOf}
 use Rattle.tree_layout.specs.declared.Fields.{Fields}
 
 module _ (b places : List ℕ) (laid : Laid b places) where

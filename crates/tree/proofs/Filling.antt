@@ -14,7 +14,7 @@ use Rattle.tree_layout.specs.Decode.{placeOf, sizeAt, regionCount, landmarkCoun
 use Rattle.tree_layout.specs.Facts.{TreeLayout}
 use Rattle.tree_layout.proofs.Places.{place-after, record-inside, size-least}
 use Rattle.tree.specs.Yards.{hops, holders, levelBy}
-use Rattle.tree.specs.code.Arrays.{overwrite}
+use Rattle.tree.specs.Arrays.{overwrite}
 
 -- ---- a list whose first n numbers are replaced
 

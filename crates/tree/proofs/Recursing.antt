@@ -14,7 +14,7 @@ use Rattle.tree_layout.specs.Decode.{readRegion, sizeAt, landmarkCount, placeOf
 use Rattle.tree_layout.proofs.Places.{decode-yards}
 use Rattle.tree_leaf.specs.Leaf.{leafOk}
 use Rattle.tree.specs.Shape.{childFits, siblings, subtree, shaped}
-use Rattle.tree.specs.code.Arrays.{Laid, fieldsOf}
+use Rattle.tree.specs.Arrays.{Laid, fieldsOf}
 use Rattle.tree_layout.specs.declared.Fields.{Fields}
 use Rattle.tree.proofs.Fielding.{laid-length, laid-header, laid-inside, laid-region, laid-children, laid-end}
 use Rattle.tree.proofs.Descending.{fits-yards, no-levels, no-number, inner-end, leaf-bad, leaf-good, last-left, last-none, next-bad, next-none}

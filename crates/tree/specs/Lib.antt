@@ -5,3 +5,4 @@ pub mod Theorems
 pub mod RegionYards
 pub mod Tests
 pub mod code
+pub mod Arrays

@@ -9,7 +9,7 @@ ghost use Rattle.tree_layout.specs.Decode.{regionCount, placeOf, decode};
 ghost use Rattle.tree_layout.specs.Facts.{TreeLayout};
 ghost use Rattle.tree.specs.Shape.{treeRefusal};
 ghost use Rattle.tree.specs.Yards.{endOf, hops};
-ghost use Rattle.tree.specs.code.Arrays.{overwrite, Laid};
+ghost use Rattle.tree.specs.Arrays.{overwrite, Laid};
 
 // Fills in where each region's record stands.
 pub fn fill_places(b: &[u8], places: &mut [usize])

@@ -8,7 +8,7 @@ ghost use lib.ListN.{length, getD};
 ghost use lib.Dec.{ltb};
 ghost use Rattle.book.specs.Choose.{choose};
 ghost use Rattle.tree.specs.Yards.{levelBy};
-ghost use Rattle.tree.specs.code.Arrays.{Laid, fieldsOf};
+ghost use Rattle.tree.specs.Arrays.{Laid, fieldsOf};
 
 // The fields of region r.
 pub fn fields(b: &[u8], places: &[usize], r: Region) -> Fields

@@ -8,7 +8,7 @@ ghost use Prim.Native.Nat.{_+_, _≤_, _<_};
 ghost use Rattle.tree_layout.specs.Decode.{decode};
 ghost use Rattle.tree.specs.Shape.{childFits, siblings, subtree, shaped};
 ghost use Rattle.tree.specs.code.Ends.{endAt};
-ghost use Rattle.tree.specs.code.Arrays.{Laid};
+ghost use Rattle.tree.specs.Arrays.{Laid};
 
 // What the descent of a subtree finds: the region after it, or that a rule of the shape doesn't hold.
 pub enum End {

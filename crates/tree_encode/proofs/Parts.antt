@@ -8,7 +8,7 @@ use Rattle.book.specs.Bytes.{putU16, putU32}
 use Rattle.book.specs.Writing.{u16Bytes, u32Bytes, write}
 use Rattle.book.proofs.Writing.{u16-length, u32-length, write-u8, write-u16, write-u32, write-append}
 use Rattle.tree_layout.specs.Values.{Region, Tree, innerMark}
-use Rattle.tree_layout.specs.code.Reading.{element}
+use Rattle.tree_layout.specs.Reading.{element}
 use Rattle.tree_layout.proofs.MarkFields.{inner-place, inner-least, inner-greatest}
 use Rattle.tree_encode.specs.Encode.{encodeElement, encodeInnerMark, encodeMarks, encodeRegion, encodeRegions, encodeBody, encode}
 use Rattle.tree_encode.specs.code.Parts.{treeHeader, encodeFields}

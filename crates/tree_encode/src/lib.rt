@@ -8,7 +8,7 @@ ghost use Prim.Native.Nat.{_+_, _≤_};
 ghost use lib.ListN.{length};
 ghost use Rattle.book.specs.Writing.{u16Bytes, write};
 ghost use Rattle.tree_layout.specs.Values.{innerMark};
-ghost use Rattle.tree_layout.specs.code.Reading.{element};
+ghost use Rattle.tree_layout.specs.Reading.{element};
 ghost use Rattle.tree_layout.specs.Sizes.{headerSize, fieldsSize, junctionSize, innerMarkSize, elementSize};
 ghost use Rattle.tree_encode.specs.Encode.{encodeElement, encodeInnerMark};
 ghost use Rattle.tree_encode.specs.code.Parts.{treeHeader, encodeFields};

@@ -7,7 +7,7 @@ use lib.ListN.{length, drop, length-drop}
 use lib.Seq.{length-take-le}
 use Rattle.tree_layout.specs.Sizes.{junctionSize, elementSize, leafMarkSize}
 use Rattle.tree_layout.specs.Decode.{elementAt, listPart, regionCount, treeYardCount, landmarkCount}
-use Rattle.tree_layout.specs.code.Reading.{headerOf}
+use Rattle.tree_layout.specs.Reading.{headerOf}
 use Rattle.tree_layout.specs.code.Accessors.{listedAt}
 use Rattle.tree_layout.specs.declared.Header.{Header}
 use Rattle.tree_layout.specs.declared.Listed.{Listed}

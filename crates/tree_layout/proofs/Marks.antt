@@ -13,7 +13,7 @@ use Rattle.book.proofs.Choosing.{choose-yes, choose-no, true-T, false-T}
 use Rattle.tree_layout.specs.Values.{Mark, Region, leafMark, innerMark}
 use Rattle.tree_layout.specs.Decode.{readList, listPart, readLists, readSpans, readMarks, readRegion}
 use Rattle.tree_layout.specs.Refusal.{all, listOk, markOk, childrenOk, regionOk}
-use Rattle.tree_layout.specs.code.Reading.{bounded}
+use Rattle.tree_layout.specs.Reading.{bounded}
 use Rattle.tree_layout.proofs.Reading.{list-part}
 use Rattle.tree_layout.proofs.Turns.{all-same}
 

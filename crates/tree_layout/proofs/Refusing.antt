@@ -11,7 +11,7 @@ use Rattle.book.specs.Open.{openRefusal}
 use Rattle.book.proofs.Choosing.{passes, fails, true-T, false-T, first-earlier, first-later}
 use Rattle.tree_layout.specs.Decode.{readRegions, decode, junctionCount, regionCount, treeYardCount, landmarkCount}
 use Rattle.tree_layout.specs.Refusal.{between, all, recordsOk, regionOk, valuesOk, treeLayoutRefusal}
-use Rattle.tree_layout.specs.code.Reading.{headerOf, headerValues, treeBook, layoutCase}
+use Rattle.tree_layout.specs.Reading.{headerOf, headerValues, treeBook, layoutCase}
 use Rattle.tree_layout.specs.declared.Header.{Header}
 use Rattle.tree_layout.specs.declared.TreeBook.the-variants.{Laid, Refused}
 

@@ -13,7 +13,7 @@ use Rattle.book.proofs.Choosing.{and-left, and-right, true-T, T-true}
 use Rattle.tree_layout.specs.Values.{Element, Mark, Region, leafMark, innerMark}
 use Rattle.tree_layout.specs.Decode.{elementAt, readList, listPart, readLists, readSpans, readRegion, readRegions, sizeAt}
 use Rattle.tree_layout.specs.Refusal.{all, recordsOk, near, comes, risesFrom, listRises, listOk}
-use Rattle.tree_layout.specs.code.Reading.{element}
+use Rattle.tree_layout.specs.Reading.{element}
 use Rattle.tree_layout.proofs.Reading.{all-none, list-turn, list-none, lists-turn, lists-none}
 
 -- ---- test 4

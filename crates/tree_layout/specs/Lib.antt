@@ -5,3 +5,4 @@ pub mod Refusal
 pub mod Facts
 pub mod Tests
 pub mod code
+pub mod Reading

@@ -1,4 +1,3 @@
 pub mod Accessors
 pub mod Formed
 pub mod Marks
-pub mod Reading

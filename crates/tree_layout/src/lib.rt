@@ -14,7 +14,7 @@ ghost use Rattle.tree_layout.specs.Decode.{readList, listPart, readLists
 ghost use Rattle.tree_layout.specs.Decode.{readRegion, readRegions, sizeAt};
 ghost use Rattle.tree_layout.specs.Refusal.{between, all, recordsOk, comes, listOk};
 ghost use Rattle.tree_layout.specs.Refusal.{markOk, childrenOk, regionOk, treeLayoutRefusal};
-ghost use Rattle.tree_layout.specs.code.Reading.{element, bounded, headerOf, treeBook, layoutNumber};
+ghost use Rattle.tree_layout.specs.Reading.{element, bounded, headerOf, treeBook, layoutNumber};
 
 // A tree region's number: a node of the tree, counted from 0 in preorder. Never a junction's number.
 pub struct Region {

@@ -12,7 +12,7 @@ ghost use Rattle.tree_layout.specs.Sizes.{headerSize, fieldsSize, juncti
 ghost use Rattle.tree_layout.specs.Sizes.{leafMarkSize, innerMarkSize};
 ghost use Rattle.tree_layout.specs.Decode.{listPart};
 ghost use Rattle.tree_layout.specs.code.Accessors.{fieldsAt, spanAt, listedAt};
-ghost use Rattle.tree_layout.specs.code.Reading.{headerOf};
+ghost use Rattle.tree_layout.specs.Reading.{headerOf};
 
 // Where the first region's record stands, after the header.
 pub const FIRST_RECORD: usize = 12;

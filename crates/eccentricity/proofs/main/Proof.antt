@@ -2,7 +2,7 @@ use borrow.Author.Needs.{needs}
 use mathlib.Core.Path.{ap}
 use native.Mathlib.Omega.{arith}
 use lib.ListN.{length-take}
-use Rattle.streams.specs.code.Moved.{bytesIn}
+use Rattle.streams.specs.Moved.{bytesIn}
 use Rattle.eccentricity.proofs.main.Statement.{statement}
 use Rattle.eccentricity.proofs.main.Tie as tie
 

@@ -7,7 +7,7 @@ use lib.ListN.{length}
 use Rattle.road_layout.specs.Road.{junctions}
 use Rattle.adjacency.specs.Adjacency.{Adjacency}
 use Rattle.adjacency.proofs.Linking.{few-junctions}
-use Rattle.text.specs.code.Text.{inTurn, Appended}
+use Rattle.text.specs.Text.{inTurn, Appended}
 use Rattle.text.proofs.Appending.{turns-none, turns-more}
 use Rattle.eccentricity.specs.Output.{rowText}
 use Rattle.eccentricity.proofs.Printing.{table-held}

@@ -3,7 +3,7 @@ use mathlib.Core.Path.{_≡_, refl, sym, ap, _∙_}
 use Prim.Native.Nat.{ℕ, _+_, _*_, _-_, _≤_, _<_}
 use native.Mathlib.Omega.{arith}
 use lib.ListN.{length, getD, set, length-set}
-use Rattle.tree_layout.specs.code.Reading.{element}
+use Rattle.tree_layout.specs.Reading.{element}
 use Rattle.search_held.specs.code.Pairs.{pairs}
 use Rattle.search_held.proofs.Inserting.{Carrying, carrying-starts, carrying-on, carried-kept, carried-gone, held-kept}
 use Rattle.search_held.proofs.hold.Statement.{statement}

@@ -3,7 +3,7 @@ use mathlib.Core.Path.{_≡_, refl, sym, ap, _∙_}
 use Prim.Native.Nat.{ℕ, _+_, _*_, _-_, _≤_, _<_}
 use native.Mathlib.Omega.{arith}
 use lib.ListN.{length, getD, set, length-set}
-use Rattle.tree_layout.specs.code.Reading.{element}
+use Rattle.tree_layout.specs.Reading.{element}
 use Rattle.search_held.proofs.Inserting.{Seen, seen-none, seen-here, seen-on, seen-all}
 use Rattle.search_held.proofs.place.Statement.{statement}
 use Rattle.search_held.proofs.place.Tie as tie

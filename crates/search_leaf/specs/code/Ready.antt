@@ -9,7 +9,7 @@ use lib.ListN.{length, getD}
 use lib.Dec.{T}
 use Rattle.road.specs.code.Rows.{Rowed}
 use Rattle.tree_layout.specs.Decode.{landmarkCount}
-use Rattle.tree.specs.code.Arrays.{Laid}
+use Rattle.tree.specs.Arrays.{Laid}
 use Rattle.search_rules.specs.Instance.{Instance, size, marks, leaf}
 use Rattle.search_rules.specs.Books.{searchOf, Passed}
 use Rattle.search_rules.specs.Bounds.{chosen}

@@ -9,7 +9,7 @@ use Rattle.adjacency.specs.Adjacency.{Adjacency}
 use Rattle.road.specs.Refusal.{roadRefusal}
 use Rattle.tree_layout.specs.Decode.{junctionCount}
 use Rattle.tree.specs.Shape.{treeRefusal}
-use Rattle.tree.specs.code.Arrays.{Laid}
+use Rattle.tree.specs.Arrays.{Laid}
 use Rattle.search_step.specs.code.Children.{Ended}
 use Rattle.search_call.specs.Call.{treeRefusalIn}
 

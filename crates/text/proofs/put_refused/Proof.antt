@@ -1,6 +1,6 @@
 use borrow.Author.Needs.{needs}
 use native.Mathlib.Omega.{arith}
-use Rattle.text.specs.code.Text.{refusedText}
+use Rattle.text.specs.Text.{refusedText}
 use Rattle.text.proofs.Appending.{append-then}
 use Rattle.text.proofs.put_refused.Statement.{statement}
 use Rattle.text.proofs.put_refused.Tie as tie

@@ -6,13 +6,13 @@ use Rattle.book.specs.Choose.{choose}
 use Rattle.book.specs.Cases.{Case, accepted, refused}
 use Rattle.tree_layout.specs.Decode.{regionCount, placeOf, decode}
 use Rattle.tree_layout.specs.Refusal.{treeLayoutRefusal}
-use Rattle.tree_layout.specs.code.Reading.{headerOf, headerValues}
+use Rattle.tree_layout.specs.Reading.{headerOf, headerValues}
 use Rattle.tree_layout.specs.declared.Header.{Header}
 use Rattle.tree.specs.declared.Tree.{Tree}
 use Rattle.tree.specs.declared.Tree.the-variants.{Shaped, Refused}
 use Rattle.tree.specs.Shape.{treeRefusal}
 use Rattle.tree.specs.Yards.{endOf}
-use Rattle.tree.specs.code.Arrays.{overwrite}
+use Rattle.tree.specs.Arrays.{overwrite}
 
 -- the answer for a refusal's number and a header: 0 gives the header
 unfoldable pub treeAnswer : ℕ → Header → Tree

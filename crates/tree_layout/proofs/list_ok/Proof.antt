@@ -5,7 +5,7 @@ use Prim.Native.Nat.{_*_, _-_, _≤_}
 use borrow.Author.Tests.{not-true, not-false}
 use Rattle.tree_layout.specs.Decode.{readList}
 use Rattle.tree_layout.specs.Refusal.{listOk}
-use Rattle.tree_layout.specs.code.Reading.{element}
+use Rattle.tree_layout.specs.Reading.{element}
 use Rattle.tree_layout.proofs.Turns.{listRest, list-far, list-start, list-limit, list-order, list-next, list-end}
 use Rattle.tree_layout.proofs.list_ok.Statement.{statement}
 use Rattle.tree_layout.proofs.list_ok.Tie as tie

@@ -7,7 +7,7 @@ use borrow.Author.Tests.{not-true, not-false}
 use lib.ListN.{length}
 use Rattle.tree_layout.specs.Decode.{readLists}
 use Rattle.tree_layout.specs.Refusal.{all, markOk}
-use Rattle.tree_layout.specs.code.Reading.{bounded}
+use Rattle.tree_layout.specs.Reading.{bounded}
 use Rattle.tree_layout.proofs.Turns.{room, lists-next, lists-stop, lists-end}
 use Rattle.tree_layout.proofs.lists_ok.Statement.{statement}
 use Rattle.tree_layout.proofs.lists_ok.Tie as tie

@@ -1,4 +1,4 @@
-use Rattle.tree_layout.specs.code.Reading.{layoutCase, layoutNumber}
+use Rattle.tree_layout.specs.Reading.{layoutCase, layoutNumber}
 use borrow.Author.Needs.{needs}
 use Rattle.tree_layout.proofs.number.Statement.{statement}
 use Rattle.tree_layout.proofs.number.Tie as tie

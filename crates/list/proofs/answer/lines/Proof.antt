@@ -3,7 +3,7 @@ use mathlib.Core.Path.{_≡_, refl, ap, _∙_}
 use Prim.Native.Nat.{ℕ, _+_, _*_, _-_, _≤_}
 use native.Mathlib.Omega.{arith}
 use lib.ListN.{length}
-use Rattle.text.specs.code.Text.{inTurn, Appended}
+use Rattle.text.specs.Text.{inTurn, Appended}
 use Rattle.text.proofs.Appending.{append-as, turns-none, turns-more}
 use Rattle.list.specs.Output.{listedLine}
 use Rattle.list.proofs.answer.lines.Statement.{statement}

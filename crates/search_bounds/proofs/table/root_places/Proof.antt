@@ -2,7 +2,7 @@ use mathlib.Core.Path.{_≡_, refl}
 use Prim.Native.Nat.{_-_, _≤_}
 use native.Mathlib.Omega.{arith}
 use lib.ListN.{length, length-set}
-use Rattle.tree.specs.code.Arrays.{overwrite}
+use Rattle.tree.specs.Arrays.{overwrite}
 use Rattle.search_bounds.proofs.Places.{rootPlace, read-none, read-next, read-all}
 use borrow.Author.Needs.{needs}
 use Rattle.search_bounds.proofs.table.root_places.Statement.{statement}

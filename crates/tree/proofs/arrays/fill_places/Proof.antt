@@ -6,7 +6,7 @@ use Prim.Native.Nat.{_-_, _≤_}
 use native.Mathlib.Omega.{arith}
 use lib.ListN.{length}
 use Rattle.tree_layout.specs.Decode.{placeOf}
-use Rattle.tree.specs.code.Arrays.{overwrite}
+use Rattle.tree.specs.Arrays.{overwrite}
 use Rattle.tree.proofs.Filling.{overwrite-length, overwrite-none, overwrite-next, place-slot, place-room, place-end, place-next, places-done}
 use Rattle.tree.proofs.arrays.fill_places.Statement.{statement}
 use Rattle.tree.proofs.arrays.fill_places.Tie as tie

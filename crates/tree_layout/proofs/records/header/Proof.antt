@@ -1,4 +1,4 @@
-use Rattle.tree_layout.specs.code.Reading.{headerOf}
+use Rattle.tree_layout.specs.Reading.{headerOf}
 use Rattle.tree_layout.specs.Decode.{junctionCount, regionCount, treeYardCount, landmarkCount}
 use borrow.Author.Needs.{needs}
 use Rattle.tree_layout.proofs.records.header.Statement.{statement}
