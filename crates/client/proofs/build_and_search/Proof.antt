@@ -44,7 +44,7 @@ returns c =
     let s = at4 .finder-search .ensures in
     let kept = f .kept .1 .1 .1 .1 .0 in
     let same = book-is _ _ _ _ (at22 .args .work .now) (at22 .args .tree .now) _ _ (e .1 .0) (e .1 .1 .1) in
-    (cc (s .0, same, kept), (cc (s .1 .0, same, kept, e .1 .1 .0), (e .1 .1 .1, cc (s .1 .1, same, kept))))
+    (cc (s .0, same, kept), (cc (s .1 .0, same, kept, e .1 .1 .0), (e .1 .1 .1, cc (s .1 .1 .0, same, kept))))
 
 pub build-and-search-spec : {M : Type 1} → statement M
 build-and-search-spec =

@@ -49,7 +49,7 @@ returns c =
     let s = c .before .before .before in
     let first = c .before .before .before .before .before .before .before .before .before .before .before .book-end .ensures in
     let second = c .before .before .before .before .before .before .before .before .before .book-end2 .ensures in
-    (s .finder-search .ensures .0 ∙ found-is _ _ _ first second _, s .finder-search .ensures .1 .1 ∙ results-are _ _ _ first second _)
+    (s .finder-search .ensures .0 ∙ found-is _ _ _ first second _, s .finder-search .ensures .1 .1 .0 ∙ results-are _ _ _ first second _)
 
 pub find-spec : {M : Type 1} → statement M
 find-spec =
