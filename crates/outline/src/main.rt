@@ -75,8 +75,8 @@ fn report(b: &[u8], out: &mut [u8]) -> usize
     ensures text { λ r. ⌜ take r (now (out .exit)) ≡ outlineText (now (b .entry)) ⌝ }
     ensures fits { λ r. ⌜ r ≤ 65536 ⌝ }
 {
-    let mut places = [0usize; 511];
-    let mut ends = [0usize; 511];
+    let mut places = [0usize; tree::REGIONS];
+    let mut ends = [0usize; tree::REGIONS];
     let o = tree::read(b, &mut places, &mut ends);
     let Tree::Shaped(h) = o else {
         return text::put_refused(out, 0, tree::number(o) as u32);
