@@ -33,7 +33,7 @@ use Rattle.tree_layout.proofs.Accepting.{facts-layout}
 use Rattle.tree_layout.proofs.Reading.{header-junctions, header-yards}
 use Rattle.tree.specs.Shape.{treeRefusal}
 use Rattle.tree.specs.Yards.{treeYards}
-use Rattle.tree.specs.code.Answer.{treeOf, treeNumber as tree-number}
+use Rattle.tree.specs.Answer.{treeOf, treeNumber as tree-number}
 use Rattle.tree.specs.declared.Tree.{Tree}
 use Rattle.tree.specs.declared.Tree.the-variants.{Shaped, Refused as tree-refused}
 use Rattle.tree.proofs.Theorems.{tree-facts}

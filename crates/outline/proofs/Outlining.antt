@@ -19,7 +19,7 @@ use Rattle.tree.specs.declared.Tree.the-variants.{Shaped, Refused}
 use Rattle.tree.specs.Shape.{treeRefusal}
 use Rattle.tree.specs.Arrays.{Laid, fieldsOf}
 use Rattle.tree.specs.Yards.{endOf, levelBy, levelOf}
-use Rattle.tree.specs.code.Answer.{treeOf, treeNumber, placesAfter, endsAfter}
+use Rattle.tree.specs.Answer.{treeOf, treeNumber, placesAfter, endsAfter}
 use Rattle.tree.proofs.Answering.{shaped-found, shaped-answer, accepted-laid, accepted-slots, accepted-room, accepted-ends, number-is}
 use Rattle.outline.specs.Known.{Known}
 use Rattle.outline.specs.Output.{headerText, lineOf, regionText, outlineText}

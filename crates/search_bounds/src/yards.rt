@@ -10,7 +10,8 @@ ghost use lib.ListN.{length};
 ghost use Rattle.road_layout.specs.Road.{junctions};
 ghost use Rattle.search_bounds.specs.code.Rows.{Rows};
 ghost use Rattle.search_bounds.specs.code.Bounds.{Crews};
-ghost use Rattle.search_bounds.specs.code.Measures.{Driven, IsDriven, toCrews, totalOf, fBy, crewAbsDiff, yardBoundBy};
+ghost use Rattle.search_bounds.specs.code.Measures.{Driven, IsDriven, toCrews, totalOf};
+ghost use Rattle.search_bounds.specs.code.Measures.{fBy, crewAbsDiff, yardBoundBy};
 
 // "f, the aggregate of |d(l, q) − d(l, p)|": of landmark l's distances to the crews and of an element's distance.
 pub fn f_of(out: &[u32], code: u8, distance: u32) -> u64

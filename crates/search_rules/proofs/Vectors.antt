@@ -60,21 +60,21 @@ pub starred : row (netN 0 2 (0 ∷ 2 ∷ [])) 4 ∷ row (netN 0 2 (0 ∷ 2 ∷ [
     ≡ (1 ∷ 4 ∷ 2 ∷ 1 ∷ 5 ∷ 3 ∷ 13 ∷ []) ∷ (0 ∷ 3 ∷ 1 ∷ [])
     ∷ (1 ∷ 2 ∷ 1 ∷ 1 ∷ 3 ∷ []) ∷ (1 ∷ 2 ∷ 1 ∷ 1 ∷ 4 ∷ []) ∷ (1 ∷ 6 ∷ 3 ∷ 1 ∷ 5 ∷ 3 ∷ 13 ∷ 4 ∷ 15 ∷ [])
     ∷ (1 ∷ 2 ∷ 1 ∷ 0 ∷ 0 ∷ []) ∷ (1 ∷ 4 ∷ 2 ∷ 0 ∷ 1 ∷ []) ∷ []
-unfolding row onChain at leafOf netN oneJunction three from0 from2 twoLeaves eight choose leafMark innerMark firstDistance lastFrom noRegion regionAt all yardFirst keep enough
-    names once inRange namedBy firstList agreeing sameYards leafOk siblings subtree endOf starts childrenOf size children marks leaf absDiff combine aggregate
-    greatestOf leastFrom leastOf crewBound noMark tableAt lower upper over total markBound bound weight best bestOf chosen listAbsDiff f yardBound queued wordAt
-    pick insert hold greatestHeld entry left noElement againKey waiting nextPlace nextF queueChildren openInner queueNext closeLeaf openLeaf takeRegion
-    takeYard nextRegion nextYard leastKey step settled startSearch words advance run report answer
+unfolding row onChain at leafOf netN oneJunction three from0 from2 twoLeaves eight choose leafMark innerMark firstDistance lastFrom noRegion regionAt all
+    yardFirst keep enough names once inRange namedBy firstList agreeing sameYards leafOk siblings subtree endOf starts childrenOf size children marks leaf
+    absDiff combine aggregate greatestOf leastFrom leastOf crewBound noMark tableAt lower upper over total markBound bound weight best bestOf chosen
+    listAbsDiff f yardBound queued wordAt pick insert hold greatestHeld entry left noElement againKey waiting nextPlace nextF queueChildren openInner
+    queueNext closeLeaf openLeaf takeRegion takeYard nextRegion nextYard leastKey step settled startSearch words advance run report answer
 starred = refl
 
 -- limit 0 is spent with no step taken; a tree of two leaves, where three yards tie at 12 and the lower numbers are held
 pub limits : row (netN 0 2 (0 ∷ 2 ∷ [])) 0 ∷ row twoLeaves 9 ∷ row twoLeaves 7 ∷ []
     ≡ (0 ∷ 0 ∷ 0 ∷ []) ∷ (1 ∷ 8 ∷ 3 ∷ 1 ∷ 12 ∷ 2 ∷ 12 ∷ []) ∷ (0 ∷ 7 ∷ 2 ∷ []) ∷ []
-unfolding row onChain at leafOf netN oneJunction three from0 from2 twoLeaves eight choose leafMark innerMark firstDistance lastFrom noRegion regionAt all yardFirst keep enough
-    names once inRange namedBy firstList agreeing sameYards leafOk siblings subtree endOf starts childrenOf size children marks leaf absDiff combine aggregate
-    greatestOf leastFrom leastOf crewBound noMark tableAt lower upper over total markBound bound weight best bestOf chosen listAbsDiff f yardBound queued wordAt
-    pick insert hold greatestHeld entry left noElement againKey waiting nextPlace nextF queueChildren openInner queueNext closeLeaf openLeaf takeRegion
-    takeYard nextRegion nextYard leastKey step settled startSearch words advance run report answer
+unfolding row onChain at leafOf netN oneJunction three from0 from2 twoLeaves eight choose leafMark innerMark firstDistance lastFrom noRegion regionAt all
+    yardFirst keep enough names once inRange namedBy firstList agreeing sameYards leafOk siblings subtree endOf starts childrenOf size children marks leaf
+    absDiff combine aggregate greatestOf leastFrom leastOf crewBound noMark tableAt lower upper over total markBound bound weight best bestOf chosen
+    listAbsDiff f yardBound queued wordAt pick insert hold greatestHeld entry left noElement againKey waiting nextPlace nextF queueChildren openInner
+    queueNext closeLeaf openLeaf takeRegion takeYard nextRegion nextYard leastKey step settled startSearch words advance run report answer
 limits = refl
 
 -- ---- bounds
@@ -113,17 +113,17 @@ both-sides = refl
 -- queued at 12 the lowest number is measured first.
 pub ties : run (three (from0 ∷ [])) 1 .state .gone ∷ run (three (from2 ∷ from0 ∷ [])) 1 .state .gone ∷ []
     ≡ (true ∷ false ∷ false ∷ []) ∷ (false ∷ false ∷ true ∷ []) ∷ []
-unfolding onChain at leafOf three from0 from2 choose leafMark innerMark firstDistance lastFrom noRegion regionAt all yardFirst keep enough names once inRange namedBy firstList
-    agreeing sameYards leafOk siblings subtree endOf starts childrenOf size children marks leaf absDiff combine aggregate greatestOf leastFrom leastOf crewBound
-    noMark tableAt lower upper over total markBound bound weight best bestOf chosen listAbsDiff f yardBound queued wordAt pick insert hold greatestHeld entry
-    left noElement againKey waiting nextPlace nextF queueChildren openInner queueNext closeLeaf openLeaf takeRegion takeYard nextRegion nextYard leastKey step
-    settled startSearch advance run
+unfolding onChain at leafOf three from0 from2 choose leafMark innerMark firstDistance lastFrom noRegion regionAt all yardFirst keep enough names once inRange
+    namedBy firstList agreeing sameYards leafOk siblings subtree endOf starts childrenOf size children marks leaf absDiff combine aggregate greatestOf
+    leastFrom leastOf crewBound noMark tableAt lower upper over total markBound bound weight best bestOf chosen listAbsDiff f yardBound queued wordAt pick
+    insert hold greatestHeld entry left noElement againKey waiting nextPlace nextF queueChildren openInner queueNext closeLeaf openLeaf takeRegion takeYard
+    nextRegion nextYard leastKey step settled startSearch advance run
 ties = refl
 
 pub orders : run (three (from0 ∷ [])) 2 .state .measured ∷ run twoLeaves 6 .state .measured ∷ [] ≡ [] ∷ (1 ∷ []) ∷ []
-unfolding onChain at leafOf three from0 from2 twoLeaves eight choose leafMark innerMark firstDistance lastFrom noRegion regionAt all yardFirst keep enough names once inRange
-    namedBy firstList agreeing sameYards leafOk siblings subtree endOf starts childrenOf size children marks leaf absDiff combine aggregate greatestOf leastFrom
-    leastOf crewBound noMark tableAt lower upper over total markBound bound weight best bestOf chosen listAbsDiff f yardBound queued wordAt pick insert hold
-    greatestHeld entry left noElement againKey waiting nextPlace nextF queueChildren openInner queueNext closeLeaf openLeaf takeRegion takeYard nextRegion
-    nextYard leastKey step settled startSearch advance run
+unfolding onChain at leafOf three from0 from2 twoLeaves eight choose leafMark innerMark firstDistance lastFrom noRegion regionAt all yardFirst keep enough
+    names once inRange namedBy firstList agreeing sameYards leafOk siblings subtree endOf starts childrenOf size children marks leaf absDiff combine aggregate
+    greatestOf leastFrom leastOf crewBound noMark tableAt lower upper over total markBound bound weight best bestOf chosen listAbsDiff f yardBound queued
+    wordAt pick insert hold greatestHeld entry left noElement againKey waiting nextPlace nextF queueChildren openInner queueNext closeLeaf openLeaf takeRegion
+    takeYard nextRegion nextYard leastKey step settled startSearch advance run
 orders = refl

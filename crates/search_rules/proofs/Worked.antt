@@ -22,9 +22,9 @@ use Rattle.search_rules.specs.Examples.{regionKeysAfter, yardKeysAfter, 
 pub worked : Worked
 unfolding onChain at leafOf three from0 from2 heavy near six regionKeysAfter yardKeysAfter measuredAfter choose leafMark innerMark firstDistance lastFrom
     noRegion regionAt noMark all comes names once inRange namedBy firstList agreeing sameYards leafOk siblings subtree endOf starts childrenOf size children
-    marks leaf absDiff combine aggregate greatestOf leastFrom leastOf crewBound tableAt lower upper over total markBound bound weight best bestOf chosen listAbsDiff f
-    yardBound queued wordAt pick yardFirst insert hold greatestHeld entry keep enough left noElement againKey waiting nextPlace nextF queueChildren openInner queueNext closeLeaf
-    openLeaf takeRegion takeYard nextRegion nextYard leastKey step settled startSearch advance run
+    marks leaf absDiff combine aggregate greatestOf leastFrom leastOf crewBound tableAt lower upper over total markBound bound weight best bestOf chosen
+    listAbsDiff f yardBound queued wordAt pick yardFirst insert hold greatestHeld entry keep enough left noElement againKey waiting nextPlace nextF
+    queueChildren openInner queueNext closeLeaf openLeaf takeRegion takeYard nextRegion nextYard leastKey step settled startSearch advance run
 worked = record {
   tied-weights = refl;
   first-landmark = refl;

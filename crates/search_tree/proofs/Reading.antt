@@ -20,7 +20,7 @@ use Rattle.tree_layout.specs.Reading.{headerOf}
 use Rattle.tree_layout.specs.declared.Header.{Header}
 use Rattle.tree_layout.proofs.Reading.{header-junctions, header-regions}
 use Rattle.tree.specs.Shape.{treeRefusal}
-use Rattle.tree.specs.code.Answer.{treeOf, treeNumber as tree-number, placesAfter, endsAfter}
+use Rattle.tree.specs.Answer.{treeOf, treeNumber as tree-number, placesAfter, endsAfter}
 use Rattle.tree.specs.declared.Tree.{Tree}
 use Rattle.tree.specs.declared.Tree.the-variants.{Shaped, Refused as tree-refused}
 use Rattle.tree.proofs.Answering.{shaped-answer, shaped-found, number-is, accepted-laid, accepted-room, accepted-ends}

@@ -6,7 +6,7 @@ ghost use Prim.Native.Nat.{_≤_};
 ghost use lib.ListN.{length, take};
 ghost use Rattle.adjacency.specs.Adjacency.{adjacencyWords};
 ghost use Rattle.tree_layout.specs.Decode.{regionCount};
-ghost use Rattle.tree.specs.code.Answer.{placesAfter, endsAfter};
+ghost use Rattle.tree.specs.Answer.{placesAfter, endsAfter};
 ghost use Rattle.search_call.specs.Call.{treeRefusalIn};
 ghost use Rattle.search_tree.specs.code.District.{districtRefusal, District};
 

@@ -25,7 +25,7 @@ use Rattle.tree_layout.specs.declared.TreeBook.the-variants.{Refused as layout-
 use Rattle.tree_layout.proofs.Refusing.{refused-number}
 use Rattle.tree.specs.declared.Tree.{Tree}
 use Rattle.tree.specs.declared.Tree.the-variants.{Shaped, Refused}
-use Rattle.tree.specs.code.Answer.{treeAnswer, treeCase, treeNumber, treeOf, placesAfter, endsAfter}
+use Rattle.tree.specs.Answer.{treeAnswer, treeCase, treeNumber, treeOf, placesAfter, endsAfter}
 use Rattle.tree.proofs.Filling.{overwrite-length, overwrite-new}
 
 -- ---- a book that the layout's tests accept

@@ -6,3 +6,4 @@ pub mod RegionYards
 pub mod Tests
 pub mod code
 pub mod Arrays
+pub mod Answer

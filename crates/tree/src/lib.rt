@@ -11,7 +11,7 @@ ghost use Prim.Native.Nat.{_≤_};
 ghost use lib.ListN.{length};
 ghost use Rattle.tree_layout.specs.Refusal.{treeLayoutRefusal};
 ghost use Rattle.tree.specs.Shape.{treeRefusal};
-ghost use Rattle.tree.specs.code.Answer.{treeNumber, treeOf, placesAfter, endsAfter};
+ghost use Rattle.tree.specs.Answer.{treeNumber, treeOf, placesAfter, endsAfter};
 
 // The most regions that a tree has.
 pub const REGIONS: usize = 511;

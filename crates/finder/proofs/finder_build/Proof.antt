@@ -17,8 +17,22 @@ same-length-2 c = search needs
 returns : tie.Need-returns
 returns c =
     let entry = c .before .before .before .before .before .before .before .before .before in
-    let e = c .before .before .before .before .build .ensures in
-    (e .0, (e .1 .0, (e .1 .1 .0, (e .1 .1 .1, (lent-bytes _ (λ i. omega (arith, entry .before .shared-slice-known .given i)), lent-bytes _ (λ i. omega (arith, entry .shared-slice-known2 .given i)))))))
+    let e = c .before .before .before .before .build .ensures in (
+      e .0,
+      (
+        e .1 .0,
+        (
+          e .1 .1 .0,
+          (
+            e .1 .1 .1,
+            (
+              lent-bytes _ (λ i. omega (arith, entry .before .shared-slice-known .given i)),
+              lent-bytes _ (λ i. omega (arith, entry .shared-slice-known2 .given i)),
+            ),
+          ),
+        ),
+      ),
+    )
 
 pub finder-build-spec : {M : Type 1} → statement M
 finder-build-spec = tie.close (tie.spec build-requires same-length same-length-2 returns)

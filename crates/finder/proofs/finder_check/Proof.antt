@@ -17,8 +17,17 @@ same-length c = search needs
 returns : tie.Need-returns
 returns c =
     let entry = c .before .before .before .before .before in
-    let e = c .before .before .check .ensures in
-    (e .0, (e .1, (lent-bytes _ (λ i. omega (arith, entry .before .before .shared-slice-known .given i)), lent-bytes _ (λ i. omega (arith, entry .before .shared-slice-known2 .given i)), lent-bytes _ (λ i. omega (arith, entry .shared-slice-known3 .given i)))))
+    let e = c .before .before .check .ensures in (
+      e .0,
+      (
+        e .1,
+        (
+          lent-bytes _ (λ i. omega (arith, entry .before .before .shared-slice-known .given i)),
+          lent-bytes _ (λ i. omega (arith, entry .before .shared-slice-known2 .given i)),
+          lent-bytes _ (λ i. omega (arith, entry .shared-slice-known3 .given i)),
+        ),
+      ),
+    )
 
 pub finder-check-spec : {M : Type 1} → statement M
 finder-check-spec = tie.close (tie.spec check-requires cast-result same-length returns)

@@ -17,8 +17,20 @@ same-length-2 c = search needs
 returns : tie.Need-returns
 returns c =
     let entry = c .before .before .before .before .before .before .before .before .before in
-    let e = c .before .before .before .before .search .ensures in
-    (e .0, (e .1 .0, (e .1 .1, (lent-bytes _ (λ i. omega (arith, entry .before .before .shared-slice-known .given i)), lent-bytes _ (λ i. omega (arith, entry .before .shared-slice-known2 .given i)), lent-bytes _ (λ i. omega (arith, entry .shared-slice-known3 .given i))))))
+    let e = c .before .before .before .before .search .ensures in (
+      e .0,
+      (
+        e .1 .0,
+        (
+          e .1 .1,
+          (
+            lent-bytes _ (λ i. omega (arith, entry .before .before .shared-slice-known .given i)),
+            lent-bytes _ (λ i. omega (arith, entry .before .shared-slice-known2 .given i)),
+            lent-bytes _ (λ i. omega (arith, entry .shared-slice-known3 .given i)),
+          ),
+        ),
+      ),
+    )
 
 pub finder-search-spec : {M : Type 1} → statement M
 finder-search-spec = tie.close (tie.spec search-requires same-length same-length-2 returns)

@@ -17,7 +17,8 @@ use Rattle.tree_layout.specs.Values.{noMark}
 use Rattle.search_rules.specs.Queue.{unqueued}
 use Rattle.search_rules.specs.Step.{nextF}
 use Rattle.search_bounds.specs.code.Tables.{LandmarkTable}
-use Rattle.search_state.specs.code.State.{wordCount, regionKeysIn, yardKeysIn, firstsIn, picksIn, fsIn, boundsIn, goneIn}
+use Rattle.search_state.specs.code.State.{wordCount, regionKeysIn, yardKeysIn, firstsIn, picksIn}
+use Rattle.search_state.specs.code.State.{fsIn, boundsIn, goneIn}
 use Rattle.search_leaf.specs.code.Leaves.{Opened}
 
 -- number p is that of the landmark that region r picks, among its own

@@ -1,4 +1,4 @@
-use Rattle.tree.specs.code.Answer.{treeCase, treeNumber}
+use Rattle.tree.specs.Answer.{treeCase, treeNumber}
 use borrow.Author.Needs.{needs}
 use Rattle.tree.proofs.number.Statement.{statement}
 use Rattle.tree.proofs.number.Tie as tie
