@@ -3,12 +3,15 @@
 use build_tree::Built;
 use search_tree::Found;
 ghost use mathlib.Core.Path.{_≡_};
+ghost use mathlib.Core.List.{_∷_, []};
 ghost use lib.ListN.{length};
 ghost use Rattle.work_area.specs.Work.{workAfter};
 ghost use Rattle.build_tree.specs.Build.{buildAnswer, builtLength, treeAfter};
 ghost use Rattle.build_tree.specs.Facts.{writtenBook};
 ghost use Rattle.search_call.specs.Call.{searchRefusal, searchFound, resultsAfter};
+ghost use Rattle.search_call.specs.Demand.{Promised};
 ghost use Rattle.search_tree.specs.Found.{foundOf};
+ghost use Rattle.client.specs.Calls.{callOf, areasOf};
 
 // Builds a tree and checks it: the check's answer, which is the build's if that is accepted, and the tree's length. The
 // work area is left as by two calls with the build's answer.
@@ -74,4 +77,20 @@ pub fn build_and_search(
     let built = build_checked(road, yard, m, limit, work, tree);
     let n = built.length as usize;
     finder::finder_search(road, &tree[..n], query, work, results)
+}
+
+// Searches, and has what demand 3 promises of this search: of a tree that passes the list is exactly the first yards.
+pub fn search_promised(
+    road: &[u8],
+    tree: &[u8],
+    query: &[u8],
+    work: &mut [u32],
+    results: &mut [u32],
+) -> Found
+    ensures found { λ r. ⌜ foundOf r ≡ searchFound (now (road .entry)) (now (tree .entry)) (now (query .entry))
+        (length (now (work .entry))) (length (now (results .entry))) ⌝ }
+    ensures promised { λ _. ⌜ Promised (callOf (now (road .entry)) (now (tree .entry)) (now (query .entry)) ∷ [])
+        (areasOf (now (work .entry)) (now (results .entry))) ⌝ }
+{
+    finder::finder_search(road, tree, query, work, results)
 }
