@@ -36,7 +36,7 @@ returns-2 c =
     let at11 = at9 .before .before in
     let p = at6 .put .ensures in
     let q = c .before .before .counts .ensures in
-    (append-whole (append-then p (q .0)) ∙ spent-is _ _ (at11 .if1 .left) (at9 .if2 .taken), omega (arith, p .after, q .1))
+    (append-whole (append-then p (q .0)) ∙ spent-is _ _ (at11 .if1 .left) (omega (arith, at9 .if2 .taken)), omega (arith, p .after, q .1))
 
 slice-aggregate-put-2 : tie.Need-slice-aggregate-put-2
 slice-aggregate-put-2 c = search needs
