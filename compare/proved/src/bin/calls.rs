@@ -1,4 +1,4 @@
-//! The command `calls`: how long the proved calls take beside the plain ones, on the grid district with 256 yards, and on full books, which take longest; searches
+//! The command `calls`: how long the proved calls take beside the plain ones, on the grid district with 256 yards, and on full books of each kind; searches
 //! also beside brute force, in Rust and, where LEMON is installed, with its Dijkstra in C++.
 #![forbid(unsafe_code)]
 
@@ -59,13 +59,18 @@ fn main() {
     full_rows(peer.as_deref());
 }
 
-/// The longest calls: 4,096 roads, 256 yards, every yard a leaf, 16 crews and k 64.
+/// Full books of each kind of district: 256 yards, every yard a leaf, 16 crews and k 64.
 fn full_rows(peer: Option<&str>) {
-    println!("full books: 4,096 random roads, 256 yards, leaf limit {FULL_LIMIT}");
-    let district = district("random");
-    check_row(&district, FULL_LIMIT);
-    build_row(&district, FULL_LIMIT);
-    search_row(&district, &built(&district, FULL_LIMIT), (16, 64, 0), peer);
+    for kind in standard::KINDS {
+        println!("full books: {kind}, 256 yards, leaf limit {FULL_LIMIT}");
+        let district = district(kind);
+        check_row(&district, FULL_LIMIT);
+        build_row(&district, FULL_LIMIT);
+        let tree = built(&district, FULL_LIMIT);
+        for aggregate in 0..AGGREGATES.len() {
+            search_row(&district, &tree, (16, 64, aggregate), peer);
+        }
+    }
 }
 
 /// A district of a kind, with its yards.
