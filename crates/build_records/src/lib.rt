@@ -4,6 +4,7 @@ pub mod lists; // lists.rt: a leaf's list
 pub mod marks; // marks.rt: one landmark
 pub mod spans; // spans.rt: an inner region's least and greatest
 
+use book::Junction;
 use tree_layout::Fields;
 ghost use mathlib.Core.Path.{_≡_};
 ghost use mathlib.Core.List.{List};
@@ -96,7 +97,7 @@ pub fn put_record(
         tree,
         Fields {
             at: at,
-            first: p.start as u16,
+            first: Junction { number: p.start as u16 },
             after: (p.start + p.size) as u16,
             children: children,
             yards: (p.end - p.from) as u16,

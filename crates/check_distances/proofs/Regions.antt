@@ -36,8 +36,8 @@ module _ (tree : List ℕ) (i m : ℕ) (em : m ≡ landmarkCount tree) (f : Fiel
   children-are : r .children ≡ f .children
   children-are = region-children tree m i ∙ sym (ap (λ (x : Fields). x .children) ef)
 
-  first-is : r .first ≡ f .first
-  first-is = region-first tree m i ∙ sym (ap (λ (x : Fields). x .first) ef)
+  first-is : r .first ≡ f .first .number
+  first-is = region-first tree m i ∙ sym (ap (λ (x : Fields). x .first .number) ef)
 
   after-is : r .after ≡ f .after
   after-is = region-after tree m i ∙ sym (ap (λ (x : Fields). x .after) ef)
@@ -48,7 +48,7 @@ module _ (tree : List ℕ) (i m : ℕ) (em : m ≡ landmarkCount tree) (f : Fiel
       ∙ sym (beside-region-test d ys r ∙ choose-yes (eqb (r .children) 0) _ _ (eq→eqb (r .children) 0 (children-are ∙ z)))
 
   pub region-inner : (t : Bool) → (f .children ≡ 0 → ⊥)
-      → t ≡ all (trueSpan d (within (f .first) (f .after) ys)) (marksAt tree (f .at)) → t ≡ trueBesideRegion d ys r
+      → t ≡ all (trueSpan d (within (f .first .number) (f .after) ys)) (marksAt tree (f .at)) → t ≡ trueBesideRegion d ys r
   region-inner t z e =
       let g : t ≡ all (trueSpan d (within (r .first) (r .after) ys)) (r .marks) = rw (first-is, after-is, ← marks-are) e in
       g ∙ sym (beside-region-test d ys r ∙ choose-no (eqb (r .children) 0) _ _ (ne→neqb (r .children) 0 (λ q. z (sym children-are ∙ q))))
@@ -64,9 +64,9 @@ module _ (tree : List ℕ) (i : ℕ) (f : Fields) (ef : f ≡ fieldsAt tree i) w
   pub marked-own : (adj : List ℕ) → Marked adj tree i → Marked adj tree (f .at)
   marked-own adj k = rw own k
 
-  pub held-own : (ys : List ℕ) → 0 < length (within (u16At tree i) (u16At tree (i + 2)) ys) → 0 < length (within (f .first) (f .after) ys)
+  pub held-own : (ys : List ℕ) → 0 < length (within (u16At tree i) (u16At tree (i + 2)) ys) → 0 < length (within (f .first .number) (f .after) ys)
   held-own ys h =
-      let a : f .first ≡ u16At tree i = ap (λ (x : Fields). x .first) ef in
+      let a : f .first .number ≡ u16At tree i = ap (λ (x : Fields). x .first .number) ef in
       let z : f .after ≡ u16At tree (i + 2) = ap (λ (x : Fields). x .after) ef in
       rw (a, z) h
 

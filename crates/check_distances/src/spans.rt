@@ -20,9 +20,9 @@ ghost use Rattle.check_distances.specs.code.Beside.{Marked};
 
 // The lesser of x and yard y's distance, if y lies in the region's range; else x.
 fn least_with(ds: &[u32], f: Fields, x: u32, y: Junction) -> u32
-    ensures { λ r. ⌜ r ≡ leastDistanceFrom (at (now (ds .entry))) x (within (f .first) (f .after) (y .number ∷ [])) ⌝ }
+    ensures { λ r. ⌜ r ≡ leastDistanceFrom (at (now (ds .entry))) x (within (f .first .number) (f .after) (y .number ∷ [])) ⌝ }
 {
-    if y.number < f.first {
+    if y.number < f.first.number {
         return x;
     }
     if f.after <= y.number {
@@ -37,9 +37,9 @@ fn least_with(ds: &[u32], f: Fields, x: u32, y: Junction) -> u32
 
 // The greater of x and yard y's distance, if y lies in the region's range; else x.
 fn greatest_with(ds: &[u32], f: Fields, x: u32, y: Junction) -> u32
-    ensures { λ r. ⌜ r ≡ greatestFrom (at (now (ds .entry))) x (within (f .first) (f .after) (y .number ∷ [])) ⌝ }
+    ensures { λ r. ⌜ r ≡ greatestFrom (at (now (ds .entry))) x (within (f .first .number) (f .after) (y .number ∷ [])) ⌝ }
 {
-    if y.number < f.first {
+    if y.number < f.first.number {
         return x;
     }
     if f.after <= y.number {
@@ -55,7 +55,7 @@ fn greatest_with(ds: &[u32], f: Fields, x: u32, y: Junction) -> u32
 // Whether a landmark's least and greatest are those of the distances in ds to the yards in the region's range.
 fn span_true(ds: &[u32], yard: &[u8], f: Fields, l: Landmark) -> bool
     requires { ⌜ yardRefusal (now yard) ≡ 0 ⌝ }
-    ensures { λ r. ⌜ r ≡ spanIn (now (ds .entry)) (within (f .first) (f .after) (yardsOf (now (yard .entry))))
+    ensures { λ r. ⌜ r ≡ spanIn (now (ds .entry)) (within (f .first .number) (f .after) (yardsOf (now (yard .entry))))
         (l .least) (l .greatest) ⌝ }
 {
     let n = yard::count(yard) as usize;
@@ -77,9 +77,9 @@ fn span_true(ds: &[u32], yard: &[u8], f: Fields, l: Landmark) -> bool
 // Whether the least and greatest of each of an inner region's m landmarks are true, by the fields of its record.
 pub fn spans_true(adj: &[u16], yard: &[u8], tree: &[u8], f: Fields, m: usize) -> bool
     requires { ⌜ Marked (now adj) (now tree) (f .at) × (yardRefusal (now yard) ≡ 0)
-        × (0 < length (within (f .first) (f .after) (yardsOf (now yard)))) × (m ≡ landmarkCount (now tree)) ⌝ }
+        × (0 < length (within (f .first .number) (f .after) (yardsOf (now yard)))) × (m ≡ landmarkCount (now tree)) ⌝ }
     ensures { λ r. ⌜ ((road : List ℕ) → Adjacency road (now (adj .entry))
-        → r ≡ all (trueSpan (dist road) (within (f .first) (f .after) (yardsOf (now (yard .entry)))))
+        → r ≡ all (trueSpan (dist road) (within (f .first .number) (f .after) (yardsOf (now (yard .entry)))))
         (marksAt (now (tree .entry)) (f .at))) ⌝ }
 {
     let mut ds = [0u32; 1024];

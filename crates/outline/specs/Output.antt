@@ -43,7 +43,7 @@ headerText h =
 -- a region's line: its level and its fields
 unfoldable pub lineOf : ℕ → Fields → List ℕ
 lineOf level f =
-    (decimal level ++ space) ++ (decimal (f .first) ++ space) ++ (decimal (f .after) ++ space)
+    (decimal level ++ space) ++ (decimal (f .first .number) ++ space) ++ (decimal (f .after) ++ space)
     ++ (decimal (f .children) ++ space) ++ (decimal (f .yards) ++ lineEnd)
 
 -- the line of a book's region number i; the root's level is 1

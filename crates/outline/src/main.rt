@@ -33,7 +33,7 @@ fn line(out: &mut [u8], at: usize, level: usize, f: Fields) -> usize
     ensures short { λ r. ⌜ r ≤ at + 105 ⌝ }
 {
     let first = text::put_number(out, at, level as u64, b" ");
-    let second = text::put_number(out, first, f.first as u64, b" ");
+    let second = text::put_number(out, first, f.first.number as u64, b" ");
     let third = text::put_number(out, second, f.after as u64, b" ");
     let fourth = text::put_number(out, third, f.children as u64, b" ");
     text::put_number(out, fourth, f.yards as u64, b"\n")

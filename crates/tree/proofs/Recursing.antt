@@ -26,9 +26,9 @@ module _ (b : List ℕ) (i : ℕ) (f : Fields) (e : f ≡ fieldsOf b i) where
   unfolding fieldsOf
   at-is = ap (λ (x : Fields). x .at) e
 
-  pub first-is : regionAt (decode b .regions) i .first ≡ f .first
+  pub first-is : regionAt (decode b .regions) i .first ≡ f .first .number
   unfolding fieldsOf
-  first-is = sym (ap (λ (x : Fields). x .first) e)
+  first-is = sym (ap (λ (x : Fields). x .first .number) e)
 
   pub after-is : regionAt (decode b .regions) i .after ≡ f .after
   unfolding fieldsOf
@@ -62,10 +62,10 @@ module _ (b places : List ℕ) (laid : Laid b places) where
       inside : i < length rs
       inside = omega (arith, laid-length b places laid)
 
-      pub at-inner : (x : ℕ) → (f .children ≡ 0 → ⊥) → x ≡ siblings rs (subtree rs (l - 1)) (f .children) (i + 1) (f .first) (f .after) (f .yards)
+      pub at-inner : (x : ℕ) → (f .children ≡ 0 → ⊥) → x ≡ siblings rs (subtree rs (l - 1)) (f .children) (i + 1) (f .first .number) (f .after) (f .yards)
           → x ≡ subtree rs l i
       at-inner x c z =
-          z ∙ sym (inner-end rs l (l - 1) i level inside (f .first) (f .after) (f .children) (f .yards) (first-is b i f e) (after-is b i f e) (children-is b i
+          z ∙ sym (inner-end rs l (l - 1) i level inside (f .first .number) (f .after) (f .children) (f .yards) (first-is b i f e) (after-is b i f e) (children-is b i
           f e) (yards-is b i f e) c
           ∙ rw add-one refl)
 
@@ -112,17 +112,17 @@ module _ (b places : List ℕ) (laid : Laid b places) where
       sub-none x z e = e ∙ sym (next-none rs (subtree rs l) n i low high left (n - 1) rest (sym z ∙ e))
 
       module _ (f : Fields) (e : f ≡ fieldsOf b i) where
-        fits-is : childFits low high left (f .first) (f .after) (f .yards)
+        fits-is : childFits low high left (f .first .number) (f .after) (f .yards)
             ≡ childFits low high left (regionAt rs i .first) (regionAt rs i .after) (regionAt rs i .yards)
         fits-is = rw (first-is b i f e, after-is b i f e, yards-is b i f e) refl
 
-        pub not-fitting : childFits low high left (f .first) (f .after) (f .yards) ≡ false → 0 ≡ answer
+        pub not-fitting : childFits low high left (f .first .number) (f .after) (f .yards) ≡ false → 0 ≡ answer
         not-fitting t = sym (next-bad rs (subtree rs l) n i low high left (n - 1) rest (sym fits-is ∙ t))
 
-        pub fitting : childFits low high left (f .first) (f .after) (f .yards) ≡ true → f .yards ≤ left
-        fitting t = fits-yards low high left (f .first) (f .after) (f .yards) t
+        pub fitting : childFits low high left (f .first .number) (f .after) (f .yards) ≡ true → f .yards ≤ left
+        fitting t = fits-yards low high left (f .first .number) (f .after) (f .yards) t
 
-        pub goes-on : childFits low high left (f .first) (f .after) (f .yards) ≡ true → (x : ℕ) → x ≡ subtree rs l i → (x ≡ 0 → ⊥)
+        pub goes-on : childFits low high left (f .first .number) (f .after) (f .yards) ≡ true → (x : ℕ) → x ≡ subtree rs l i → (x ≡ 0 → ⊥)
             → siblings rs (subtree rs l) (n - 1) x (f .after) high (left - f .yards) ≡ answer
         goes-on t x z s =
             rw (z, ← after-is b i f e, ← yards-is b i f e) (sym (next-good rs (subtree rs l) n i low high left (n - 1) rest (sym fits-is ∙ t) (λ w. s (z ∙ w))))

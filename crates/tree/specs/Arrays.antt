@@ -24,7 +24,7 @@ pub record Laid (b places : List ℕ) : Type 0 where
 unfoldable pub fieldsOf : List ℕ → ℕ → Fields
 fieldsOf b i = record {
   at = placeOf b i;
-  first = regionAt (decode b .regions) i .first;
+  first = record { number = regionAt (decode b .regions) i .first };
   after = regionAt (decode b .regions) i .after;
   children = regionAt (decode b .regions) i .children;
   yards = regionAt (decode b .regions) i .yards;

@@ -18,9 +18,9 @@ pub enum End {
 
 // Whether a child's range lies from low up to high, and it has no more yards than are left.
 fn child_fits(c: Fields, low: u16, high: u16, left: u16) -> bool
-    ensures { λ r. ⌜ r ≡ childFits low high left (c .first) (c .after) (c .yards) ⌝ }
+    ensures { λ r. ⌜ r ≡ childFits low high left (c .first .number) (c .after) (c .yards) ⌝ }
 {
-    if c.first < low {
+    if c.first.number < low {
         return false;
     }
     if high < c.after {
@@ -51,7 +51,7 @@ pub fn subtree_end(b: &[u8], places: &[usize], levels: usize, r: Region) -> End
             levels - 1,
             f.children,
             next,
-            f.first,
+            f.first.number,
             f.after,
             f.yards,
         );

@@ -31,10 +31,10 @@ pub fn put_book_header(tree: &mut [u8], count: u32, h: Header)
 pub fn put_fields(tree: &mut [u8], f: Fields)
     requires { ⌜ f .at + fieldsSize ≤ length (now tree) ⌝ }
     ensures { λ _. ⌜ now (tree .exit) ≡ write (now (tree .entry)) (f .at)
-        (encodeFields (f .first) (f .after) (f .children) (f .yards)) ⌝ }
+        (encodeFields (f .first .number) (f .after) (f .children) (f .yards)) ⌝ }
 {
     let at = f.at;
-    book::put_u16(tree, at, f.first);
+    book::put_u16(tree, at, f.first.number);
     book::put_u16(tree, at + 2, f.after);
     tree[at + 4] = f.children;
     book::put_u16(tree, at + 5, f.yards);

@@ -29,10 +29,11 @@ pub struct Header {
     pub landmarks: u8,
 }
 
-// A region's fields, and the place of its record in the book.
+// A region's fields, and the place of its record in the book. A range may end at the junction count, so that `after` is
+// a bound and no junction.
 pub struct Fields {
     pub at: usize,
-    pub first: u16,
+    pub first: Junction,
     pub after: u16,
     pub children: u8,
     pub yards: u16,

@@ -62,7 +62,7 @@ pub fn fields(b: &[u8], at: usize) -> Fields
 {
     Fields {
         at,
-        first: book::u16_at(b, at),
+        first: junction(b, at),
         after: book::u16_at(b, at + 2),
         children: book::u8_at(b, at + 4),
         yards: book::u16_at(b, at + 5),

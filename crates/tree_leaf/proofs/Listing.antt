@@ -122,8 +122,8 @@ module _ (b : List ℕ) (m at start : ℕ) (f : Fields) (count : m ≡ landmarkC
   pub leaf-end : fieldsAt b at .after ≤ 1024 → f .after ≤ 1024
   leaf-end h = rw read h
 
-  pub leaf-tested : agreeing (f .first) (f .after) (firstList (readLists b (f .yards) m start)) (readLists b (f .yards) m start)
+  pub leaf-tested : agreeing (f .first .number) (f .after) (firstList (readLists b (f .yards) m start)) (readLists b (f .yards) m start)
       ≡ leafOk (readRegion b (landmarkCount b) at)
   leaf-tested =
       rw (count, after, read)
-      (sym (leaf-test b (landmarkCount b) at (fieldsAt b at .first) (fieldsAt b at .after) (fieldsAt b at .yards) zero-children refl refl refl))
+      (sym (leaf-test b (landmarkCount b) at (fieldsAt b at .first .number) (fieldsAt b at .after) (fieldsAt b at .yards) zero-children refl refl refl))

@@ -28,7 +28,7 @@ fn clear(members: &mut [bool])
 // Whether a leaf's list names each yard once, inside the leaf's range; the set then has these yards.
 fn fill_members(p: &[u8], f: Fields, members: &mut [bool]) -> bool
     requires { ⌜ (elementSize * f .yards ≤ length (now p)) × (f .after ≤ 1024) × (length (now members) ≡ 1024) ⌝ }
-    ensures { λ r. ⌜ (r ≡ fits (f .first) (f .after) (readList (now (p .entry)) (f .yards) 0))
+    ensures { λ r. ⌜ (r ≡ fits (f .first .number) (f .after) (readList (now (p .entry)) (f .yards) 0))
         × (r ≡ true → now (members .exit) ≡ membersOf (readList (now (p .entry)) (f .yards) 0)) ⌝ }
 {
     clear(members);
@@ -36,7 +36,7 @@ fn fill_members(p: &[u8], f: Fields, members: &mut [bool]) -> bool
     while k != 0 {
         k -= 1;
         let y = records::element(p, k).yard.number;
-        if y < f.first {
+        if y < f.first.number {
             return false;
         }
         if f.after <= y {
@@ -74,9 +74,9 @@ fn all_in(p: &[u8], n: usize, members: &[bool]) -> bool
 fn same_yards(first: &[u8], p: &[u8], f: Fields, named: &[bool], members: &mut [bool]) -> bool
     requires { ⌜ (elementSize * f .yards ≤ length (now first)) × (elementSize * f .yards ≤ length (now p))
         × (f .after ≤ 1024) × (length (now members) ≡ 1024)
-        × (fits (f .first) (f .after) (readList (now first) (f .yards) 0) ≡ true)
+        × (fits (f .first .number) (f .after) (readList (now first) (f .yards) 0) ≡ true)
         × (now named ≡ membersOf (readList (now first) (f .yards) 0)) ⌝ }
-    ensures { λ r. ⌜ r ≡ sameYards (f .first) (f .after) (readList (now (first .entry)) (f .yards) 0)
+    ensures { λ r. ⌜ r ≡ sameYards (f .first .number) (f .after) (readList (now (first .entry)) (f .yards) 0)
         (readList (now (p .entry)) (f .yards) 0) ⌝ }
 {
     if !fill_members(p, f, members) {
@@ -99,10 +99,10 @@ fn all_agree(
 ) -> bool
     requires { ⌜ (start + m * leafMarkSize (f .yards) ≤ length (now b)) × (1 ≤ m) × (f .after ≤ 1024)
         × (length (now members) ≡ 1024)
-        × (fits (f .first) (f .after) (readList (listPart (now b) (f .yards) (start + junctionSize)) (f .yards) 0)
+        × (fits (f .first .number) (f .after) (readList (listPart (now b) (f .yards) (start + junctionSize)) (f .yards) 0)
         ≡ true)
         × (now named ≡ membersOf (readList (listPart (now b) (f .yards) (start + junctionSize)) (f .yards) 0)) ⌝ }
-    ensures { λ r. ⌜ r ≡ agreeing (f .first) (f .after) (firstList (readLists (now (b .entry)) (f .yards) m start))
+    ensures { λ r. ⌜ r ≡ agreeing (f .first .number) (f .after) (firstList (readLists (now (b .entry)) (f .yards) m start))
         (readLists (now (b .entry)) (f .yards) m start) ⌝ }
 {
     let n = f.yards as usize;
@@ -123,7 +123,7 @@ fn all_agree(
 // Whether the lists of a leaf with m landmarks from a place on name the same yards, each once, inside the leaf's range.
 fn lists_agree(b: &[u8], start: usize, m: usize, f: Fields) -> bool
     requires { ⌜ (start + m * leafMarkSize (f .yards) ≤ length (now b)) × (f .after ≤ 1024) ⌝ }
-    ensures { λ r. ⌜ r ≡ agreeing (f .first) (f .after) (firstList (readLists (now (b .entry)) (f .yards) m start))
+    ensures { λ r. ⌜ r ≡ agreeing (f .first .number) (f .after) (firstList (readLists (now (b .entry)) (f .yards) m start))
         (readLists (now (b .entry)) (f .yards) m start) ⌝ }
 {
     if m == 0 {

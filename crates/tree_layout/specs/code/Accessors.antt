@@ -10,7 +10,7 @@ use Rattle.tree_layout.specs.declared.Listed.{Listed}
 abbrev pub fieldsAt : List ℕ → ℕ → Fields
 fieldsAt b at = record {
   at = at;
-  first = u16At b at;
+  first = record { number = u16At b at };
   after = u16At b (at + 2);
   children = u8At b (at + 4);
   yards = u16At b (at + 5);

@@ -16,8 +16,8 @@ use Rattle.tree_leaf.proofs.all_agree.Tie as tie
 abbrev Inv-loop : tie.InvT-loop
 Inv-loop b start m f named members₀ n first at₀ k₀ members at k =
     (k ≤ m) × (start ≤ at) × (at + (m - k) * (2 + 6 * f .yards) ≤ length b)
-    × (agreeing (f .first) (f .after) (firstList (readLists b (f .yards) m start)) (readLists b (f .yards) (m - k) at)
-    ≡ agreeing (f .first) (f .after) (firstList (readLists b (f .yards) m start)) (readLists b (f .yards) m start))
+    × (agreeing (f .first .number) (f .after) (firstList (readLists b (f .yards) m start)) (readLists b (f .yards) (m - k) at)
+    ≡ agreeing (f .first .number) (f .after) (firstList (readLists b (f .yards) m start)) (readLists b (f .yards) m start))
     × (length members ≡ 1024)
 
 abbrev μ-loop : tie.MeasureT-loop

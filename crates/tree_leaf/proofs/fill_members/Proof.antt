@@ -13,7 +13,7 @@ use Rattle.tree_leaf.proofs.fill_members.Tie as tie
 
 abbrev Inv-loop : tie.InvT-loop
 Inv-loop p f members₀ k₀ members k =
-    (k ≤ f .yards) × (length members ≡ 1024) × ((members ≡ membersOf (readList p (f .yards - k) (6 * k))) × (fits (f .first) (f .after) (readList p
+    (k ≤ f .yards) × (length members ≡ 1024) × ((members ≡ membersOf (readList p (f .yards - k) (6 * k))) × (fits (f .first .number) (f .after) (readList p
     (f .yards - k) (6 * k)) ≡ true))
 
 abbrev μ-loop : tie.MeasureT-loop

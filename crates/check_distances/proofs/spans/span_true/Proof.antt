@@ -14,9 +14,9 @@ use Rattle.check_distances.proofs.spans.span_true.Tie as tie
 abbrev Inv-loop : tie.InvT-loop
 Inv-loop ds yard f l n low₀ high₀ k₀ low high k =
     (k ≤ n)
-    × (leastDistanceFrom (at ds) low (within (f .first) (f .after) (drop k (yardsOf yard)))
-    ≡ leastDistanceFrom (at ds) far (within (f .first) (f .after) (yardsOf yard)))
-    × (greatestFrom (at ds) high (within (f .first) (f .after) (drop k (yardsOf yard))) ≡ greatestFrom (at ds) 0 (within (f .first) (f .after) (yardsOf yard)))
+    × (leastDistanceFrom (at ds) low (within (f .first .number) (f .after) (drop k (yardsOf yard)))
+    ≡ leastDistanceFrom (at ds) far (within (f .first .number) (f .after) (yardsOf yard)))
+    × (greatestFrom (at ds) high (within (f .first .number) (f .after) (drop k (yardsOf yard))) ≡ greatestFrom (at ds) 0 (within (f .first .number) (f .after) (yardsOf yard)))
 
 abbrev μ-loop : tie.MeasureT-loop
 μ-loop ds yard f l n low₀ high₀ k₀ low high k = n - k

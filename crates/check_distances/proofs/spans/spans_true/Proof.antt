@@ -22,8 +22,8 @@ use Rattle.check_distances.proofs.spans.spans_true.Tie as tie
 abbrev Inv-loop : tie.InvT-loop
 Inv-loop adj yard tree f m ds₀ last₀ j₀ ds last j =
     (j ≤ m) × (length ds ≡ 1024) × (last .number < countIn adj → RowFrom adj ds (last .number))
-    × ((road : List ℕ) → Adjacency road adj → all (trueSpan (dist road) (within (f .first) (f .after) (yardsOf yard))) (drop j (marksAt tree (f .at)))
-    ≡ all (trueSpan (dist road) (within (f .first) (f .after) (yardsOf yard))) (marksAt tree (f .at)))
+    × ((road : List ℕ) → Adjacency road adj → all (trueSpan (dist road) (within (f .first .number) (f .after) (yardsOf yard))) (drop j (marksAt tree (f .at)))
+    ≡ all (trueSpan (dist road) (within (f .first .number) (f .after) (yardsOf yard))) (marksAt tree (f .at)))
 
 abbrev μ-loop : tie.MeasureT-loop
 μ-loop adj yard tree f m ds₀ last₀ j₀ ds last j = m - j
