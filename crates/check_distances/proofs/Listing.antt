@@ -10,6 +10,8 @@ use lib.Dec.{eqb}
 use Rattle.book.specs.Bytes.{u8At, u16At}
 use Rattle.adjacency.specs.Adjacency.{countIn}
 use Rattle.road.specs.Dijkstra.{at, dist}
+use Rattle.road.specs.code.Rows.{distancesFrom}
+use Rattle.road.proofs.Theorems.{dist-at}
 use Rattle.tree_layout.specs.Values.{Element, leafMark, noMark}
 use Rattle.tree_layout.specs.Decode.{elementAt, readList, listPart, landmarkCount}
 use Rattle.tree_layout.specs.code.Accessors.{fieldsAt, listedAt}
@@ -24,10 +26,9 @@ use Rattle.tree_layout.proofs.RecordFields.{list-inside}
 use Rattle.tree_layout.proofs.MarkPlaces.{listMark}
 use Rattle.check_rules.specs.Truth.{trueElement, trueList}
 use Rattle.check_rules.proofs.Testing.{element-test, list-test}
-use Rattle.check_distances.specs.code.Row.{distancesFrom, elementIn, listIn}
+use Rattle.check_distances.specs.code.Row.{elementIn, listIn}
 use Rattle.check_distances.specs.code.Beside.{Marked}
 use Rattle.check_distances.proofs.Turns.{all-goes, all-stops}
-use Rattle.check_distances.proofs.Rows.{looked}
 use Rattle.check_distances.proofs.Records.{mark-number, mark-mem, mark-listed}
 
 -- ---- a list, with k of n elements done
@@ -59,7 +60,7 @@ list-end ds p n k h = rw (list-none p n k (6 * k) h) (all-none (elementIn ds))
 
 element-same : (road : List ℕ) (u : ℕ) (e : Element) → elementIn (distancesFrom road u) e ≡ trueElement (dist road) u e
 unfolding elementIn
-element-same road u e = ap (λ (x : ℕ). eqb (e .distance) x) (looked road u (e .yard)) ∙ sym (element-test (dist road) u e)
+element-same road u e = ap (λ (x : ℕ). eqb (e .distance) x) (dist-at road u (e .yard)) ∙ sym (element-test (dist road) u e)
 
 list-same : (road : List ℕ) (u : ℕ) (es : List Element) → listIn (distancesFrom road u) es ≡ trueList (dist road) (leafMark u es)
 unfolding listIn

@@ -1,4 +1,4 @@
--- Rows of distances: what a walk leaves, and what its words are. Assumes nothing.
+-- Rows of distances: what their words are. Assumes nothing.
 use mathlib.Core.Path.{_≡_, sym, fun-ext, _∙_}
 use mathlib.Core.List.{List}
 use Prim.Native.Nat.{ℕ, _≤_, _<_}
@@ -9,31 +9,18 @@ use Rattle.road_layout.specs.Facts.{RoadLayout}
 use Rattle.road_layout.proofs.Layouts.{passing-layout}
 use Rattle.adjacency.specs.Arcs.{net}
 use Rattle.adjacency.specs.Adjacency.{countIn, IsAdjacency}
-use Rattle.road.specs.Dijkstra.{far, at, distances, dist}
+use Rattle.road.specs.Dijkstra.{far, at, dist}
+use Rattle.road.specs.code.Rows.{distancesFrom}
 use Rattle.road.proofs.Distances.{dist-bound-all}
 use Rattle.road.proofs.Theorems.{dist-at, net-sound}
-use Rattle.check_distances.specs.code.Row.{distancesFrom, RowFrom}
-
--- a walk's row has the distances from its source
-pub walked : (road ds : List ℕ) (u : ℕ) → ds ≡ distances (net road) (junctions road) u → ds ≡ distancesFrom road u
-unfolding distancesFrom
-walked road ds u e = e
-
--- the last walk was from the same place
-pub already : (adj ds : List ℕ) (last place : ℕ) → last ≡ place → place < countIn adj → (last < countIn adj → RowFrom adj ds last) → RowFrom adj ds place
-already adj ds last place e h f road a = rw (← e) (f (omega arith) road a)
 
 -- no junction has a number from 1,024 on
 pub few : (adj : List ℕ) → IsAdjacency adj → countIn adj ≤ 1024
 few adj a = omega (arith, a .adjacent .count, passing-layout (a .book) (a .adjacent .layout) .few-junctions)
 
 -- the distances from a junction are the road book's
-pub looked : (road : List ℕ) (u v : ℕ) → at (distancesFrom road u) v ≡ dist road u v
-unfolding distancesFrom
-looked road u v = dist-at road u v
-
 pub looks : (road : List ℕ) (u : ℕ) → at (distancesFrom road u) ≡ dist road u
-looks road u = fun-ext (λ v. looked road u v)
+looks road u = fun-ext (λ v. dist-at road u v)
 
 -- none is above the mark
 pub dist-most : (road : List ℕ) → RoadLayout road → (u v : ℕ) → u < junctions road → dist road u v ≤ far

@@ -12,6 +12,7 @@ use Rattle.book.proofs.Choosing.{lt-or-ge}
 use Rattle.road_layout.proofs.Layouts.{passing-layout}
 use Rattle.adjacency.specs.Adjacency.{countIn, Adjacency}
 use Rattle.road.specs.Dijkstra.{far, at, dist}
+use Rattle.road.specs.code.Rows.{distancesFrom}
 use Rattle.tree_layout.specs.Values.{Mark, noMark}
 use Rattle.tree_layout.specs.Decode.{landmarkCount}
 use Rattle.tree_layout.specs.code.Marks.{marksAt, landmarkOf}
@@ -21,7 +22,7 @@ use Rattle.check_rules.specs.Truth.{leastDistanceFrom, greatestFrom, trueSpan, 
 use Rattle.check_rules.proofs.Extremes.{least-none, least-next, least-from, greatest-none, greatest-next, greatest-from}
 use Rattle.check_rules.proofs.Testing.{span-test}
 use Rattle.check_rules.proofs.Within.{within-yes, within-no, within-empty}
-use Rattle.check_distances.specs.code.Row.{distancesFrom, spanIn}
+use Rattle.check_distances.specs.code.Row.{spanIn}
 use Rattle.check_distances.specs.code.Beside.{Marked}
 use Rattle.check_distances.proofs.Turns.{drop-next, all-goes, all-stops}
 use Rattle.check_distances.proofs.Rows.{looks, dist-most}

@@ -1,7 +1,6 @@
 // Test 9: whether a tree book's distances, leasts and greatests are the true ones, by one walk for each landmark.
 mod lists; // lists.rt: a leaf's landmarks
 mod spans; // spans.rt: an inner region's landmarks
-mod walk; // walk.rt: the distances from a landmark
 
 use tree_layout::records;
 ghost use mathlib.Core.Path.{_≡_};

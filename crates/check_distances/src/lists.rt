@@ -1,5 +1,4 @@
 // A leaf's landmarks: "a stored distance .. isn't the true one".
-use crate::walk;
 use book::Junction;
 use tree_layout::Fields;
 use tree_layout::landmarks;
@@ -48,7 +47,7 @@ pub fn lists_true(adj: &[u16], tree: &[u8], f: Fields, m: usize) -> bool
     while j < m {
         let at = landmarks::mark_place(tree, f.at, j);
         let place = records::junction(tree, at);
-        walk::walk_from(adj, &mut ds, last, place);
+        road::walk::walk_from(adj, &mut ds, last, place);
         let list = records::list(tree, at, yards);
         if !list_true(list, yards, &ds) {
             return false;

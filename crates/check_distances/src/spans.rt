@@ -1,5 +1,4 @@
 // An inner region's landmarks: "a stored .. least or greatest isn't the true one".
-use crate::walk;
 use book::Junction;
 use tree_layout::Fields;
 use tree_layout::Landmark;
@@ -87,7 +86,7 @@ pub fn spans_true(adj: &[u16], yard: &[u8], tree: &[u8], f: Fields, m: usize) ->
     let mut j: usize = 0;
     while j < m {
         let l = landmarks::landmark(tree, f.at, j);
-        walk::walk_from(adj, &mut ds, last, l.place);
+        road::walk::walk_from(adj, &mut ds, last, l.place);
         if !span_true(&ds, yard, f, l) {
             return false;
         }

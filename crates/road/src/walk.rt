@@ -12,6 +12,7 @@ ghost use Rattle.adjacency.specs.Adjacency.{countIn, Adjacency, IsAdjacency};
 ghost use Rattle.road.specs.Dijkstra.{far, at, distances};
 ghost use Rattle.road.specs.code.Queue.{absent, reach, Above, shortenBoth, relaxBoth};
 ghost use Rattle.road.specs.code.Queue.{Walking, WalkingIn, IsWalking, Roomy};
+ghost use Rattle.road.specs.code.Rows.{RowFrom};
 
 // The distance of a junction that is not reached, above every other, and the word of one that is not queued.
 pub const FAR: u32 = 4294967295;
@@ -128,4 +129,16 @@ pub fn distances(adj: &[u16], row: &mut [u32], source: Junction)
         round(adj, row, &mut done, &mut queue);
         k += 1;
     }
+}
+
+// Makes row the distances from a place, without a walk if it has them: it has those from `last`, if that is a junction.
+pub fn walk_from(adj: &[u16], row: &mut [u32], last: Junction, place: Junction)
+    requires { ⌜ IsAdjacency (now adj) × (length (now row) ≡ 1024) × (place .number < countIn (now adj))
+        × (last .number < countIn (now adj) → RowFrom (now adj) (now row) (last .number)) ⌝ }
+    ensures { λ _. ⌜ RowFrom (now (adj .entry)) (now (row .exit)) (place .number) ⌝ }
+{
+    if last.number == place.number {
+        return;
+    }
+    distances(adj, row, place);
 }

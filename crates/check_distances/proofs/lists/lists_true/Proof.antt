@@ -7,11 +7,11 @@ use borrow.Author.Tests.{not-true, not-false}
 use lib.ListN.{length, drop}
 use Rattle.adjacency.specs.Adjacency.{countIn, Adjacency}
 use Rattle.road.specs.Dijkstra.{dist}
+use Rattle.road.specs.code.Rows.{RowFrom}
 use Rattle.tree_layout.specs.Decode.{landmarkCount}
 use Rattle.tree_layout.specs.code.Marks.{marksAt}
 use Rattle.tree_layout.specs.Refusal.{all}
 use Rattle.check_rules.specs.Truth.{trueList}
-use Rattle.check_distances.specs.code.Row.{RowFrom}
 use Rattle.check_distances.proofs.Rows.{few}
 use Rattle.check_distances.proofs.Records.{marks-done}
 use Rattle.check_distances.proofs.Listing.{list-room, list-length, list-placed, lists-on, lists-off}

@@ -1,12 +1,12 @@
 use borrow.Author.Needs.{needs}
-use Rattle.check_distances.proofs.Rows.{walked, already}
-use Rattle.check_distances.proofs.walk.walk_from.Statement.{statement}
-use Rattle.check_distances.proofs.walk.walk_from.Tie as tie
+use Rattle.road.proofs.Reading.{row-already}
+use Rattle.road.proofs.walk.walk_from.Statement.{statement}
+use Rattle.road.proofs.walk.walk_from.Tie as tie
 
 returns : tie.Need-returns
 returns c =
     let p = c .before .before .before .before .before .pre in
-    already _ _ _ _ (c .if1 .taken) (p .2) (p .3)
+    row-already _ _ _ _ (c .if1 .taken) (p .2) (p .3)
 
 distances-requires : tie.Need-distances-requires
 distances-requires c κs = search needs
@@ -15,7 +15,7 @@ same-length : tie.Need-same-length
 same-length c = search needs
 
 returns-2 : tie.Need-returns-2
-returns-2 c = λ road a. walked road _ _ (c .before .before .distances .ensures road a)
+returns-2 c = c .before .before .distances .ensures
 
 pub walk-from-spec : {M : Type 1} → statement M
 walk-from-spec = tie.close (tie.spec returns distances-requires same-length returns-2)
