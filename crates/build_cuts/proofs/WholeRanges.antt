@@ -45,7 +45,7 @@ module _ (yb : List ℕ) (ok : yardRefusal yb ≡ 0) (low high from end : ℕ) (
 -- what writing its record is handed
 module _ (adj yb : List ℕ) (p : Part) (r : Range adj yb p) where
   range-yards : YardsUpTo yb (p .from) (p .end)
-  range-yards = numbers-yards yb (r .passes) (p .start) (p .start + p .size) (p .from) (p .end) (r .numbers .first) (r .numbers .after) (omega arith)
+  range-yards = numbers-yards yb (r .passes) (p .start .number) (p .start .number + p .size) (p .from) (p .end) (r .numbers .first) (r .numbers .after) (omega arith)
 
   pub range-order : p .from ≤ p .end
   range-order = range-yards .order

@@ -51,7 +51,7 @@ fn put_own(
         × ((children ≡ 1 → ⊥) → at + recordSize m children (p .end - p .from) ≤ length (now tree)) ⌝ }
     ensures { λ r. ⌜ ((road : List ℕ) (limit : ℕ) → Adjacency road (now (adj .entry))
         → WrittenRegions (now (tree .entry)) at
-        (ownRegions road m limit (p .start) (p .size) children
+        (ownRegions road m limit (p .start .number) (p .size) children
         (yardsFrom (now (yb .entry)) (p .end - p .from) (p .from)))
         (now (tree .exit)) (r .at) (r .regions)) ⌝ }
 {

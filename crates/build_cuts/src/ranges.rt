@@ -1,4 +1,5 @@
 // Where the yards of a range stand among all yards, and the parts that it is cut into.
+use book::Junction;
 use build_records::Part;
 ghost use mathlib.Core.Path.{_≡_};
 ghost use Prim.Native.Nat.{_+_, _≤_, _<_};
@@ -29,12 +30,13 @@ fn below(yb: &[u8], x: usize) -> usize
 }
 
 // The range from a with s junctions.
-pub fn range(yb: &[u8], a: usize, s: usize) -> Part
-    requires { ⌜ (yardRefusal (now yb) ≡ 0) × (a + s ≤ 1024) ⌝ }
-    ensures { λ r. ⌜ (r .start ≡ a) × (r .size ≡ s) × Numbered (now (yb .entry)) r ⌝ }
+pub fn range(yb: &[u8], a: Junction, s: usize) -> Part
+    requires { ⌜ (yardRefusal (now yb) ≡ 0) × (a .number + s ≤ 1024) ⌝ }
+    ensures { λ r. ⌜ (r .start .number ≡ a .number) × (r .size ≡ s) × Numbered (now (yb .entry)) r ⌝ }
 {
-    let from = below(yb, a);
-    let end = below(yb, a + s);
+    let low = a.number as usize;
+    let from = below(yb, low);
+    let end = below(yb, low + s);
     Part {
         start: a,
         size: s,
@@ -53,26 +55,30 @@ fn cut_at(a: usize, s: usize, i: usize) -> usize
 
 // Part i of a range.
 pub fn part(yb: &[u8], p: Part, i: usize) -> Part
-    requires { ⌜ (yardRefusal (now yb) ≡ 0) × (p .start + p .size ≤ 1024) × (i < 4) ⌝ }
-    ensures { λ r. ⌜ (r .start ≡ cutAt (p .start) (p .size) i)
-        × (r .start + r .size ≡ cutAt (p .start) (p .size) (i + 1)) × Numbered (now (yb .entry)) r ⌝ }
+    requires { ⌜ (yardRefusal (now yb) ≡ 0) × (p .start .number + p .size ≤ 1024) × (i < 4) ⌝ }
+    ensures { λ r. ⌜ (r .start .number ≡ cutAt (p .start .number) (p .size) i)
+        × (r .start .number + r .size ≡ cutAt (p .start .number) (p .size) (i + 1)) × Numbered (now (yb .entry)) r ⌝ }
 {
-    let low = cut_at(p.start, p.size, i);
-    let high = cut_at(p.start, p.size, i + 1);
-    range(yb, low, high - low)
+    let a = p.start.number as usize;
+    let low = cut_at(a, p.size, i);
+    let high = cut_at(a, p.size, i + 1);
+    let number = low as u16;
+    range(yb, Junction { number }, high - low)
 }
 
 // How many of the parts of the range from a with s junctions have yards.
-pub fn part_count(yb: &[u8], a: usize, s: usize) -> u8
-    requires { ⌜ (yardRefusal (now yb) ≡ 0) × (a + s ≤ 1024) ⌝ }
-    ensures { λ r. ⌜ r ≡ partCount a s (within a (a + s) (yardsOf (now (yb .entry)))) 4 0 ⌝ }
+pub fn part_count(yb: &[u8], a: Junction, s: usize) -> u8
+    requires { ⌜ (yardRefusal (now yb) ≡ 0) × (a .number + s ≤ 1024) ⌝ }
+    ensures { λ r. ⌜ r ≡ partCount (a .number) s
+        (within (a .number) (a .number + s) (yardsOf (now (yb .entry)))) 4 0 ⌝ }
 {
+    let first = a.number as usize;
     let mut count: u8 = 0;
-    let mut low = below(yb, a);
+    let mut low = below(yb, first);
     let mut i: usize = 0;
     while i < PARTS {
         i += 1;
-        let high = below(yb, cut_at(a, s, i));
+        let high = below(yb, cut_at(first, s, i));
         if low < high {
             count += 1;
         }

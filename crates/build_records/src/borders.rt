@@ -28,17 +28,18 @@ fn is_border(adj: &[u16], a: usize, s: usize, v: u16) -> bool
 }
 
 // Lists the border junctions of the range from a with s junctions, in rising order, and counts them.
-pub fn border_list(adj: &[u16], a: usize, s: usize, list: &mut [u16]) -> usize
-    requires { ⌜ IsAdjacency (now adj) × (a + s ≤ 1024) × (length (now list) ≡ 1024) ⌝ }
+pub fn border_list(adj: &[u16], a: Junction, s: usize, list: &mut [u16]) -> usize
+    requires { ⌜ IsAdjacency (now adj) × (a .number + s ≤ 1024) × (length (now list) ≡ 1024) ⌝ }
     ensures count { λ r. ⌜ r ≤ s ⌝ }
     ensures list { λ r. ⌜ ((road : List ℕ) → Adjacency road (now (adj .entry))
-        → take r (now (list .exit)) ≡ borders (roads road) a s) ⌝ }
+        → take r (now (list .exit)) ≡ borders (roads road) (a .number) s) ⌝ }
 {
+    let low = a.number as usize;
     let mut n: usize = 0;
-    let mut v = a;
-    while v < a + s {
+    let mut v = low;
+    while v < low + s {
         let number = v as u16;
-        if is_border(adj, a, s, number) {
+        if is_border(adj, low, s, number) {
             list[n] = number;
             n += 1;
         }
@@ -48,13 +49,13 @@ pub fn border_list(adj: &[u16], a: usize, s: usize, list: &mut [u16]) -> usize
 }
 
 // Landmark j of m, from the border junctions of the range from a with s junctions.
-pub fn landmark_of(list: &[u16], m: usize, a: usize, s: usize, j: usize) -> Junction
-    requires { ⌜ (length (now list) ≤ 1024) × (j < m) × (m ≤ 4) × (a + s ≤ 1024) × (0 < s) ⌝ }
-    ensures { λ r. ⌜ r .number ≡ landmark m a s (now (list .entry)) j ⌝ }
+pub fn landmark_of(list: &[u16], m: usize, a: Junction, s: usize, j: usize) -> Junction
+    requires { ⌜ (length (now list) ≤ 1024) × (j < m) × (m ≤ 4) × (a .number + s ≤ 1024) × (0 < s) ⌝ }
+    ensures { λ r. ⌜ r .number ≡ landmark m (a .number) s (now (list .entry)) j ⌝ }
 {
     let c = list.len();
     if c == 0 {
-        let number = (a + j * s / m) as u16;
+        let number = (a.number as usize + j * s / m) as u16;
         return Junction { number };
     }
     let k = j * c / m;

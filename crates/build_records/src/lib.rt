@@ -23,7 +23,7 @@ ghost use Rattle.build_records.specs.code.Parts.{PartReady, regionOf};
 
 // A range: its first junction, how many junctions it has, and the numbers of its yards, `from` up to `end`.
 pub struct Part {
-    pub start: usize,
+    pub start: Junction,
     pub size: usize,
     pub from: usize,
     pub end: usize,
@@ -52,21 +52,25 @@ fn put_marks(
     start: usize,
 ) -> usize
     requires { ⌜ PartReady (now adj) (now yb) p
-        × ((road : List ℕ) → Adjacency road (now adj) → now list ≡ borders (roads road) (p .start) (p .size))
+        × ((road : List ℕ) → Adjacency road (now adj) → now list ≡ borders (roads road) (p .start .number) (p .size))
         × (length (now list) ≤ 1024) × (m ≤ 4) × (0 < children → p .from < p .end)
         × (start + m * markSize children (p .end - p .from) ≤ length (now tree)) ⌝ }
     ensures place { λ r. ⌜ r ≡ start + m * markSize children (p .end - p .from) ⌝ }
     ensures tree { λ _. ⌜ ((road : List ℕ) → Adjacency road (now (adj .entry))
         → now (tree .exit) ≡ write (now (tree .entry)) start
-        (landmarkBytes (markBytes road (now (yb .entry)) (p .from) (p .end) children) m (p .start) (p .size)
-        (borders (roads road) (p .start) (p .size)) m 0)) ⌝ }
+        (landmarkBytes (markBytes road (now (yb .entry)) (p .from) (p .end) children) m (p .start .number) (p .size)
+        (borders (roads road) (p .start .number) (p .size)) m 0)) ⌝ }
 {
     let size = mark_size(children, p.end - p.from);
+    let mut row = [0u32; 1024];
+    let mut last = Junction { number: 65535 };
     let mut at = start;
     let mut j: usize = 0;
     while j < m {
         let l = borders::landmark_of(list, m, p.start, p.size, j);
-        marks::put_mark(adj, yb, p, children, l, tree, at);
+        road::walk::walk_from(adj, &mut row, last, l);
+        marks::put_mark(&row, yb, p, children, l, tree, at);
+        last = l;
         at += size;
         j += 1;
     }
@@ -88,17 +92,18 @@ pub fn put_record(
     ensures place { λ r. ⌜ r ≡ at + recordSize m children (p .end - p .from) ⌝ }
     ensures tree { λ _. ⌜ ((road : List ℕ) (limit : ℕ) → Adjacency road (now (adj .entry))
         → now (tree .exit) ≡ write (now (tree .entry)) at
-        (encodeRegion (regionOf (given road m limit) (p .start) (p .size) children
+        (encodeRegion (regionOf (given road m limit) (p .start .number) (p .size) children
         (yardsFrom (now (yb .entry)) (p .end - p .from) (p .from))))) ⌝ }
 {
     let mut list = [0u16; 1024];
     let c = borders::border_list(adj, p.start, p.size, &mut list);
+    let first = p.start;
     tree_encode::put_fields(
         tree,
         Fields {
             at: at,
-            first: Junction { number: p.start as u16 },
-            after: (p.start + p.size) as u16,
+            first,
+            after: (p.start.number as usize + p.size) as u16,
             children: children,
             yards: (p.end - p.from) as u16,
         },

@@ -6,14 +6,11 @@ ghost use mathlib.Core.List.{List};
 ghost use Prim.Native.Nat.{ℕ, _+_, _-_, _≤_, _<_};
 ghost use lib.ListN.{length};
 ghost use Rattle.book.specs.Writing.{write};
-ghost use Rattle.road_layout.specs.Road.{junctions};
-ghost use Rattle.adjacency.specs.Arcs.{net};
-ghost use Rattle.adjacency.specs.Adjacency.{countIn, Adjacency};
-ghost use Rattle.road.specs.Dijkstra.{distances};
+ghost use Rattle.road.specs.code.Rows.{distancesFrom};
 ghost use Rattle.tree_layout.specs.Sizes.{leafMarkSize, innerMarkSize};
 ghost use Rattle.tree_layout.specs.Decode.{markSize};
 ghost use Rattle.build_records.specs.code.Marks.{leafBytes, innerBytes, markBytes};
-ghost use Rattle.build_records.specs.code.Parts.{YardsUpTo, PartReady};
+ghost use Rattle.build_records.specs.code.Parts.{YardsUpTo};
 
 // Writes landmark l of a leaf that has the yards of number `from` up to `end`: its junction and its list.
 fn put_leaf_mark(
@@ -27,7 +24,7 @@ fn put_leaf_mark(
 )
     requires { ⌜ YardsUpTo (now yb) from end × (length (now row) ≡ 1024)
         × (at + leafMarkSize (end - from) ≤ length (now tree)) ⌝ }
-    ensures { λ _. ⌜ ((road : List ℕ) → now (row .entry) ≡ distances (net road) (junctions road) (l .number)
+    ensures { λ _. ⌜ ((road : List ℕ) → now (row .entry) ≡ distancesFrom road (l .number)
         → now (tree .exit) ≡ write (now (tree .entry)) at (leafBytes road (now (yb .entry)) from end (l .number))) ⌝ }
 {
     let mut keys = [0u64; 256];
@@ -49,16 +46,16 @@ fn put_inner_mark(
 )
     requires { ⌜ YardsUpTo (now yb) from end × (from < end) × (length (now row) ≡ 1024)
         × (at + innerMarkSize ≤ length (now tree)) ⌝ }
-    ensures { λ _. ⌜ ((road : List ℕ) → now (row .entry) ≡ distances (net road) (junctions road) (l .number)
+    ensures { λ _. ⌜ ((road : List ℕ) → now (row .entry) ≡ distancesFrom road (l .number)
         → now (tree .exit) ≡ write (now (tree .entry)) at (innerBytes road (now (yb .entry)) from end (l .number))) ⌝ }
 {
     let span = crate::spans::measure(row, yb, from, end);
     tree_encode::put_span(tree, at, l, span);
 }
 
-// Writes landmark l of a region with so many children over a range.
+// Writes landmark l of a region with so many children over a range, from the row of its distances.
 pub fn put_mark(
-    adj: &[u16],
+    row: &[u32],
     yb: &[u8],
     p: Part,
     children: u8,
@@ -66,17 +63,15 @@ pub fn put_mark(
     tree: &mut [u8],
     at: usize,
 )
-    requires { ⌜ PartReady (now adj) (now yb) p × (0 < children → p .from < p .end) × (l .number < countIn (now adj))
+    requires { ⌜ YardsUpTo (now yb) (p .from) (p .end) × (0 < children → p .from < p .end) × (length (now row) ≡ 1024)
         × (at + markSize children (p .end - p .from) ≤ length (now tree)) ⌝ }
-    ensures { λ _. ⌜ ((road : List ℕ) → Adjacency road (now (adj .entry))
+    ensures { λ _. ⌜ ((road : List ℕ) → now (row .entry) ≡ distancesFrom road (l .number)
         → now (tree .exit) ≡ write (now (tree .entry)) at
         (markBytes road (now (yb .entry)) (p .from) (p .end) children (l .number))) ⌝ }
 {
-    let mut row = [0u32; 1024];
-    road::walk::distances(adj, &mut row, l);
     if children == 0 {
-        put_leaf_mark(&row, yb, p.from, p.end, l, tree, at);
+        put_leaf_mark(row, yb, p.from, p.end, l, tree, at);
         return;
     }
-    put_inner_mark(&row, yb, p.from, p.end, l, tree, at);
+    put_inner_mark(row, yb, p.from, p.end, l, tree, at);
 }

@@ -33,7 +33,7 @@ module _ (adj yard : List ℕ) (plan : Plan) (words : ℕ) (tree : List ℕ)
   pub all-few : 0 + n ≤ 1024
   all-few = omega (arith, en, by .adjacent .count, few-junctions (by .book) yard (plan .landmarks) (plan .limit) words (length tree) (by .accepted))
 
-  module _ (p : Part) (es : p .start ≡ 0) (ez : p .size ≡ n) (numbers : Numbered yard p) where
+  module _ (p : Part) (es : p .start .number ≡ 0) (ez : p .size ≡ n) (numbers : Numbered yard p) where
     pub all-range : Range adj yard p
     all-range = record {
       passes = yards-alone (by .book) yard (plan .landmarks) (plan .limit) words (length tree) (by .accepted);

@@ -1,4 +1,5 @@
 // Build: the tree that is cut from a road book and a yard book, written into a lent area.
+use book::Junction;
 use build_cuts::Plan;
 use road_layout::RoadBook;
 use tree_layout::Header;
@@ -103,7 +104,7 @@ fn put_tree(adj: &[u16], yard: &[u8], plan: Plan, tree: &mut [u8]) -> usize
         (encode (builtTree road (now (yard .entry)) (plan .landmarks) (plan .limit)))) ⌝ }
 {
     let n = adjacency::junctions(adj);
-    let all = build_cuts::ranges::range(yard, 0, n as usize);
+    let all = build_cuts::ranges::range(yard, Junction { number: 0 }, n as usize);
     let put = build_cuts::cut(CUTS, all, plan, adj, yard, tree, FIRST_RECORD);
     let end = put.at;
     let header = Header {

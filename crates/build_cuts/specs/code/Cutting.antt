@@ -25,20 +25,22 @@ partsFrom b yb m limit levels a s i =
 
 -- both by a plan, a range and a road book
 abbrev pub regionsOf : List ℕ → Plan → ℕ → Part → List ℕ → List Region
-regionsOf yb plan levels p road = rangeRegions road yb (plan .landmarks) (plan .limit) levels (p .start) (p .size)
+regionsOf yb plan levels p road =
+    rangeRegions road yb (plan .landmarks) (plan .limit) levels (p .start .number) (p .size)
 
 abbrev pub partsOf : List ℕ → Plan → ℕ → Part → ℕ → List ℕ → List Region
-partsOf yb plan levels p i road = partsFrom road yb (plan .landmarks) (plan .limit) levels (p .start) (p .size) i
+partsOf yb plan levels p i road =
+    partsFrom road yb (plan .landmarks) (plan .limit) levels (p .start .number) (p .size) i
 
 -- a range's numbers of yards are those of its yards in the book
 pub record Numbered (yb : List ℕ) (p : Part) : Type 0 where
-  pub first : p .from ≡ countBelow (p .start) (yardsOf yb)
-  pub after : p .end ≡ countBelow (p .start + p .size) (yardsOf yb)
+  pub first : p .from ≡ countBelow (p .start .number) (yardsOf yb)
+  pub after : p .end ≡ countBelow (p .start .number + p .size) (yardsOf yb)
 
 -- a range of the junctions, with the numbers of its yards in a book that passes
 pub record Range (adj yb : List ℕ) (p : Part) : Type 0 where
   pub passes : yardRefusal yb ≡ 0
-  pub inside : p .start + p .size ≤ countIn adj
+  pub inside : p .start .number + p .size ≤ countIn adj
   pub numbers : Numbered yb p
 
 -- a road book that adj is the adjacency of; the bytes of its regions have their room

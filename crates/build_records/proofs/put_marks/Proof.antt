@@ -1,11 +1,13 @@
-use mathlib.Core.Path.{sym, _∙_}
+use borrow.Author.Needs.{needs}
+use mathlib.Core.Path.{_≡_, refl, sym, _∙_}
 use mathlib.Core.List.{List}
-use Prim.Native.Nat.{ℕ, _+_, _-_, _≤_}
+use Prim.Native.Nat.{ℕ, _+_, _-_, _≤_, _<_}
 use native.Mathlib.Omega.{arith}
 use lib.ListN.{length}
 use Rattle.road_layout.specs.Road.{roads}
-use Rattle.adjacency.specs.Adjacency.{Adjacency}
+use Rattle.adjacency.specs.Adjacency.{countIn, Adjacency}
 use Rattle.adjacency.proofs.Linking.{few-junctions}
+use Rattle.road.specs.code.Rows.{RowFrom}
 use Rattle.build_rules.specs.Cut.{borders}
 use Rattle.build_records.specs.code.Marks.{markBytes}
 use Rattle.build_records.proofs.Numbered.{yards-few}
@@ -15,12 +17,13 @@ use Rattle.build_records.proofs.put_marks.Statement.{statement}
 use Rattle.build_records.proofs.put_marks.Tie as tie
 
 abbrev Inv-loop : tie.InvT-loop
-Inv-loop adj yb list p m children tree₀ start size at₀ j₀ tree at j =
-    (road : List ℕ) → Adjacency road adj → Marking (markBytes road yb (p .from) (p .end) children) size m (p .start) (p .size) (borders (roads road) (p .start)
-    (p .size)) tree₀ start tree at j
+Inv-loop adj yb list p m children tree₀ start size row₀ last₀ at₀ j₀ tree row last at j =
+    (length row ≡ 1024) × (last .number < countIn adj → RowFrom adj row (last .number))
+    × ((road : List ℕ) → Adjacency road adj → Marking (markBytes road yb (p .from) (p .end) children) size m (p .start .number) (p .size)
+    (borders (roads road) (p .start .number) (p .size)) tree₀ start tree at j)
 
 abbrev μ-loop : tie.MeasureT-loop
-μ-loop adj yb list p m children tree₀ start size at₀ j₀ tree at j = m - j
+μ-loop adj yb list p m children tree₀ start size row₀ last₀ at₀ j₀ tree row last at j = m - j
 
 -- what is known for the book that there is
 known : (c : tie.In-loop Inv-loop μ-loop) → Marking (markBytes (c .before .before .before .before .before .before .before .before .pre .0 .adjacency .book)
@@ -29,15 +32,15 @@ known : (c : tie.In-loop Inv-loop μ-loop) → Marking (markBytes (c .before .be
     (c .before .before .before .before .before .before .before .before .args .p .end)
     (c .before .before .before .before .before .before .before .before .args .children)) (c .before .before .mark-size .result)
     (c .before .before .before .before .before .before .before .before .args .m)
-    (c .before .before .before .before .before .before .before .before .args .p .start)
+    (c .before .before .before .before .before .before .before .before .args .p .start .number)
     (c .before .before .before .before .before .before .before .before .args .p .size)
     (borders (roads (c .before .before .before .before .before .before .before .before .pre .0 .adjacency .book))
-    (c .before .before .before .before .before .before .before .before .args .p .start)
+    (c .before .before .before .before .before .before .before .before .args .p .start .number)
     (c .before .before .before .before .before .before .before .before .args .p .size))
     (c .before .before .before .before .before .before .before .before .args .tree .now)
     (c .before .before .before .before .before .before .before .before .args .start) (c .before .loop .tree) (c .before .loop .at) (c .before .loop .j)
 known c =
-    c .before .loop .inv (c .before .before .before .before .before .before .before .before .pre .0 .adjacency .book)
+    c .before .loop .inv .2 (c .before .before .before .before .before .before .before .before .pre .0 .adjacency .book)
     (c .before .before .before .before .before .before .before .before .pre .0 .adjacency .adjacent)
 
 -- the next landmark has its place
@@ -52,68 +55,67 @@ mark-size-requires : tie.Need-mark-size-requires Inv-loop μ-loop
 mark-size-requires c κs = omega (arith, yards-few _ _ _ (c .before .before .before .before .before .pre .0 .yards))
 
 loop-holds : tie.Need-loop-holds Inv-loop μ-loop
-loop-holds c = let p = c .before .before .before .before .before .before .pre in λ road b. marking-start _ _ _ _ _ _ _ _ (rw (c .mark-size .ensures) (p .5))
+loop-holds c = let p = c .before .before .before .before .before .before .pre in (
+  refl,
+  λ h. absurd (omega (arith, h, few-junctions (p .0 .adjacency .adjacent))),
+  λ road b. marking-start _ _ _ _ _ _ _ _ (rw (c .mark-size .ensures) (p .5)),
+)
 
 landmark-of-requires : tie.Need-landmark-of-requires Inv-loop μ-loop
 landmark-of-requires c κs = let p = c .before .before .before .before .before .before .before .before .pre in
     let n = few-junctions (p .0 .adjacency .adjacent) in
     (p .2, c .loop-test .taken, p .3, omega (arith, p .0 .inside, n), p .0 .some)
 
+slice-aggregate-walk-from : tie.Need-slice-aggregate-walk-from Inv-loop μ-loop
+slice-aggregate-walk-from c = search needs
+
+walk-from-requires : tie.Need-walk-from-requires Inv-loop μ-loop
+walk-from-requires c κs = let p = c .before .before .before .before .before .before .before .before .before .before .pre in
+    let i = c .before .before .before .loop .inv in
+    let h = landmark-low _ _ _ _ _ _ _ _ (p .1 (p .0 .adjacency .book) (p .0 .adjacency .adjacent)) (p .0 .some) (c .before .before .loop-test .taken) (p .0 .inside)
+    (c .before .landmark-of .ensures) in
+    (p .0 .adjacency, i .0, h, i .1)
+
+slice-aggregate-put-mark : tie.Need-slice-aggregate-put-mark Inv-loop μ-loop
+slice-aggregate-put-mark c = search needs
+
 put-mark-requires : tie.Need-put-mark-requires Inv-loop μ-loop
-put-mark-requires c κs = let p = c .before .before .before .before .before .before .before .before .before .before .pre in (
-  p .0,
-  p .4,
-  landmark-low _ _ _ _ _ _ _ _ (p .1 (p .0 .adjacency .book) (p .0 .adjacency .adjacent)) (p .0 .some) (c .before .before .loop-test .taken) (p .0 .inside)
-      (c .before .landmark-of .ensures),
-  omega (
-    arith,
-    marking-room _ _ _ _ _ _ _ _ _ _ _ (known (c .before .before)) (c .before .before .loop-test .taken),
-    c .before .before .before .before .mark-size .ensures,
-  ),
-)
+put-mark-requires c κs = let p = c .before .before .before .before .before .before .before .before .before .before .before .before .before .before .pre in
+    let l = c .before .before .before .before .before .before in (
+      p .0 .yards,
+      p .4,
+      c .before .before .before .walk-from .kept .1 .0 ∙ l .before .loop .inv .0,
+      omega (arith, marking-room _ _ _ _ _ _ _ _ _ _ _ (known l) (l .loop-test .taken), l .before .before .mark-size .ensures),
+    )
 
 add-at : tie.Need-add-at Inv-loop μ-loop
-add-at c =
-    let s = c .before .before .before .before .before .before .before .before .before .before .before .before .before in omega (
-      arith,
-      fits
-          (c .before .before .before .before .before),
-      s .good,
-      s .fits,
-    )
+add-at c = let s = c .before .before .before .before .before .before .before .before .before .before .before .before .before .before .before .before .before in omega (arith, fits (c .before .before .before .before .before .before .before .before .before), s .good, s .fits)
 
 add-j : tie.Need-add-j Inv-loop μ-loop
-add-j c =
-    omega (
-      arith,
-      c .before .before .before .before .before .before .before .before .before .before .before .before .before .pre .3,
-      c .before .before .before .before .before .loop-test .taken,
-    )
+add-j c = omega (arith, c .before .before .before .before .before .before .before .before .before .before .before .before .before .before .before .before .before .pre .3, c .before .before .before .before .before .before .before .before .before .loop-test .taken)
 
 loop-less : tie.Need-loop-less Inv-loop μ-loop
-loop-less c = omega (arith, c .before .before .before .before .before .loop-test .taken)
+loop-less c = omega (arith, c .before .before .before .before .before .before .before .before .before .loop-test .taken)
 
 loop-again : tie.Need-loop-again Inv-loop μ-loop
-loop-again c = let s = c .before .before .before .before .before .before .before .before .before .before .before .before .before in
+loop-again c = let w = c .before .before .before .before .before .before .walk-from in
     let x = c .before .before .put-mark in
-    λ road b.
-    marking-turn _ _ _ _ _ _ _ _ _ _ _ _ _ (c .before .before .before .before .before .before .loop .inv road b)
-    (c .before .before .before .before .before .loop-test .taken) (mark-length _ _ _ _ _ _ ∙ sym
-    (c .before .before .before .before .before .before .before .mark-size .ensures))
-    (landmark-same _ _ _ _ _ _ _ (s .pre .1 road b) (c .before .before .before .before .landmark-of .ensures)) (x .ensures road b) (omega (arith, x .kept))
+    let l = c .before .before .before .before .before .before .before .before .before in
+    let i = l .before .loop .inv in (
+      w .kept .1 .0 ∙ i .0,
+      (λ h. w .ensures),
+      λ road b. marking-turn _ _ _ _ _ _ _ _ _ _ _ _ _ (i .2 road b) (l .loop-test .taken) (mark-length _ _ _ _ _ _ ∙ sym (l .before .before .mark-size .ensures))
+          (landmark-same _ _ _ _ _ _ _ (c .before .before .before .before .before .before .before .before .before .before .before .before .before .before .before .before .before .pre .1 road b) (c .before .before .before .before .before .before .before .before .landmark-of .ensures)) (x .ensures road (w .ensures road b)) (omega (arith, x .kept)),
+    )
 
 same-length : tie.Need-same-length Inv-loop μ-loop
-same-length c =
-    let p = c .before .before .before .before .before .before .before .before .pre in c .before .loop .inv (p .0 .adjacency .book)
-    (p .0 .adjacency .adjacent) .kept
+same-length c = let p = c .before .before .before .before .before .before .before .before .pre in c .before .loop .inv .2 (p .0 .adjacency .book) (p .0 .adjacency .adjacent) .kept
 
 returns : tie.Need-returns Inv-loop μ-loop
 returns c = let p = c .before .before .before .before .before .before .before .before .pre in
-    let l = c .before .loop in
-    let k = l .inv (p .0 .adjacency .book) (p .0 .adjacency .adjacent) in (
-      marking-place _ _ _ _ _ _ _ _ _ _ _ _ k (c .loop-test .left) (c .before .before .mark-size .ensures),
-      λ road b. marking-end _ _ _ _ _ _ _ _ _ _ _
-          (l .inv road b) (c .loop-test .left),
+    let i = c .before .loop .inv .2 in (
+      marking-place _ _ _ _ _ _ _ _ _ _ _ _ (i (p .0 .adjacency .book) (p .0 .adjacency .adjacent)) (c .loop-test .left) (c .before .before .mark-size .ensures),
+      λ road b. marking-end _ _ _ _ _ _ _ _ _ _ _ (i road b) (c .loop-test .left),
     )
 
 pub put-marks-spec : {M : Type 1} → statement M
@@ -126,6 +128,9 @@ put-marks-spec =
     mark-size-requires
     loop-holds
     landmark-of-requires
+    slice-aggregate-walk-from
+    walk-from-requires
+    slice-aggregate-put-mark
     put-mark-requires
     add-at
     add-j

@@ -19,7 +19,7 @@ pub record YardsUpTo (yb : List ℕ) (from to : ℕ) : Type 0 where
 -- the adjacency of some road book, and a range of its junctions with the numbers of its yards
 pub record PartReady (adj yb : List ℕ) (p : Part) : Type 0 where
   pub adjacency : IsAdjacency adj
-  pub inside : p .start + p .size ≤ countIn adj
+  pub inside : p .start .number + p .size ≤ countIn adj
   pub some : 0 < p .size
   pub yards : YardsUpTo yb (p .from) (p .end)
 

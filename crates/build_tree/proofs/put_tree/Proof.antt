@@ -29,8 +29,8 @@ cut-requires c κs = let s = c .before .before .before .before .before .before i
       all-room _ _ _ _ (s .args .tree .now) (s .pre) _ n _ (r .0) (r .1) (r .2),
     )
 
-cast-t13 : tie.Need-cast-t13
-cast-t13 c = let s = c .before .before .before .before .before .before .before .before .before .before in
+cast-t14 : tie.Need-cast-t14
+cast-t14 c = let s = c .before .before .before .before .before .before .before .before .before .before in
     let r = c .before .before .before .before .before .range .ensures in
     omega (
       arith,
@@ -41,8 +41,8 @@ cast-t13 c = let s = c .before .before .before .before .before .before .before .
 count-requires : tie.Need-count-requires
 count-requires c κs = yards-alone _ _ _ _ _ _ (c .before .before .before .before .before .before .before .before .before .before .pre .accepted)
 
-cast-t15 : tie.Need-cast-t15
-cast-t15 c =
+cast-t16 : tie.Need-cast-t16
+cast-t16 c =
     omega (arith, c .before .before .before .before .before .before .before .before .before .before .before .before .pre .accepted .range .landmarks .1)
 
 sub-put-book-header : tie.Need-sub-put-book-header
@@ -93,9 +93,9 @@ put-tree-spec =
     cast-range
     range-requires
     cut-requires
-    cast-t13
+    cast-t14
     count-requires
-    cast-t15
+    cast-t16
     sub-put-book-header
     cast-put-book-header
     put-book-header-requires

@@ -6,10 +6,13 @@ use Rattle.build_cuts.proofs.ranges.part_count.Statement.{statement}
 use Rattle.build_cuts.proofs.ranges.part_count.Tie as tie
 
 abbrev Inv-loop : tie.InvT-loop
-Inv-loop yb a s count₀ low₀ i₀ count low i = Parted yb a s count low i
+Inv-loop yb s first count₀ low₀ i₀ count low i = Parted yb first s count low i
 
 abbrev μ-loop : tie.MeasureT-loop
-μ-loop yb a s count₀ low₀ i₀ count low i = 4 - i
+μ-loop yb s first count₀ low₀ i₀ count low i = 4 - i
+
+cast-first : tie.Need-cast-first Inv-loop μ-loop
+cast-first c = search needs
 
 below-requires : tie.Need-below-requires Inv-loop μ-loop
 below-requires c κs = search needs
@@ -34,7 +37,7 @@ loop-less c = search needs
 
 loop-again : tie.Need-loop-again Inv-loop μ-loop
 loop-again c =
-    parted-with _ (c .before .before .before .before .before .before .before .pre .0) _ _ _ _ _ _ (c .before .before .before .before .loop .inv)
+    parted-with _ (c .before .before .before .before .before .before .before .before .pre .0) _ _ _ _ _ _ (c .before .before .before .before .loop .inv)
     (c .before .before .before .loop-test .taken) _ (c .before .before .cut-at .ensures) (c .before .below2 .ensures) (omega (arith, c .if1 .taken))
 
 loop-less-2 : tie.Need-loop-less-2 Inv-loop μ-loop
@@ -42,7 +45,7 @@ loop-less-2 c = search needs
 
 loop-again-2 : tie.Need-loop-again-2 Inv-loop μ-loop
 loop-again-2 c =
-    parted-without _ (c .before .before .before .before .before .before .before .pre .0) _ _ _ _ _ _ (c .before .before .before .before .loop .inv)
+    parted-without _ (c .before .before .before .before .before .before .before .before .pre .0) _ _ _ _ _ _ (c .before .before .before .before .loop .inv)
     (c .before .before .before .loop-test .taken) _ (c .before .before .cut-at .ensures) (c .before .below2 .ensures) (omega (arith, c .if1 .left))
 
 returns : tie.Need-returns Inv-loop μ-loop
@@ -54,6 +57,7 @@ part-count-spec =
     (tie.spec
     Inv-loop
     μ-loop
+    cast-first
     below-requires
     loop-holds
     add-i

@@ -1,5 +1,4 @@
 use borrow.Author.Needs.{needs}
-use mathlib.Core.Path.{refl}
 use Prim.Native.Nat.{_-_, _<_}
 use native.Mathlib.Omega.{arith}
 use Rattle.tree_layout.proofs.Places.{mark-size-leaf, mark-size-inner}
@@ -7,71 +6,41 @@ use Rattle.build_records.proofs.Writing.{mark-leaf-written, mark-inner-
 use Rattle.build_records.proofs.marks.put_mark.Statement.{statement}
 use Rattle.build_records.proofs.marks.put_mark.Tie as tie
 
-slice-aggregate-distances : tie.Need-slice-aggregate-distances
-slice-aggregate-distances c = search needs
-
-distances-requires : tie.Need-distances-requires
-distances-requires c κs = let p = c .before .before .before .before .pre in (p .0 .adjacency, refl, p .2)
-
-slice-aggregate-put-leaf-mark : tie.Need-slice-aggregate-put-leaf-mark
-slice-aggregate-put-leaf-mark c = search needs
-
 put-leaf-mark-requires : tie.Need-put-leaf-mark-requires
-put-leaf-mark-requires c κs = let s = c .before .before .before .before .before .before .before .before .before in (
-  s .pre .0 .yards,
-  omega (arith, c .before .before .before .before .distances .kept),
-  omega (
-    arith,
-    s .pre .3,
-    mark-size-leaf (s .args .children)
-        (s .args .p .end - s .args .p .from) (c .before .before .if1 .taken),
-  ),
+put-leaf-mark-requires c κs = let s = c .before .before .before .before .before in (
+  s .pre .0,
+  s .pre .2,
+  omega (arith, s .pre .3, mark-size-leaf (s .args .children) (s .args .p .end - s .args .p .from) (c .before .if1 .taken)),
 )
 
 same-length : tie.Need-same-length
 same-length c = search needs
 
 returns : tie.Need-returns
-returns c =
-    λ road b. mark-leaf-written _ _ _ _ _ _ _ _ _ (c .before .before .before .before .before .if1 .taken) (c .before .before .put-leaf-mark .ensures road
-    (c .before .before .before .before .before .before .before .distances .ensures road b))
-
-slice-aggregate-put-inner-mark : tie.Need-slice-aggregate-put-inner-mark
-slice-aggregate-put-inner-mark c = search needs
+returns c = λ road e. mark-leaf-written _ _ _ _ _ _ _ _ _ (c .before .before .before .before .if1 .taken) (c .before .before .put-leaf-mark .ensures road e)
 
 put-inner-mark-requires : tie.Need-put-inner-mark-requires
-put-inner-mark-requires c κs = let s = c .before .before .before .before .before .before .before .before .before in
-    let some : 0 < s .args .children = omega (arith, c .before .before .if1 .left) in (
-      s .pre .0 .yards,
+put-inner-mark-requires c κs = let s = c .before .before .before .before .before in
+    let some : 0 < s .args .children = omega (arith, c .before .if1 .left) in (
+      s .pre .0,
       s .pre .1 some,
-      omega (arith, c .before .before .before .before .distances .kept),
-      omega (
-        arith,
-        s .pre .3,
-        mark-size-inner
-            (s .args .children) (s .args .p .end - s .args .p .from) some,
-      ),
+      s .pre .2,
+      omega (arith, s .pre .3, mark-size-inner (s .args .children) (s .args .p .end - s .args .p .from) some),
     )
 
 same-length-2 : tie.Need-same-length-2
 same-length-2 c = search needs
 
 returns-2 : tie.Need-returns-2
-returns-2 c =
-    λ road b. mark-inner-written _ _ _ _ _ _ _ _ _ (omega (arith, c .before .before .before .before .before .if1 .left))
-    (c .before .before .put-inner-mark .ensures road (c .before .before .before .before .before .before .before .distances .ensures road b))
+returns-2 c = λ road e. mark-inner-written _ _ _ _ _ _ _ _ _ (omega (arith, c .before .before .before .before .if1 .left)) (c .before .before .put-inner-mark .ensures road e)
 
 pub put-mark-spec : {M : Type 1} → statement M
 put-mark-spec =
     tie.close
     (tie.spec
-    slice-aggregate-distances
-    distances-requires
-    slice-aggregate-put-leaf-mark
     put-leaf-mark-requires
     same-length
     returns
-    slice-aggregate-put-inner-mark
     put-inner-mark-requires
     same-length-2
     returns-2)
