@@ -17,37 +17,37 @@ border-list-requires : tie.Need-border-list-requires
 border-list-requires c κs =
     let p = c .before .before .before .before .pre in (p .0 .adjacency, omega (arith, p .0 .inside, few-junctions (p .0 .adjacency .adjacent)), refl)
 
-cast-t16 : tie.Need-cast-t16
-cast-t16 c =
-    let p = c .before .before .before .before .before .before .before .before .pre in omega (arith, p .0 .inside, few-junctions (p .0 .adjacency .adjacent))
+cast-t17 : tie.Need-cast-t17
+cast-t17 c =
+    let p = c .before .before .before .before .before .before .before .before .before .pre in omega (arith, p .0 .inside, few-junctions (p .0 .adjacency .adjacent))
 
-add-t17 : tie.Need-add-t17
-add-t17 c =
-    let p = c .before .before .before .before .before .before .before .before .before .pre in omega (
+add-t18 : tie.Need-add-t18
+add-t18 c =
+    let p = c .before .before .before .before .before .before .before .before .before .before .pre in omega (
       arith,
       p .0 .inside,
       few-junctions
           (p .0 .adjacency .adjacent),
     )
 
-cast-t18 : tie.Need-cast-t18
-cast-t18 c =
-    let p = c .before .before .before .before .before .before .before .before .before .pre in omega (
+cast-t19 : tie.Need-cast-t19
+cast-t19 c =
+    let p = c .before .before .before .before .before .before .before .before .before .before .pre in omega (
       arith,
       p .0 .inside,
       few-junctions
           (p .0 .adjacency .adjacent),
     )
 
-sub-t19 : tie.Need-sub-t19
-sub-t19 c = omega (arith, c .before .before .before .before .before .before .before .before .before .before .pre .0 .yards .order)
+sub-t20 : tie.Need-sub-t20
+sub-t20 c = omega (arith, c .before .before .before .before .before .before .before .before .before .before .before .pre .0 .yards .order)
 
-cast-t20 : tie.Need-cast-t20
-cast-t20 c = omega (arith, yards-few _ _ _ (c .before .before .before .before .before .before .before .before .before .before .pre .0 .yards))
+cast-t21 : tie.Need-cast-t21
+cast-t21 c = omega (arith, yards-few _ _ _ (c .before .before .before .before .before .before .before .before .before .before .before .pre .0 .yards))
 
 put-fields-requires : tie.Need-put-fields-requires
 put-fields-requires c κs =
-    let s = c .before .before .before .before .before .before .before .before .before .before in omega (
+    let s = c .before .before .before .before .before .before .before .before .before .before .before in omega (
       arith,
       s .pre .3,
       record-size (s .args .m)
@@ -56,7 +56,7 @@ put-fields-requires c κs =
 
 marks-at-requires : tie.Need-marks-at-requires
 marks-at-requires c κs =
-    let s = c .before .before .before .before .before .before .before .before .before .before .before .before .before in omega (
+    let s = c .before .before .before .before .before .before .before .before .before .before .before .before .before .before in omega (
       arith,
       s .pre .3,
       record-size
@@ -67,8 +67,8 @@ marks-at-requires c κs =
 
 array-share-prefix-list : tie.Need-array-share-prefix-list
 array-share-prefix-list c =
-    let p = c .before .before .before .before .before .before .before .before .before .before .before .before .before .before .pre in let l =
-    c .before .before .before .before .before .before .before .before .before .border-list in omega (
+    let p = c .before .before .before .before .before .before .before .before .before .before .before .before .before .before .before .pre in let l =
+    c .before .before .before .before .before .before .before .before .before .before .border-list in omega (
       arith,
       l .ensures .0,
       l .kept,
@@ -79,14 +79,14 @@ array-share-prefix-list c =
 
 slice-aggregate-put-marks : tie.Need-slice-aggregate-put-marks
 slice-aggregate-put-marks c =
-    let p = c .before .before .before .before .before .before .before .before .before .before .before .before .before .before .before .pre in let l =
-    c .before .before .before .before .before .before .before .before .before .before .border-list in sym (length-take-le _ _
+    let p = c .before .before .before .before .before .before .before .before .before .before .before .before .before .before .before .before .pre in let l =
+    c .before .before .before .before .before .before .before .before .before .before .before .border-list in sym (length-take-le _ _
     (omega (arith, l .ensures .0, l .kept, p .0 .inside, few-junctions (p .0 .adjacency .adjacent))))
 
 put-marks-requires : tie.Need-put-marks-requires
 put-marks-requires c κs =
-    let p = c .before .before .before .before .before .before .before .before .before .before .before .before .before .before .before .before .pre in
-    let l = c .before .before .before .before .before .before .before .before .before .before .before .border-list in
+    let p = c .before .before .before .before .before .before .before .before .before .before .before .before .before .before .before .before .before .pre in
+    let l = c .before .before .before .before .before .before .before .before .before .before .before .before .border-list in
     let few : l .result ≤ 1024 = omega (arith, l .ensures .0, p .0 .inside, few-junctions (p .0 .adjacency .adjacent)) in (
       p .0,
       l .ensures .1,
@@ -114,11 +114,11 @@ put-record-spec =
     (tie.spec
     slice-aggregate-border-list
     border-list-requires
-    cast-t16
-    add-t17
-    cast-t18
-    sub-t19
-    cast-t20
+    cast-t17
+    add-t18
+    cast-t19
+    sub-t20
+    cast-t21
     put-fields-requires
     marks-at-requires
     array-share-prefix-list
