@@ -10,19 +10,19 @@ use lib.ListN.{length, length-append}
 use lib.Dec.{T}
 use Rattle.tree_layout.specs.Values.{Region, regionAt}
 use Rattle.tree_layout.proofs.MarkFields.{region-seam}
-use Rattle.tree.specs.Shape.{siblings, subtree, levels}
+use Rattle.tree.specs.declared.shape.End.{End}
+use Rattle.tree.specs.Shape.{endAt, siblings, subtree, levels}
 use Rattle.tree_leaf.specs.Leaf.{leafOk, firstList}
 use Rattle.tree.specs.Yards.{endOf, yardsBelow}
 use Rattle.tree_leaf.specs.Leaf.{yardsIn}
-use Rattle.tree.proofs.Forest.{siblings-next, siblings-step, subtree-leaf, subtree-inner}
+use Rattle.tree.proofs.Forest.{siblings-next, siblings-step, siblings-end, siblings-ended, subtree-leaf, subtree-inner, end-is}
 use Rattle.tree.proofs.ForestLaws.{Sane, span, span-split, span-none, span-leaf, span-inner}
-use Rattle.tree.proofs.Descent.{siblings-end, siblings-ended, end-is}
 use Rattle.tree.proofs.Ranges.{below-span}
 use Rattle.check_rules.specs.Facts.{Same}
 use Rattle.check_rules.proofs.Extremes.{same-swap}
 use Rattle.check_rules.proofs.Theorems.{RegionTrue, region-same}
 use Rattle.build_rules.specs.Cut.{Given, leafRegion, innerRegion}
-use Rattle.build_rules.proofs.Cutting.{Held, CutForest, none, leaf, inner, widen, join, forest-length}
+use Rattle.build_rules.proofs.Cutting.{Held, CutForest, none, leaf, inner, widen, join}
 use Rattle.build_rules.proofs.Regions.{leaf-passes, leaf-same, leaf-true, inner-true}
 
 -- ---- a region between two lists
@@ -41,11 +41,10 @@ next-is : (rs before after : List Region) (r : Region) → rs ≡ before ++ (r �
 next-is rs before after r e = e ∙ sym (append-assoc before (r ∷ []) after)
 
 -- one sibling
-siblings-one : (rs : List Region) (f : ℕ → ℕ) (i low high left e : ℕ) → low ≤ regionAt rs i .first → regionAt rs i .after ≤ high
-    → regionAt rs i .yards ≡ left → f i ≡ e → 0 < e → siblings rs f 1 i low high left ≡ e
-siblings-one rs f i low high left e a b c z h =
-    siblings-step rs f 0 i low high left a b (omega arith) (omega arith)
-    ∙ (siblings-end rs f (f i) (regionAt rs i .after) high (left - regionAt rs i .yards) (omega arith) ∙ z)
+siblings-one : (rs : List Region) (f : ℕ → End) (i low high left e : ℕ) → low ≤ regionAt rs i .first → regionAt rs i .after ≤ high
+    → regionAt rs i .yards ≡ left → f i ≡ endAt e → siblings rs f 1 i low high left ≡ endAt e
+siblings-one rs f i low high left e a b c z =
+    siblings-step rs f 0 i low high left e a b (omega arith) z ∙ siblings-end rs f e (regionAt rs i .after) high (left - regionAt rs i .yards) (omega arith)
 
 same-append : (a b c e : List ℕ) → Same a b → Same c e → Same (a ++ c) (b ++ e)
 same-append a b c e s t = record { to = λ y k. go (append-cases a k); from = λ y k. back (append-cases b k) }
@@ -63,27 +62,30 @@ module _ (g : Given) (junctions : ℕ) (m-low : 1 ≤ g .landmarks) where
 
   pub forest-siblings : {k n low high : ℕ} {ys : List ℕ} {rs : List Region} → CutForest g junctions k n low high ys rs → (R before after : List Region)
       → R ≡ before ++ (rs ++ after) → (l : ℕ) → k ≤ l → (low′ high′ : ℕ) → low′ ≤ low → high ≤ high′
-      → siblings R (subtree R l) n (length before) low′ high′ (length ys) ≡ length before + length rs
+      → siblings R (subtree R l) n (length before) low′ high′ (length ys) ≡ endAt (length before + length rs)
   unfolding leafRegion innerRegion
-  forest-siblings (none h) R before after e l q low′ high′ a b = siblings-end R (subtree R l) (length before) low′ high′ 0 refl ∙ omega arith
+  forest-siblings (none h) R before after e l q low′ high′ a b = siblings-end R (subtree R l) (length before) low′ high′ 0 refl
+      ∙ ap endAt (let z : length before ≡ length before + 0 = omega arith in z)
   forest-siblings (leaf {k = k} {a = a} {s = s} {ys = ys} v c w) R before after e l q low′ high′ x y = go (stands R before after (leafRegion g a s ys) e) l q
     where
-      go : Stands R before (leafRegion g a s ys) → (l : ℕ) → suc k ≤ l → siblings R (subtree R l) 1 (length before) low′ high′ (length ys) ≡ length before + 1
+      go : Stands R before (leafRegion g a s ys) → (l : ℕ) → suc k ≤ l → siblings R (subtree R l) 1 (length before) low′ high′ (length ys) ≡ endAt (length before
+          + 1)
       go z zero q = absurd (omega arith)
       go z (suc l) q =
           let first : low′ ≤ regionAt R (length before) .first = rw (z .here) x in
           let last : regionAt R (length before) .after ≤ high′ = rw (z .here) y in
           let yards : regionAt R (length before) .yards ≡ length ys = rw (z .here) refl in
           siblings-one R (subtree R (suc l)) (length before) low′ high′ (length ys) (length before + 1) first last yards
-          (subtree-leaf R l (length before) (z .inside) (rw (z .here) refl) (rw (z .here) (leaf-passes g a s ys v)) ∙ omega arith) (omega arith)
+          (subtree-leaf R l (length before) (z .inside) (rw (z .here) refl) (rw (z .here) (leaf-passes g a s ys v))
+          ∙ ap endAt (let n : suc (length before) ≡ length before + 1 = omega arith in n))
   forest-siblings (inner {k = k} {a = a} {s = s} {q = n} {ys = ys} {rs = rs} v c w u f) R before after e l q low′ high′ x y =
       go (stands R before (rs ++ after) (innerRegion g a s n ys) e) l q (λ l′ h. forest-siblings f R (before ++ (innerRegion g a s n ys ∷ [])) after (next-is R
       before (rs ++ after) (innerRegion g a s n ys) e) l′ h a (a + s) (omega arith) (omega arith))
     where
       go : Stands R before (innerRegion g a s n ys) → (l : ℕ) → suc k ≤ l
           → ((l′ : ℕ) → k ≤ l′ → siblings R (subtree R l′) n (length (before ++ (innerRegion g a s n ys ∷ []))) a (a + s) (length ys)
-          ≡ length (before ++ (innerRegion g a s n ys ∷ [])) + length rs)
-          → siblings R (subtree R l) 1 (length before) low′ high′ (length ys) ≡ length before + suc (length rs)
+          ≡ endAt (length (before ++ (innerRegion g a s n ys ∷ [])) + length rs))
+          → siblings R (subtree R l) 1 (length before) low′ high′ (length ys) ≡ endAt (length before + suc (length rs))
       go z zero q rec = absurd (omega arith)
       go z (suc l) q rec =
           let first : low′ ≤ regionAt R (length before) .first = rw (z .here) x in
@@ -94,7 +96,7 @@ module _ (g : Given) (junctions : ℕ) (m-low : 1 ≤ g .landmarks) where
           .here) (omega arith))) in
           let deep = rw (next-length before (innerRegion g a s n ys)) at (rec l (omega arith)) in
           siblings-one R (subtree R (suc l)) (length before) low′ high′ (length ys) (length before + suc (length rs)) first last yards (down ∙ (deep
-          ∙ omega arith)) (omega arith)
+          ∙ ap endAt (let n : suc (length before) + length rs ≡ length before + suc (length rs) = omega arith in n)))
   forest-siblings (widen a b c f) R before after e l q low′ high′ x y = forest-siblings f R before after e l (omega arith) low′ high′ (omega arith) (omega
       arith)
   forest-siblings (join {n = n} {low = low} {mid = mid} {high = high} {ys = ys} {zs = zs} {rs = rs} {ss = ss} h f t) R before after e l q low′ high′ x y =
@@ -107,24 +109,24 @@ module _ (g : Given) (junctions : ℕ) (m-low : 1 ≤ g .landmarks) where
       second-at : R ≡ (before ++ rs) ++ (ss ++ after)
       second-at = first-at ∙ sym (append-assoc before rs (ss ++ after))
 
-      go : siblings R (subtree R l) 1 (length before) low′ mid (length ys) ≡ length before + length rs
-          → ((low″ : ℕ) → low″ ≤ mid → siblings R (subtree R l) n (length (before ++ rs)) low″ high′ (length zs) ≡ length (before ++ rs) + length ss)
-          → siblings R (subtree R l) (suc n) (length before) low′ high′ (length (ys ++ zs)) ≡ length before + length (rs ++ ss)
+      go : siblings R (subtree R l) 1 (length before) low′ mid (length ys) ≡ endAt (length before + length rs)
+          → ((low″ : ℕ) → low″ ≤ mid → siblings R (subtree R l) n (length (before ++ rs)) low″ high′ (length zs) ≡ endAt (length (before ++ rs) + length ss))
+          → siblings R (subtree R l) (suc n) (length before) low′ high′ (length (ys ++ zs)) ≡ endAt (length before + length (rs ++ ss))
       go one rest =
-          let some : 0 < length before + length rs = omega (arith, forest-length g junctions f) in
-          let x1 = siblings-next R (subtree R l) 0 (length before) low′ mid (length ys) (rw one some) in
-          let ended = siblings-ended R (subtree R l) (subtree R l (length before)) (regionAt R (length before) .after) mid (length ys - regionAt R (length
-          before) .yards) (length before + length rs) (sym (x1 .rest) ∙ one) some in
+          let x1 = siblings-next R (subtree R l) 0 (length before) low′ mid (length ys) (length before + length rs) one in
+          let ended = siblings-ended R (subtree R l) (x1 .next) (regionAt R (length before) .after) mid (length ys - regionAt R (length before) .yards) (length
+          before + length rs) (x1 .rest) in
           let r = rest (regionAt R (length before) .after) (x1 .high-ok) in
-          let i2 : length (before ++ rs) ≡ subtree R l (length before) = omega (arith, length-append before rs, ended .1) in
+          let i2 : length (before ++ rs) ≡ x1 .next = omega (arith, length-append before rs, ended .1) in
+          let end : x1 .next + length ss ≡ length before + length (rs ++ ss) = omega (arith, ended .1, length-append rs ss) in
           let left2 : length zs ≡ length (ys ++ zs) - regionAt R (length before) .yards = omega (arith, length-append ys zs, ended .0, x1 .left-ok) in
           let r2 = rw (i2, left2) at r in
-          siblings-step R (subtree R l) n (length before) low′ high′ (length (ys ++ zs)) (x1 .low-ok) (omega (arith, x1 .high-ok)) (omega (
+          siblings-step R (subtree R l) n (length before) low′ high′ (length (ys ++ zs)) (x1 .next) (x1 .low-ok) (omega (arith, x1 .high-ok)) (omega (
             arith,
             x1 .left-ok,
             length-append ys zs,
           )) (x1 .found)
-          ∙ (r2 ∙ omega (arith, ended .1, length-append rs ss))
+          ∙ (r2 ∙ ap endAt end)
 
   -- ---- yards
 
@@ -196,13 +198,13 @@ module _ (g : Given) (junctions : ℕ) (m-low : 1 ≤ g .landmarks) where
 
       root : Stands R before (innerRegion g a s n ys)
           → siblings R (subtree R 7) n (length (before ++ (innerRegion g a s n ys ∷ []))) a (a + s) (length ys)
-          ≡ length (before ++ (innerRegion g a s n ys ∷ [])) + length rs
+          ≡ endAt (length (before ++ (innerRegion g a s n ys ∷ [])) + length rs)
           → Same (span R (length (before ++ (innerRegion g a s n ys ∷ []))) (length (before ++ (innerRegion g a s n ys ∷ [])) + length rs)) ys
           → RegionTrue (g .d) (yardsBelow R (length before)) (regionAt R (length before))
       root z b y =
           let q1 : 0 < regionAt R (length before) .children = rw (z .here) (omega arith) in
-          let e1 : endOf R (length before) ≡ suc (length before) + length rs = end-is R (length before)
-          ∙ ((rw (z .here) at (subtree-inner R 7 (length before) (z .inside) q1)) ∙ (rw (next-length before (innerRegion g a s n ys)) at b)) in
+          let e1 : endOf R (length before) ≡ suc (length before) + length rs = end-is R (length before) (suc (length before) + length rs)
+          ((rw (z .here) at (subtree-inner R 7 (length before) (z .inside) q1)) ∙ (rw (next-length before (innerRegion g a s n ys)) at b)) in
           let e2 : yardsBelow R (length before) ≡ span R (suc (length before)) (suc (length before) + length rs) = below-span R (length before)
           ∙ (ap (span R (length before)) e1 ∙ span-inner R sane (length before) (suc (length before) + length rs) (omega arith) q1) in
           let y2 = same-swap (span R (suc (length before)) (suc (length before) + length rs)) ys (rw (next-length before (innerRegion g a s n ys)) at y) in
@@ -211,7 +213,7 @@ module _ (g : Given) (junctions : ℕ) (m-low : 1 ≤ g .landmarks) where
 
       go : Dec (j ≡ length before) → Stands R before (innerRegion g a s n ys)
           → siblings R (subtree R 7) n (length (before ++ (innerRegion g a s n ys ∷ []))) a (a + s) (length ys)
-          ≡ length (before ++ (innerRegion g a s n ys ∷ [])) + length rs
+          ≡ endAt (length (before ++ (innerRegion g a s n ys ∷ [])) + length rs)
           → Same (span R (length (before ++ (innerRegion g a s n ys ∷ []))) (length (before ++ (innerRegion g a s n ys ∷ [])) + length rs)) ys
           → (length (before ++ (innerRegion g a s n ys ∷ [])) ≤ j → j < length (before ++ (innerRegion g a s n ys ∷ [])) + length rs
           → RegionTrue (g .d) (yardsBelow R j) (regionAt R j)) → RegionTrue (g .d) (yardsBelow R j) (regionAt R j)

@@ -1,5 +1,5 @@
 -- What is proved of the tree that building gives. Assumes nothing.
-use mathlib.Core.Path.{_≡_, refl, sym, _∙_}
+use mathlib.Core.Path.{_≡_, refl, sym, ap, _∙_}
 use mathlib.Core.List.{List, [], _++_, append-nil, List·Memᴰ as Mem}
 use Prim.Native.Nat.{ℕ, _+_, _-_, _≤_, _<_}
 use native.Mathlib.Omega.{arith}
@@ -10,12 +10,12 @@ use Rattle.tree_layout.specs.Values.{Region, Tree, regionAt}
 use Rattle.tree_layout.specs.Decode.{decode}
 use Rattle.tree_layout.specs.Facts.{RegionValues}
 use Rattle.tree_layout.specs.code.Formed.{FormedTree}
-use Rattle.tree.specs.Shape.{subtree, levels, shaped, treeRefusal}
+use Rattle.tree.specs.Shape.{endAt, subtree, levels, shaped, treeRefusal}
 use Rattle.tree.specs.Yards.{oneLeaf, oneInner, yardsBelow, treeYards}
-use Rattle.tree.proofs.Forest.{siblings-next}
+use Rattle.tree.proofs.Forest.{siblings-next, siblings-ended}
 use Rattle.tree.proofs.ForestLaws.{Sane, leaf-count, inner-count}
 use Rattle.tree.proofs.Shaping.{found-preorder, root-forest, shape-facts}
-use Rattle.tree.proofs.Descent.{siblings-ended, shaped-by}
+use Rattle.tree.proofs.Descent.{shaped-by}
 use Rattle.tree.proofs.Ranges.{tree-span}
 use Rattle.tree.proofs.Sums.{sum-all, all-counted}
 use Rattle.tree.proofs.Theorems.{sane-of}
@@ -80,18 +80,17 @@ module _ (g : Given) (junctions : ℕ) (ys : List ℕ) (lim : InLimits g junctio
   sane = sane-of t formed (lim .landmarks-in .0) values
 
   -- a descent with six levels takes all regions, and the root has all yards
-  descent : (subtree rs 6 0 ≡ length rs) × (regionAt rs 0 .yards ≡ length ys)
+  descent : (subtree rs 6 0 ≡ endAt (length rs)) × (regionAt rs 0 .yards ≡ length ys)
   descent =
       let one = forest-siblings g junctions (lim .landmarks-in .0) forest rs [] [] whole 6 (omega arith) 0 junctions (omega arith) (omega arith) in
-      let some : 0 < 0 + length rs = omega (arith, there) in
-      let x = siblings-next rs (subtree rs 6) 0 0 0 junctions (length ys) (rw one some) in
-      let z = siblings-ended rs (subtree rs 6) (subtree rs 6 0) (regionAt rs 0 .after) junctions (length ys - regionAt rs 0 .yards) (0 + length rs) (sym (x
-      .rest) ∙ one) some in
-      (omega (arith, z .1), omega (arith, z .0, x .left-ok))
+      let x = siblings-next rs (subtree rs 6) 0 0 0 junctions (length ys) (0 + length rs) one in
+      let z = siblings-ended rs (subtree rs 6) (x .next) (regionAt rs 0 .after) junctions (length ys - regionAt rs 0 .yards) (0 + length rs) (x .rest) in
+      let all : x .next ≡ length rs = omega (arith, z .1) in
+      (x .found ∙ ap endAt all, omega (arith, z .0, x .left-ok))
 
   shape-ok : T (shaped t)
   unfolding cutTree
-  shape-ok = shaped-by t 6 (omega arith) there (descent .0) (descent .1)
+  shape-ok = shaped-by t 6 (omega arith) (descent .0) (descent .1)
 
   regions-few : length rs ≤ 511
   unfolding cutTree
@@ -157,7 +156,7 @@ module _ (g : Given) (junctions : ℕ) (ys : List ℕ) (lim : InLimits g junctio
     true-tree = rw back at (tested (encode t) accepted .exact (g .d) .1 (rw back numbers-true));
     true-beside = rw back at (tested (encode t) accepted .beside (g .d) ys (rw back yards-same) .1 (rw back numbers-true));
     few = rw regions-are regions-few;
-    six = rw regions-are (rw (descent .0) at (found-preorder rs 5 0 (omega (arith, descent .0, there))));
+    six = rw regions-are (found-preorder rs 5 0 (length rs) (descent .0));
     leaf-limit = rw regions-are (forest-limit g forest);
   }
 

@@ -1,5 +1,5 @@
 -- The descent, one region and one sibling at a time, as the recursion takes them. Assumes nothing.
-use mathlib.Core.Path.{_≡_, refl, _∙_}
+use mathlib.Core.Path.{_≡_, refl, ap, _∙_}
 use mathlib.Core.Bool.{true, false}
 use mathlib.Core.List.{List}
 use Prim.Native.Nat.{ℕ, zero, suc, _-_, _≤_, _<_}
@@ -11,8 +11,10 @@ use Rattle.book.proofs.Choosing.{choose-case, choose-no, choose-yes, true-T, fa
 use Rattle.book.proofs.Lists.{eq→eqb, ne→neqb}
 use Rattle.tree_layout.specs.Values.{Region, regionAt}
 use Rattle.tree_leaf.specs.Leaf.{leafOk}
-use Rattle.tree.specs.Shape.{childFits, siblings, subtree}
-use Rattle.tree.proofs.Forest.{subtree-leaf, subtree-inner}
+use Rattle.tree.specs.declared.shape.End.{End}
+use Rattle.tree.specs.declared.shape.End.the-variants.{Broken}
+use Rattle.tree.specs.Shape.{endAt, onward, childFits, siblings, subtree}
+use Rattle.tree.proofs.Forest.{siblings-end, subtree-leaf, subtree-inner}
 
 -- ---- a child's fields
 
@@ -36,14 +38,14 @@ module _ (low high left first after yards : ℕ) where
 module _ (rs : List Region) where
   -- ---- a region
 
-  pub no-levels : (i : ℕ) → subtree rs 0 i ≡ 0
+  pub no-levels : (i : ℕ) → subtree rs 0 i ≡ Broken
   unfolding subtree
   no-levels i = refl
 
-  pub no-number : (l i : ℕ) → length rs ≤ i → subtree rs l i ≡ 0
+  pub no-number : (l i : ℕ) → length rs ≤ i → subtree rs l i ≡ Broken
   unfolding subtree
   no-number zero i h = refl
-  no-number (suc l) i h = choose-no (ltb i (length rs)) _ 0 (not-T (ltb i (length rs)) (λ t. omega (arith, ltb→lt i (length rs) t)))
+  no-number (suc l) i h = choose-no (ltb i (length rs)) _ Broken (not-T (ltb i (length rs)) (λ t. omega (arith, ltb→lt i (length rs) t)))
 
   -- levels that are left: l is 1 and so many more
   module _ (l k i : ℕ) (some : l ≡ suc k) (inside : i < length rs) where
@@ -52,38 +54,38 @@ module _ (rs : List Region) where
         → subtree rs l i ≡ siblings rs (subtree rs k) children (suc i) first after yards
     inner-end first after children yards p q r s z = rw (some, ← p, ← q, ← r, ← s) (subtree-inner rs k i inside (omega (arith, r, z)))
 
-    pub leaf-bad : regionAt rs i .children ≡ 0 → leafOk (regionAt rs i) ≡ false → subtree rs l i ≡ 0
+    pub leaf-bad : regionAt rs i .children ≡ 0 → leafOk (regionAt rs i) ≡ false → subtree rs l i ≡ Broken
     unfolding subtree
-    leaf-bad c e = rw some (choose-yes (ltb i (length rs)) _ 0 (lt→ltb i (length rs) inside)
-        ∙ (choose-yes (eqb (regionAt rs i .children) 0) _ _ (eq→eqb (regionAt rs i .children) 0 c) ∙ choose-no (leafOk (regionAt rs i)) (suc i) 0 (false-T e)))
+    leaf-bad c e = rw some (choose-yes (ltb i (length rs)) _ Broken (lt→ltb i (length rs) inside)
+        ∙ (choose-yes (eqb (regionAt rs i .children) 0) _ _ (eq→eqb (regionAt rs i .children) 0 c) ∙ choose-no (leafOk (regionAt rs i)) (endAt (suc i)) Broken
+        (false-T e)))
 
-    pub leaf-good : regionAt rs i .children ≡ 0 → leafOk (regionAt rs i) ≡ true → subtree rs l i ≡ suc i
+    pub leaf-good : regionAt rs i .children ≡ 0 → leafOk (regionAt rs i) ≡ true → subtree rs l i ≡ endAt (suc i)
     leaf-good c e = rw some (subtree-leaf rs k i inside c (true-T e))
 
   -- ---- siblings
 
-  module _ (f : ℕ → ℕ) (n i low high left : ℕ) where
-    pub last-left : n ≡ 0 → (left ≡ 0 → ⊥) → siblings rs f n i low high left ≡ 0
+  module _ (f : ℕ → End) (n i low high left : ℕ) where
+    pub last-left : n ≡ 0 → (left ≡ 0 → ⊥) → siblings rs f n i low high left ≡ Broken
     unfolding siblings
-    last-left e h = rw e (choose-no (eqb left 0) i 0 (ne→neqb left 0 h))
+    last-left e h = rw e (choose-no (eqb left 0) (endAt i) Broken (ne→neqb left 0 h))
 
-    pub last-none : n ≡ 0 → left ≡ 0 → siblings rs f n i low high left ≡ i
-    unfolding siblings
-    last-none e h = rw e (choose-yes (eqb left 0) i 0 (eq→eqb left 0 h))
+    pub last-none : n ≡ 0 → left ≡ 0 → siblings rs f n i low high left ≡ endAt i
+    last-none e h = rw e (siblings-end rs f i low high left h)
 
     module _ (k : ℕ) (more : n ≡ suc k) where
-      pub next-bad : childFits low high left (regionAt rs i .first) (regionAt rs i .after) (regionAt rs i .yards) ≡ false → siblings rs f n i low high left ≡ 0
+      pub next-bad : childFits low high left (regionAt rs i .first) (regionAt rs i .after) (regionAt rs i .yards) ≡ false
+          → siblings rs f n i low high left ≡ Broken
       unfolding siblings
-      next-bad t = rw more (choose-no (childFits low high left (regionAt rs i .first) (regionAt rs i .after) (regionAt rs i .yards)) _ 0 (false-T t))
+      next-bad t = rw more (choose-no (childFits low high left (regionAt rs i .first) (regionAt rs i .after) (regionAt rs i .yards)) _ Broken (false-T t))
 
-      pub next-none : f i ≡ 0 → siblings rs f n i low high left ≡ 0
+      pub next-none : f i ≡ Broken → siblings rs f n i low high left ≡ Broken
       unfolding siblings
-      next-none e =
-          rw more (choose-case (λ (x : ℕ). x ≡ 0) (childFits low high left (regionAt rs i .first) (regionAt rs i .after) (regionAt rs i .yards)) (λ t.
-          choose-no (ltb 0 (f i)) _ 0 (not-T (ltb 0 (f i)) (λ u. omega (arith, ltb→lt 0 (f i) u)))) (λ t. refl))
+      next-none e = rw more (choose-case (λ (x : End). x ≡ Broken) (childFits low high left (regionAt rs i .first) (regionAt rs i .after) (regionAt rs i .yards))
+          (λ t. ap (λ (o : End). onward o (λ m. siblings rs f k m (regionAt rs i .after) high (left - regionAt rs i .yards))) e) (λ t. refl))
 
-      pub next-good : childFits low high left (regionAt rs i .first) (regionAt rs i .after) (regionAt rs i .yards) ≡ true → (f i ≡ 0 → ⊥)
-          → siblings rs f n i low high left ≡ siblings rs f k (f i) (regionAt rs i .after) high (left - regionAt rs i .yards)
+      pub next-good : childFits low high left (regionAt rs i .first) (regionAt rs i .after) (regionAt rs i .yards) ≡ true → (m : ℕ) → f i ≡ endAt m
+          → siblings rs f n i low high left ≡ siblings rs f k m (regionAt rs i .after) high (left - regionAt rs i .yards)
       unfolding siblings
-      next-good t h = rw more (choose-yes (childFits low high left (regionAt rs i .first) (regionAt rs i .after) (regionAt rs i .yards)) _ 0 (true-T t)
-          ∙ choose-yes (ltb 0 (f i)) _ 0 (lt→ltb 0 (f i) (omega (arith, h))))
+      next-good t m e = rw more (choose-yes (childFits low high left (regionAt rs i .first) (regionAt rs i .after) (regionAt rs i .yards)) _ Broken (true-T t)
+          ∙ ap (λ (o : End). onward o (λ m. siblings rs f k m (regionAt rs i .after) high (left - regionAt rs i .yards))) e)

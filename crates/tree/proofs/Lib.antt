@@ -3,7 +3,7 @@ pub mod ForestLaws
 pub mod Fielding
 pub mod Descending
 pub mod Recursing
-pub mod EndNumbers
+pub mod Onward
 pub mod Filling
 pub mod Shaping
 pub mod Reaching

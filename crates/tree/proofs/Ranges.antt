@@ -1,5 +1,5 @@
 -- A region's yards are the tree's yards in its range. Assumes nothing.
-use mathlib.Core.Path.{_≡_, refl, ap, _∙_}
+use mathlib.Core.Path.{_≡_, refl, ap}
 use mathlib.Core.List.{List, List·Memᴰ as Mem}
 use Prim.Native.Nat.{ℕ, suc, _-_, _≤_, _<_}
 use native.Mathlib.Decide.{ℕ-discrete, decLt}
@@ -10,9 +10,8 @@ use Rattle.tree_layout.specs.Decode.{decode}
 use Rattle.tree.specs.Shape.{treeRefusal}
 use Rattle.tree.specs.Yards.{endOf, yardsBelow, treeYards}
 use Rattle.tree.specs.Theorems.{LeafOf, Whole}
-use Rattle.tree.proofs.Forest.{Forest, none, leaf, wrap, join, Rooted}
+use Rattle.tree.proofs.Forest.{Forest, none, leaf, wrap, join, end-is, Rooted}
 use Rattle.tree.proofs.ForestLaws.{Sane, span, span-mem, visit, sub, leaf-order}
-use Rattle.tree.proofs.Descent.{end-is}
 use Rattle.tree.proofs.Shaping.{root-end, root-forest, facts-shaped}
 use Rattle.tree.proofs.Theorems.{layout-sane, layout-there, tree-facts, accepted-whole}
 
@@ -69,7 +68,7 @@ module _ (b : List ℕ) (ok : treeRefusal b ≡ 0) where
       )) (rw (below-span rs r) at k))
     where
       root-ends : endOf rs 0 ≡ length rs
-      root-ends = end-is rs 0 ∙ root-end (decode b) sane (layout-there b (tree-facts b ok .layout)) (facts-shaped (decode b) (tree-facts b ok .shape))
+      root-ends = end-is rs 0 (length rs) (root-end (decode b) sane (layout-there b (tree-facts b ok .layout)) (facts-shaped (decode b) (tree-facts b ok .shape)))
 
   -- one of the tree's yards in a region's range is below it
   pub range-below : (r y : ℕ) → r < length rs → Mem y (treeYards (decode b)) → regionAt rs r .first ≤ y → y < regionAt rs r .after → Mem y (yardsBelow rs r)

@@ -5,16 +5,17 @@ use Prim.Native.Nat.{ℕ, zero, suc, _+_, _-_, _≤_, _<_}
 use native.Mathlib.Decide.{ℕ-discrete, decLt}
 use native.Mathlib.Omega.{arith}
 use lib.ListN.{length}
-use lib.Dec.{T, eqb, eqb→eq}
-use Rattle.book.proofs.Choosing.{choose-yes, and-left, and-right, and-both}
-use Rattle.book.proofs.Lists.{eq→eqb, choose-positive}
+use lib.Dec.{T, eqb→eq}
+use Rattle.book.proofs.Choosing.{and-left, and-right}
 use Rattle.tree_layout.specs.Values.{Region, Tree, regionAt}
-use Rattle.tree.specs.Shape.{siblings, subtree, levels, shaped}
+use Rattle.tree.specs.Shape.{endAt, isAt, siblings, subtree, levels, shaped}
 use Rattle.tree.specs.Yards.{endOf, starts, hops, childrenOf}
 use Rattle.tree.specs.Facts.{Preorder, none as ended, tree, ChildrenOf, RangesRise, yardSum, TreeShape}
 use Rattle.tree_leaf.proofs.Named.{leaf-lists, lists-leaf}
-use Rattle.tree.proofs.Forest.{Forest, none, leaf, wrap, join, Rooted, siblings-next, siblings-step, Found, at-leaf, at-inner, subtree-found}
-use Rattle.tree.proofs.Forest.{subtree-leaf, subtree-inner, tree-forest}
+use Rattle.tree.proofs.Onward.{came-to}
+use Rattle.tree.proofs.Forest.{Forest, none, leaf, wrap, join, Rooted, siblings-next, siblings-step, siblings-end, siblings-ended, Found, at-leaf}
+use Rattle.tree.proofs.Forest.{at-inner, subtree-found, subtree-leaf, subtree-inner, nowhere, tree-forest}
+use Rattle.tree.proofs.Descent.{shaped-by}
 use Rattle.tree.proofs.ForestLaws.{Sane, end-hops, leaf-ok}
 
 module _ (rs : List Region) where
@@ -33,34 +34,39 @@ module _ (rs : List Region) where
     pub count : length roots ≡ n
     pub trees : Preorder rs l i roots e
 
-  parts-of : (l i : ℕ) → ((n j low high left : ℕ) → 0 < siblings rs (subtree rs l) n j low high left
-      → Sibs l n j (siblings rs (subtree rs l) n j low high left)) → 0 < subtree rs (suc l) i → Parts l i (subtree rs (suc l) i)
-  parts-of l i rec p = go (subtree rs (suc l) i) p (subtree-found rs l i p)
+  parts-of : (l i e : ℕ) → ((n j low high left m : ℕ) → siblings rs (subtree rs l) n j low high left ≡ endAt m → Sibs l n j m)
+      → subtree rs (suc l) i ≡ endAt e → Parts l i e
+  parts-of l i e rec p = go e (subtree-found rs l i e p)
     where
-      go : (e : ℕ) → 0 < e → Found rs (subtree rs l) i e → Parts l i e
-      go _ q (at-leaf h c k) = record { inside = h; children = []; count = sym c; below = ended }
-      go e q (at-inner h c z) =
-          let s = rec (regionAt rs i .children) (suc i) (regionAt rs i .first) (regionAt rs i .after) (regionAt rs i .yards) (rw z q) in
-          record { inside = h; children = s .roots; count = s .count; below = rw z at (s .trees) }
+      go : (e : ℕ) → Found rs (subtree rs l) i e → Parts l i e
+      go _ (at-leaf h c k) = record { inside = h; children = []; count = sym c; below = ended }
+      go e (at-inner h c z) =
+          let s = rec (regionAt rs i .children) (suc i) (regionAt rs i .first) (regionAt rs i .after) (regionAt rs i .yards) e z in
+          record { inside = h; children = s .roots; count = s .count; below = s .trees }
 
-  sibs-of : (l : ℕ) → ((i : ℕ) → 0 < subtree rs (suc l) i → Parts l i (subtree rs (suc l) i)) → (n i low high left : ℕ)
-      → 0 < siblings rs (subtree rs (suc l)) n i low high left → Sibs (suc l) n i (siblings rs (subtree rs (suc l)) n i low high left)
-  unfolding siblings
-  sibs-of l rec zero i low high left p = rw (choose-positive (eqb left 0) i p .1) (record { roots = []; count = refl; trees = ended })
-  sibs-of l rec (suc n) i low high left p =
-      let x = siblings-next rs (subtree rs (suc l)) n i low high left p in
-      let s = sibs-of l rec n (subtree rs (suc l) i) (regionAt rs i .after) high (left - regionAt rs i .yards) (rw (x .rest) at p) in
-      let g = rec i (x .found) in
-      rw (x .rest) (record { roots = i ∷ s .roots; count = ap suc (s .count); trees = tree (g .inside) (g .count) (g .below) (s .trees) })
+  no-sibs : (l i low high left e : ℕ) → siblings rs (subtree rs l) 0 i low high left ≡ endAt e → Sibs l 0 i e
+  no-sibs l i low high left e p =
+      let z = siblings-ended rs (subtree rs l) i low high left e p in
+      rw (← z .1) (record { roots = []; count = refl; trees = ended })
 
-  sibs : (l n i low high left : ℕ) → 0 < siblings rs (subtree rs l) n i low high left → Sibs l n i (siblings rs (subtree rs l) n i low high left)
-  unfolding siblings subtree
-  sibs zero zero i low high left p = rw (choose-positive (eqb left 0) i p .1) (record { roots = []; count = refl; trees = ended })
-  sibs zero (suc n) i low high left p = absurd (omega (arith, siblings-next rs (subtree rs zero) n i low high left p .found))
-  sibs (suc l) n i low high left p = sibs-of l (λ j q. parts-of l j (sibs l) q) n i low high left p
+  sibs-of : (l : ℕ) → ((i e : ℕ) → subtree rs (suc l) i ≡ endAt e → Parts l i e) → (n i low high left e : ℕ)
+      → siblings rs (subtree rs (suc l)) n i low high left ≡ endAt e → Sibs (suc l) n i e
+  sibs-of l rec zero i low high left e p = no-sibs (suc l) i low high left e p
+  sibs-of l rec (suc n) i low high left e p =
+      let x = siblings-next rs (subtree rs (suc l)) n i low high left e p in
+      let s = sibs-of l rec n (x .next) (regionAt rs i .after) high (left - regionAt rs i .yards) e (x .rest) in
+      let g = rec i (x .next) (x .found) in
+      record { roots = i ∷ s .roots; count = ap suc (s .count); trees = tree (g .inside) (g .count) (g .below) (s .trees) }
 
-  pub found-preorder : (l i : ℕ) → 0 < subtree rs (suc l) i → Preorder rs (suc l) i (i ∷ []) (subtree rs (suc l) i)
-  found-preorder l i p = let g = parts-of l i (sibs l) p in tree (g .inside) (g .count) (g .below) ended
+  sibs : (l n i low high left e : ℕ) → siblings rs (subtree rs l) n i low high left ≡ endAt e → Sibs l n i e
+  sibs zero zero i low high left e p = no-sibs zero i low high left e p
+  sibs zero (suc n) i low high left e p =
+      let x = siblings-next rs (subtree rs zero) n i low high left e p in
+      absurd (nowhere rs i (x .next) (x .found))
+  sibs (suc l) n i low high left e p = sibs-of l (λ j m q. parts-of l j m (sibs l) q) n i low high left e p
+
+  pub found-preorder : (l i e : ℕ) → subtree rs (suc l) i ≡ endAt e → Preorder rs (suc l) i (i ∷ []) e
+  found-preorder l i e p = let g = parts-of l i e (sibs l) p in tree (g .inside) (g .count) (g .below) ended
 
   -- ---- subtrees in preorder are where the descent says
 
@@ -127,16 +133,16 @@ module _ (t : Tree) (sane : Sane (t .regions)) (there : 1 ≤ length (t .regions
   abbrev rs : List Region
   rs = t .regions
 
-  pub root-end : subtree rs levels 0 ≡ length rs
+  pub root-end : subtree rs levels 0 ≡ endAt (length rs)
   unfolding shaped
-  root-end = eqb→eq (subtree rs levels 0) (length rs) (and-left (eqb (subtree rs levels 0) (length rs)) _ ok)
+  root-end = came-to (subtree rs levels 0) (length rs) (and-left (isAt (subtree rs levels 0) (length rs)) _ ok)
 
   pub root-forest : Rooted rs 0 (length rs)
-  root-forest = rw root-end at (tree-forest rs levels 0 (omega arith) (omega (arith, root-end)))
+  root-forest = tree-forest rs levels 0 (length rs) (omega arith) root-end
 
   pub root-yards : regionAt rs 0 .yards ≡ t .yards
   unfolding shaped
-  root-yards = eqb→eq (regionAt rs 0 .yards) (t .yards) (and-right (eqb (subtree rs levels 0) (length rs)) _ ok)
+  root-yards = eqb→eq (regionAt rs 0 .yards) (t .yards) (and-right (isAt (subtree rs levels 0) (length rs)) _ ok)
 
   pub ends-meet : EndsMeet rs
   ends-meet r h = end-hops rs sane root-forest r (omega arith) h
@@ -152,7 +158,7 @@ module _ (t : Tree) (sane : Sane (t .regions)) (there : 1 ≤ length (t .regions
   pub shape-facts : TreeShape t
   unfolding childrenOf
   shape-facts = record {
-    one-tree = rw root-end at (found-preorder rs 7 0 (omega (arith, root-end)));
+    one-tree = found-preorder rs 7 0 (length rs) root-end;
     ranges = λ r h cs c. rw (children-are rs ends-meet r cs c) (ranges-of r h);
     sums = λ r h p cs c. rw (children-are rs ends-meet r cs c) (forest-sum rs (inner-forest rs root-forest r (omega arith) h p));
     leaves = λ r h c. leaf-lists (regionAt rs r) (leaf-ok rs sane root-forest r (omega arith) h c);
@@ -165,22 +171,14 @@ module _ (t : Tree) (f : TreeShape t) where
   abbrev rs′ : List Region
   rs′ = t .regions
 
-  siblings-end : (g : ℕ → ℕ) (i low high : ℕ) → siblings rs′ g 0 i low high 0 ≡ i
-  unfolding siblings
-  siblings-end g i low high = choose-yes (eqb 0 0) i 0 (eq→eqb 0 0 refl)
-
-  up : {l i e : ℕ} {ks : List ℕ} → Preorder rs′ l i ks e → i + length ks ≤ e
-  up ended = omega arith
-  up (tree h c g k) = omega (arith, up g, up k)
-
   nothing-below : {l i e : ℕ} {ks : List ℕ} → Preorder rs′ l i ks e → length ks ≡ 0 → e ≡ i
   nothing-below ended z = refl
   nothing-below (tree h c g k) z = absurd (omega arith)
 
   -- the descent finds what the facts say
   found : {l i e : ℕ} {ks : List ℕ} → Preorder rs′ l i ks e → (low high : ℕ) → RangesRise rs′ low high ks
-      → siblings rs′ (subtree rs′ l) (length ks) i low high (yardSum rs′ ks) ≡ e
-  found (ended {levels = l} {i = i}) low high r = siblings-end (subtree rs′ l) i low high
+      → siblings rs′ (subtree rs′ l) (length ks) i low high (yardSum rs′ ks) ≡ endAt e
+  found (ended {levels = l} {i = i}) low high r = siblings-end rs′ (subtree rs′ l) i low high 0 refl
   found (tree {levels = l} {i = i} {m = m} {next = e} {children = cs} {roots = ks} h c g k) low high r =
       step (ℕ-discrete (regionAt rs′ i .children) 0) (found g (regionAt rs′ i .first) (regionAt rs′ i .after) (f .ranges i h cs kin)) (found k (regionAt rs′ i
       .after) high (r .2))
@@ -188,43 +186,31 @@ module _ (t : Tree) (f : TreeShape t) where
       kin : ChildrenOf rs′ i cs
       kin = record { count = c; levels = l; next = m; subtrees = g }
 
-      rest : subtree rs′ (suc l) i ≡ m → siblings rs′ (subtree rs′ (suc l)) (length ks) m (regionAt rs′ i .after) high (yardSum rs′ ks) ≡ e
-          → siblings rs′ (subtree rs′ (suc l)) (suc (length ks)) i low high (regionAt rs′ i .yards + yardSum rs′ ks) ≡ e
+      rest : subtree rs′ (suc l) i ≡ endAt m → siblings rs′ (subtree rs′ (suc l)) (length ks) m (regionAt rs′ i .after) high (yardSum rs′ ks) ≡ endAt e
+          → siblings rs′ (subtree rs′ (suc l)) (suc (length ks)) i low high (regionAt rs′ i .yards + yardSum rs′ ks) ≡ endAt e
       rest z x =
           let w : (regionAt rs′ i .yards + yardSum rs′ ks) - regionAt rs′ i .yards ≡ yardSum rs′ ks = omega arith in
-          siblings-step rs′ (subtree rs′ (suc l)) (length ks) i low high (regionAt rs′ i .yards + yardSum rs′ ks) (r .0) (r .1) (omega arith) (omega (
-            arith,
-            z,
-            up g,
-          )) ∙ rw (z, w) x
+          siblings-step rs′ (subtree rs′ (suc l)) (length ks) i low high (regionAt rs′ i .yards + yardSum rs′ ks) m (r .0) (r .1) (omega arith) z ∙ rw w x
 
-      inner : siblings rs′ (subtree rs′ l) (length cs) (suc i) (regionAt rs′ i .first) (regionAt rs′ i .after) (yardSum rs′ cs) ≡ m
+      inner : siblings rs′ (subtree rs′ l) (length cs) (suc i) (regionAt rs′ i .first) (regionAt rs′ i .after) (yardSum rs′ cs) ≡ endAt m
           → 0 < regionAt rs′ i .children → siblings rs′ (subtree rs′ l) (regionAt rs′ i .children) (suc i) (regionAt rs′ i .first) (regionAt rs′ i .after)
-          (regionAt rs′ i .yards) ≡ m
+          (regionAt rs′ i .yards) ≡ endAt m
       inner x p = rw (← c, f .sums i h p cs kin) x
 
       step : Dec (regionAt rs′ i .children ≡ 0)
-          → siblings rs′ (subtree rs′ l) (length cs) (suc i) (regionAt rs′ i .first) (regionAt rs′ i .after) (yardSum rs′ cs) ≡ m
-          → siblings rs′ (subtree rs′ (suc l)) (length ks) m (regionAt rs′ i .after) high (yardSum rs′ ks) ≡ e
-          → siblings rs′ (subtree rs′ (suc l)) (suc (length ks)) i low high (regionAt rs′ i .yards + yardSum rs′ ks) ≡ e
-      step (yes x) p q = rest (subtree-leaf rs′ l i h x (lists-leaf (regionAt rs′ i) (f .leaves i h x)) ∙ sym (nothing-below g (c ∙ x))) q
+          → siblings rs′ (subtree rs′ l) (length cs) (suc i) (regionAt rs′ i .first) (regionAt rs′ i .after) (yardSum rs′ cs) ≡ endAt m
+          → siblings rs′ (subtree rs′ (suc l)) (length ks) m (regionAt rs′ i .after) high (yardSum rs′ ks) ≡ endAt e
+          → siblings rs′ (subtree rs′ (suc l)) (suc (length ks)) i low high (regionAt rs′ i .yards + yardSum rs′ ks) ≡ endAt e
+      step (yes x) p q = rest (subtree-leaf rs′ l i h x (lists-leaf (regionAt rs′ i) (f .leaves i h x)) ∙ ap endAt (sym (nothing-below g (c ∙ x)))) q
       step (no x) p q = rest (subtree-inner rs′ l i h (omega arith) ∙ inner p (omega arith)) q
 
-  root-found : subtree rs′ 8 0 ≡ length rs′
-  unfolding siblings
+  root-found : subtree rs′ levels 0 ≡ endAt (length rs′)
   root-found =
       let x = found (f .one-tree) (regionAt rs′ 0 .first) (regionAt rs′ 0 .after) (omega arith, omega arith, tt) in
-      let n = siblings-next rs′ (subtree rs′ 8) 0 0 (regionAt rs′ 0 .first) (regionAt rs′ 0 .after) (regionAt rs′ 0 .yards + 0) (omega (
-        arith,
-        x,
-        up (f
-            .one-tree),
-      )) in
-      let z = sym (n .rest) ∙ x in
-      sym (choose-positive (eqb ((regionAt rs′ 0 .yards + 0) - regionAt rs′ 0 .yards) 0) (subtree rs′ 8 0) (omega (arith, z, up (f .one-tree))) .1) ∙ z
+      let n = siblings-next rs′ (subtree rs′ levels) 0 0 (regionAt rs′ 0 .first) (regionAt rs′ 0 .after) (regionAt rs′ 0 .yards + 0) (length rs′) x in
+      let z = siblings-ended rs′ (subtree rs′ levels) (n .next) (regionAt rs′ 0 .after) (regionAt rs′ 0 .after) ((regionAt rs′ 0 .yards + 0) - regionAt rs′ 0
+      .yards) (length rs′) (n .rest) in
+      n .found ∙ ap endAt (z .1)
 
   pub facts-shaped : T (shaped t)
-  unfolding shaped
-  facts-shaped =
-      and-both (eqb (subtree rs′ levels 0) (length rs′)) _ (eq→eqb (subtree rs′ levels 0) (length rs′) (root-found))
-      (eq→eqb (regionAt rs′ 0 .yards) (t .yards) (f .root))
+  facts-shaped = shaped-by t levels (omega arith) root-found (f .root)

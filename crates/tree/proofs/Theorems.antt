@@ -26,7 +26,7 @@ use Rattle.tree.specs.Yards.{leaves, inners}
 use Rattle.tree.specs.Facts.{Preorder}
 use Rattle.tree.specs.Theorems.{TreeFacts, LeafOf, Regions, Holdings, Whole}
 use Rattle.tree_leaf.proofs.Named.{list-facts, first-length}
-use Rattle.tree.proofs.Forest.{Forest, none, leaf, wrap, join, rise, Rooted}
+use Rattle.tree.proofs.Forest.{Forest, none, leaf, wrap, join, end-is, rise, Rooted}
 use Rattle.tree.proofs.ForestLaws.{Sane, span, sum, span-split, span-none, span-leaf, span-inner, own-leaf, own-inner, visit, child, parent, adopted}
 use Rattle.tree.proofs.ForestLaws.{sub, leaf-ok, leaf-order, yard-count, yard-range, yard-once, leaf-count, inner-count}
 use Rattle.tree.proofs.Shaping.{inner-forest, EndsMeet, root-end, root-forest, root-yards, ends-meet, ranges-of, shape-facts, facts-shaped}
@@ -119,8 +119,7 @@ module _ (t : Tree) (sane : Sane (t .regions)) (there : 1 ≤ length (t .regions
   ends-at = ends-meet t sane there ok
 
   end-zero : endOf rs 0 ≡ length rs
-  unfolding endOf
-  end-zero = root-end t sane there ok
+  end-zero = end-is rs 0 (length rs) (root-end t sane there ok)
 
   subtree-at : (r : ℕ) → r < length rs → Rooted rs r (endOf rs r)
   subtree-at r h = sub rs sane root r (omega arith) h

@@ -4,6 +4,5 @@ pub mod Facts
 pub mod Theorems
 pub mod RegionYards
 pub mod Tests
-pub mod code
 pub mod Arrays
 pub mod Answer

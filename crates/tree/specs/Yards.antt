@@ -7,11 +7,19 @@ use lib.Dec.{eqb, ltb}
 use Rattle.book.specs.Choose.{choose}
 use Rattle.tree_layout.specs.Values.{Region, Tree, regionAt}
 use Rattle.tree_leaf.specs.Leaf.{yardsIn, firstList}
+use Rattle.tree.specs.declared.shape.End.{End}
+use Rattle.tree.specs.declared.shape.End.the-variants.{At, Broken}
 use Rattle.tree.specs.Shape.{subtree, levels}
 
--- the number of the region after region i's subtree
+-- the number of the region that a descent came to, or another number if it is `Broken`
+abbrev pub numberOr : ℕ → End → ℕ
+numberOr other (At r) = r .number
+numberOr other Broken = other
+
+-- the number of the region after region i's subtree. A shaped tree has no `Broken` one; the count of all regions, which
+-- is no region's number, stands in for it
 unfoldable pub endOf : List Region → ℕ → ℕ
-endOf rs i = subtree rs levels i
+endOf rs i = numberOr (length rs) (subtree rs levels i)
 
 -- the numbers of n siblings, the first of number i; `f` gives the number after a subtree
 unfoldable pub starts : (ℕ → ℕ) → ℕ → ℕ → List ℕ

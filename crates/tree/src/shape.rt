@@ -4,10 +4,8 @@ use tree_layout::Fields;
 use tree_layout::Region;
 use tree_layout::records;
 ghost use mathlib.Core.Path.{_≡_};
-ghost use Prim.Native.Nat.{_+_, _≤_, _<_};
 ghost use Rattle.tree_layout.specs.Decode.{decode};
 ghost use Rattle.tree.specs.Shape.{childFits, siblings, subtree, shaped};
-ghost use Rattle.tree.specs.code.Ends.{endAt};
 ghost use Rattle.tree.specs.Arrays.{Laid};
 
 // What the descent of a subtree finds: the region after it, or that a rule of the shape doesn't hold.
@@ -32,7 +30,7 @@ fn child_fits(c: Fields, low: u16, high: u16, left: u16) -> bool
 // The end of r's subtree, with so many levels left.
 pub fn subtree_end(b: &[u8], places: &[usize], levels: usize, r: Region) -> End
     requires { ⌜ Laid (now b) (now places) ⌝ }
-    ensures { λ e. ⌜ e ≡ endAt (subtree (decode (now (b .entry)) .regions) levels (r .number)) ⌝ }
+    ensures { λ e. ⌜ e ≡ subtree (decode (now (b .entry)) .regions) levels (r .number) ⌝ }
 {
     if levels == 0 {
         return End::Broken;
@@ -62,7 +60,7 @@ pub fn subtree_end(b: &[u8], places: &[usize], levels: usize, r: Region) -> End
     End::At(next)
 }
 
-// The end of the last subtree of n siblings from r on, which is not the root: in a range, with the yards that are left.
+// The end of the last subtree of n siblings from r on, in a range, with the yards that are left.
 fn siblings_end(
     b: &[u8],
     places: &[usize],
@@ -73,9 +71,9 @@ fn siblings_end(
     high: u16,
     left: u16,
 ) -> End
-    requires { ⌜ Laid (now b) (now places) × (1 ≤ r .number) ⌝ }
-    ensures { λ e. ⌜ e ≡ endAt (siblings (decode (now (b .entry)) .regions)
-        (subtree (decode (now (b .entry)) .regions) levels) n (r .number) low high left) ⌝ }
+    requires { ⌜ Laid (now b) (now places) ⌝ }
+    ensures { λ e. ⌜ e ≡ siblings (decode (now (b .entry)) .regions)
+        (subtree (decode (now (b .entry)) .regions) levels) n (r .number) low high left ⌝ }
 {
     if n == 0 {
         if left != 0 {

@@ -1,12 +1,10 @@
 -- The proof of the cycle of calls {siblings_end, subtree_end}: each answers as the definition does, which descends the same way. The measure is the levels
 -- that are left; along siblings, at one level, it is how many of them are left, of which there are fewer than a thousand. Assumes nothing.
-use mathlib.Core.Path.{refl, sym, ap, _∙_}
+use mathlib.Core.Path.{sym, _∙_}
 use native.Mathlib.Omega.{arith}
 use borrow.Author.Tests.{not-true, not-false}
 use Rattle.tree.proofs.Recursing.{none-left, past-end, at-inner, at-leaf, at-bad, at-good, sum-over, sum-done, none-there, sub-none, not-fitting}
 use Rattle.tree.proofs.Recursing.{fitting, goes-on}
-use Rattle.tree.specs.code.Ends.{endAt}
-use Rattle.tree.proofs.EndNumbers.{broken, reached, broken-zero, reached-number}
 use borrow.Author.Needs.{needs}
 use Prim.Native.Nat.{ℕ, _+_, _*_, _-_, _<_}
 use borrow.Fn.Kinds.{In}
@@ -75,12 +73,12 @@ subtree-end-calls t = (
 siblings-end-returns : (t : ℕ) → siblings-end-lts.Need-returns (siblings-end-calls t) (siblings-end-at t) siblings-end.Post
 siblings-end-returns t c =
     let s = c .before .before .before .before in
-    broken _ (sum-over _ _ (s .pre .1 .0) _ _ _ _ _ (s .args .left) (c .before .if1 .taken) (λ e. omega (arith, e, c .if2 .taken)))
+    sum-over _ _ (s .pre .1) _ _ _ _ _ (s .args .left) (c .before .if1 .taken) (λ e. omega (arith, e, c .if2 .taken))
 
 siblings-end-returns-2 : (t : ℕ) → siblings-end-lts.Need-returns-2 (siblings-end-calls t) (siblings-end-at t) siblings-end.Post
 siblings-end-returns-2 t c =
     let s = c .before .before .before .before in
-    reached _ _ (sum-done _ _ (s .pre .1 .0) _ _ _ _ _ (s .args .left) (c .before .if1 .taken) (omega (arith, c .if2 .left))) (s .pre .1 .1)
+    sum-done _ _ (s .pre .1) _ _ _ _ _ (s .args .left) (c .before .if1 .taken) (omega (arith, c .if2 .left))
 
 siblings-end-cast-if3 : (t : ℕ) → siblings-end-lts.Need-cast-if3 (siblings-end-calls t) (siblings-end-at t) siblings-end.Post
 siblings-end-cast-if3 t c = search needs
@@ -89,7 +87,7 @@ siblings-end-returns-3 : (t : ℕ) → siblings-end-lts.Need-returns-3 (siblings
 siblings-end-returns-3 t c =
     let e = c .before .before in
     let s = e .before .before .before in
-    broken _ (none-there _ _ (s .pre .1 .0) _ _ _ _ _ _ (e .if1 .left) (c .if3 .taken))
+    none-there _ _ (s .pre .1) _ _ _ _ _ _ (e .if1 .left) (c .if3 .taken)
 
 siblings-end-fields-requires : (t : ℕ) → siblings-end-lts.Need-fields-requires (siblings-end-calls t) (siblings-end-at t) siblings-end.Post
 siblings-end-fields-requires t c κs = search needs
@@ -102,8 +100,8 @@ siblings-end-returns-4 t c =
     let f = c .before .before in
     let e = f .before .before .before in
     let s = e .before .before .before in
-    broken _ (not-fitting _ _ (s .pre .1 .0) _ _ _ _ _ _ (e .if1 .left) _ (f .fields .ensures) (sym (c .before .child-fits .ensures)
-    ∙ not-true _ (c .if4 .taken)))
+    not-fitting _ _ (s .pre .1) _ _ _ _ _ _ (e .if1 .left) _ (f .fields .ensures) (sym (c .before .child-fits .ensures)
+    ∙ not-true _ (c .if4 .taken))
 
 siblings-end-subtree-end-requires : (t : ℕ) → siblings-end-lts.Need-subtree-end-requires (siblings-end-calls t) (siblings-end-at t) siblings-end.Post
 siblings-end-subtree-end-requires t c κs = search needs
@@ -120,7 +118,7 @@ siblings-end-returns-5 t c =
     let f = d .before .before .before in
     let e = f .before .before .before in
     let s = e .before .before .before in
-    broken _ (sub-none _ _ (s .pre .1 .0) _ _ _ _ _ _ (e .if1 .left) 0 (sym (broken-zero _ _ (d .subtree-end .ensures) (c .enum-told .given .1))) refl)
+    sub-none _ _ (s .pre .1) _ _ _ _ _ _ (e .if1 .left) _ (d .subtree-end .ensures) (c .enum-told .given .1)
 
 siblings-end-sub-siblings-end : (t : ℕ) → siblings-end-lts.Need-sub-siblings-end (siblings-end-calls t) (siblings-end-at t) siblings-end.Post
 siblings-end-sub-siblings-end t c = search needs
@@ -131,14 +129,11 @@ siblings-end-sub-siblings-end-2 t c =
     let f = d .before .before .before in
     let e = f .before .before .before in
     let s = e .before .before .before in
-    fitting _ _ (s .pre .1 .0) 0 _ _ _ _ _ (e .if1 .left) _ (f .fields .ensures) (sym (d .before .before .child-fits .ensures)
+    fitting _ _ (s .pre .1) 0 _ _ _ _ _ (e .if1 .left) _ (f .fields .ensures) (sym (d .before .before .child-fits .ensures)
     ∙ not-false _ (d .before .if4 .left))
 
 siblings-end-siblings-end-requires : (t : ℕ) → siblings-end-lts.Need-siblings-end-requires (siblings-end-calls t) (siblings-end-at t) siblings-end.Post
-siblings-end-siblings-end-requires t c κs =
-    let d = c .before .before .before .before in
-    let s = d .before .before .before .before .before .before .before .before .before in
-    (search needs, (s .pre .1 .0, reached-number _ _ _ (d .subtree-end .ensures) (c .before .before .end .given .1) .1))
+siblings-end-siblings-end-requires t c κs = search needs
 
 siblings-end-returns-6 : (t : ℕ) → siblings-end-lts.Need-returns-6 (siblings-end-calls t) (siblings-end-at t) siblings-end.Post
 siblings-end-returns-6 t c =
@@ -147,14 +142,13 @@ siblings-end-returns-6 t c =
     let f = d .before .before .before in
     let e = f .before .before .before in
     let s = e .before .before .before in
-    let q = reached-number _ _ _ (d .subtree-end .ensures) (x .end .given .1) in
-    c .siblings-end .ensures ∙ ap endAt (goes-on _ _ (s .pre .1 .0) _ _ _ _ _ _ (e .if1 .left) _ (f .fields .ensures)
-    (sym (d .before .before .child-fits .ensures) ∙ not-false _ (d .before .if4 .left)) _ (q .0) (omega (arith, q .1)))
+    c .siblings-end .ensures ∙ goes-on _ _ (s .pre .1) _ _ _ _ _ _ (e .if1 .left) _ (f .fields .ensures)
+    (sym (d .before .before .child-fits .ensures) ∙ not-false _ (d .before .if4 .left)) _ _ (d .subtree-end .ensures) (x .end .given .1)
 
 subtree-end-returns : (t : ℕ) → subtree-end-lts.Need-returns (subtree-end-calls t) (subtree-end-at t) subtree-end.Post
 subtree-end-returns t c =
     let s = c .before .before .before in
-    broken _ (none-left _ _ (s .pre .1) _ _ (c .if1 .taken))
+    none-left _ _ (s .pre .1) _ _ (c .if1 .taken)
 
 subtree-end-cast-if2 : (t : ℕ) → subtree-end-lts.Need-cast-if2 (subtree-end-calls t) (subtree-end-at t) subtree-end.Post
 subtree-end-cast-if2 t c = search needs
@@ -162,7 +156,7 @@ subtree-end-cast-if2 t c = search needs
 subtree-end-returns-2 : (t : ℕ) → subtree-end-lts.Need-returns-2 (subtree-end-calls t) (subtree-end-at t) subtree-end.Post
 subtree-end-returns-2 t c =
     let s = c .before .before .before .before .before in
-    broken _ (past-end _ _ (s .pre .1) _ _ (c .if2 .taken))
+    past-end _ _ (s .pre .1) _ _ (c .if2 .taken)
 
 subtree-end-fields-requires : (t : ℕ) → subtree-end-lts.Need-fields-requires (subtree-end-calls t) (subtree-end-at t) subtree-end.Post
 subtree-end-fields-requires t c κs = search needs
@@ -181,8 +175,7 @@ subtree-end-returns-3 t c =
     let f = c .before .before .before .before in
     let e = f .before .before .before in
     let s = e .before .before .before in
-    c .siblings-end .ensures ∙ ap endAt (at-inner _ _ (s .pre .1) _ _ (e .if1 .left) (f .before .if2 .left) _ (f .fields .ensures) _
-    (c .before .if3 .taken) refl)
+    c .siblings-end .ensures ∙ at-inner _ _ (s .pre .1) _ _ (e .if1 .left) (f .before .if2 .left) _ (f .fields .ensures) (c .before .if3 .taken)
 
 subtree-end-leaf-ok-requires : (t : ℕ) → subtree-end-lts.Need-leaf-ok-requires (subtree-end-calls t) (subtree-end-at t) subtree-end.Post
 subtree-end-leaf-ok-requires t c κs =
@@ -197,8 +190,8 @@ subtree-end-returns-4 t c =
     let f = g .before .before .before in
     let e = f .before .before .before in
     let s = e .before .before .before in
-    broken _ (at-bad _ _ (s .pre .1) _ _ (e .if1 .left) (f .before .if2 .left) _ (f .fields .ensures) (g .if3 .left) (sym (c .before .leaf-ok .ensures)
-    ∙ not-true _ (c .if4 .taken)))
+    at-bad _ _ (s .pre .1) _ _ (e .if1 .left) (f .before .if2 .left) _ (f .fields .ensures) (g .if3 .left) (sym (c .before .leaf-ok .ensures)
+    ∙ not-true _ (c .if4 .taken))
 
 subtree-end-returns-5 : (t : ℕ) → subtree-end-lts.Need-returns-5 (subtree-end-calls t) (subtree-end-at t) subtree-end.Post
 subtree-end-returns-5 t c =
@@ -206,8 +199,8 @@ subtree-end-returns-5 t c =
     let f = g .before .before .before in
     let e = f .before .before .before in
     let s = e .before .before .before in
-    reached _ _ (at-good _ _ (s .pre .1) _ _ (e .if1 .left) (f .before .if2 .left) _ (f .fields .ensures) (g .if3 .left) (sym (c .before .leaf-ok .ensures)
-    ∙ not-false _ (c .if4 .left))) (omega arith)
+    at-good _ _ (s .pre .1) _ _ (e .if1 .left) (f .before .if2 .left) _ (f .fields .ensures) (g .if3 .left) (sym (c .before .leaf-ok .ensures)
+    ∙ not-false _ (c .if4 .left))
 
 pub +siblings-end+subtree-end-spec : {M : Type 1} → statement M
 +siblings-end+subtree-end-spec = close μ-siblings-end μ-subtree-end (λ t. siblings-end-lts.spec (siblings-end-calls t)

@@ -1,9 +1,6 @@
-use native.Mathlib.Omega.{arith}
-use mathlib.Core.Path.{sym}
 use Rattle.tree_layout.proofs.Accessing.{its-yards}
-use Rattle.tree.proofs.EndNumbers.{broken-zero, reached-number}
 use Rattle.tree.proofs.Fielding.{laid-header}
-use Rattle.tree.proofs.Recursing.{not-all, takes-all}
+use Rattle.tree.proofs.Recursing.{not-one, not-all, takes-all}
 use borrow.Author.Needs.{needs}
 use Rattle.tree.proofs.shape.keeps_shape.Statement.{statement}
 use Rattle.tree.proofs.shape.keeps_shape.Tie as tie
@@ -20,8 +17,7 @@ enum-told c = search needs
 returns : tie.Need-returns
 returns c =
     let d = c .before .before in
-    let p = d .before .before .before .pre in
-    not-all _ _ p 0 (sym (broken-zero _ _ (d .subtree-end .ensures) (c .enum-told .given .1))) (λ e. omega (arith, p .count, p .layout .regions .0))
+    not-one _ _ (d .before .before .before .pre) _ (d .subtree-end .ensures) (c .enum-told .given .1)
 
 cast-if1 : tie.Need-cast-if1
 cast-if1 c = search needs
@@ -30,8 +26,7 @@ returns-2 : tie.Need-returns-2
 returns-2 c =
     let o = c .before .before .before in
     let d = o .before .before in
-    let q = reached-number _ _ _ (d .subtree-end .ensures) (o .end .given .1) in
-    not-all _ _ (d .before .before .before .pre) _ (q .0) (c .if1 .taken)
+    not-all _ _ (d .before .before .before .pre) _ (d .subtree-end .ensures) _ (o .end .given .1) (c .if1 .taken)
 
 fields-requires : tie.Need-fields-requires
 fields-requires c κs = search needs
@@ -43,8 +38,7 @@ returns-3 : tie.Need-returns-3
 returns-3 c =
     let o = c .before .before .before .before .before .before .before in
     let d = o .before .before in
-    let q = reached-number _ _ _ (d .subtree-end .ensures) (o .end .given .1) in
-    takes-all _ _ (d .before .before .before .pre) _ (q .0) (c .before .before .before .before .if1 .left) _
+    takes-all _ _ (d .before .before .before .pre) _ (d .subtree-end .ensures) _ (o .end .given .1) (c .before .before .before .before .if1 .left) _
     (c .before .before .before .fields .ensures) _ (its-yards _ _ (c .before .before .header .ensures))
 
 pub keeps-shape-spec : {M : Type 1} → statement M
