@@ -19,7 +19,8 @@ ghost use Rattle.check_distances.specs.code.Beside.{Marked};
 
 // The lesser of x and yard y's distance, if y lies in the region's range; else x.
 fn least_with(ds: &[u32], f: Fields, x: u32, y: Junction) -> u32
-    ensures { λ r. ⌜ r ≡ leastDistanceFrom (at (now (ds .entry))) x (within (f .first .number) (f .after) (y .number ∷ [])) ⌝ }
+    ensures { λ r. ⌜ r ≡ leastDistanceFrom (at (now (ds .entry))) x
+        (within (f .first .number) (f .after) (y .number ∷ [])) ⌝ }
 {
     if y.number < f.first.number {
         return x;
@@ -36,7 +37,8 @@ fn least_with(ds: &[u32], f: Fields, x: u32, y: Junction) -> u32
 
 // The greater of x and yard y's distance, if y lies in the region's range; else x.
 fn greatest_with(ds: &[u32], f: Fields, x: u32, y: Junction) -> u32
-    ensures { λ r. ⌜ r ≡ greatestFrom (at (now (ds .entry))) x (within (f .first .number) (f .after) (y .number ∷ [])) ⌝ }
+    ensures { λ r. ⌜ r ≡ greatestFrom (at (now (ds .entry))) x
+        (within (f .first .number) (f .after) (y .number ∷ [])) ⌝ }
 {
     if y.number < f.first.number {
         return x;

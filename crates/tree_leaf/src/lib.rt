@@ -99,10 +99,12 @@ fn all_agree(
 ) -> bool
     requires { ⌜ (start + m * leafMarkSize (f .yards) ≤ length (now b)) × (1 ≤ m) × (f .after ≤ 1024)
         × (length (now members) ≡ 1024)
-        × (fits (f .first .number) (f .after) (readList (listPart (now b) (f .yards) (start + junctionSize)) (f .yards) 0)
+        × (fits (f .first .number) (f .after)
+        (readList (listPart (now b) (f .yards) (start + junctionSize)) (f .yards) 0)
         ≡ true)
         × (now named ≡ membersOf (readList (listPart (now b) (f .yards) (start + junctionSize)) (f .yards) 0)) ⌝ }
-    ensures { λ r. ⌜ r ≡ agreeing (f .first .number) (f .after) (firstList (readLists (now (b .entry)) (f .yards) m start))
+    ensures { λ r. ⌜ r ≡ agreeing (f .first .number) (f .after)
+        (firstList (readLists (now (b .entry)) (f .yards) m start))
         (readLists (now (b .entry)) (f .yards) m start) ⌝ }
 {
     let n = f.yards as usize;
@@ -123,7 +125,8 @@ fn all_agree(
 // Whether the lists of a leaf with m landmarks from a place on name the same yards, each once, inside the leaf's range.
 fn lists_agree(b: &[u8], start: usize, m: usize, f: Fields) -> bool
     requires { ⌜ (start + m * leafMarkSize (f .yards) ≤ length (now b)) × (f .after ≤ 1024) ⌝ }
-    ensures { λ r. ⌜ r ≡ agreeing (f .first .number) (f .after) (firstList (readLists (now (b .entry)) (f .yards) m start))
+    ensures { λ r. ⌜ r ≡ agreeing (f .first .number) (f .after)
+        (firstList (readLists (now (b .entry)) (f .yards) m start))
         (readLists (now (b .entry)) (f .yards) m start) ⌝ }
 {
     if m == 0 {
