@@ -1,6 +1,6 @@
 # README.md says what each of these is for.
 PREFIX ?= /usr/local
-PROGRAMS := list outline eccentricity
+PROGRAMS := list within outline eccentricity
 LIBRARY := target/staticlib/libfinder.a
 VERSION := $(shell sed -n 's/^.define FINDER_VERSION "\([^"]*\)".*/\1/p' include/finder.h)
 

@@ -26,7 +26,7 @@
 extern "C" {
 #endif
 
-#define FINDER_VERSION "1.0.0" /* of this header and the library */
+#define FINDER_VERSION "1.1.0" /* of this header and the library */
 #define FINDER_BOOK_VERSION 1  /* the version byte of every book */
 
 /* The greatest counts and values of books and calls. Of junctions, yards, regions, landmarks, crews, k and the leaf
@@ -45,9 +45,11 @@ extern "C" {
 #define FINDER_K_MAX 64
 #define FINDER_SETTLING_LIMIT 767    /* steps that settle every search on a tree that passes the check */
 
-/* How long areas have to be; a query of fewer than 64 yards needs only 2 * k result words. */
+/* How long areas have to be; a query of fewer than 64 yards needs only 2 * k result words, and a drive search of a tree
+ * with fewer than 256 only two for each. */
 #define FINDER_WORK_WORDS 16384
-#define FINDER_RESULT_WORDS 128
+#define FINDER_RESULT_WORDS 128 /* for finder_search */
+#define FINDER_WITHIN_WORDS 512 /* result words for finder_within */
 #define FINDER_TREE_BYTES 21981 /* for a build; no built tree is longer */
 
 /* The stack that a call takes at most, with room to spare. Measured by tests/stack.c on x86-64, and not proved. */
@@ -114,6 +116,22 @@ struct finder_found {
 struct finder_found finder_search(const uint8_t *road, size_t road_len, const uint8_t *tree, size_t tree_len,
                                   const uint8_t *query, size_t query_len, uint32_t *work, size_t work_len,
                                   uint32_t *results, size_t results_len);
+
+/* Searches a tree beside a road book for every yard whose aggregate of true distances to the crews is at most so many
+ * seconds, any number from 0 to UINT32_MAX. The query's k is tested, and not used otherwise.
+ *
+ * The search goes by finder_search's steps, within the query's limit of them, and is settled as soon as no yard or
+ * region is left to take whose key is at most the seconds. What it returns and writes is as there: a settled search
+ * writes a yard and its aggregate distance for each yard listed, each yard once, the least first, yards of equal
+ * distance by junction; a spent one writes nothing. The limits that settle every search are the same. However many
+ * yards are within the seconds, results holds two words for each yard of the tree, or the call is refused by 12.
+ *
+ * On a tree that passes the check beside these roads the list is exactly the tree's yards within the seconds, and no
+ * yard is measured whose bound exceeds them. On a tree that a check would refuse by 9 the list's yards are distinct, in
+ * order, with true distances and within the seconds, but a yard may be left out. */
+struct finder_found finder_within(const uint8_t *road, size_t road_len, const uint8_t *tree, size_t tree_len,
+                                  const uint8_t *query, size_t query_len, uint32_t seconds,
+                                  uint32_t *work, size_t work_len, uint32_t *results, size_t results_len);
 
 #ifdef __cplusplus
 }

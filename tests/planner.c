@@ -1,5 +1,6 @@
-/* A small planner: builds a tree for net N, checks it, then damaged ones, searches it, and prints. In what it prints
- * every returned field has a number of its own somewhere, so that no two can be exchanged unseen. */
+/* A small planner: builds a tree for net N, checks it, then damaged ones, searches it, for two yards and within drives,
+ * and prints. In what it prints every returned field has a number of its own somewhere, so that no two can be exchanged
+ * unseen. */
 #include <stdio.h>
 
 #include "finder.h"
@@ -21,11 +22,13 @@ static uint8_t query[] = {0, 0, 0, 12, FINDER_BOOK_VERSION, FINDER_SUM, 2, 0, 0,
 #define LIMIT 10
 #define LAST_CREW 15
 
-/* The tree's area, and the work and result areas with words after them that no call may change. */
+/* The tree's area, and the work and result areas with words after them that no call may change. A search for two yards
+ * is lent four result words, a drive search two for each of the tree's three yards. */
 #define RESULT_WORDS 4
+#define WITHIN_WORDS 6
 static uint8_t tree[FINDER_TREE_BYTES];
 static uint32_t work[FINDER_WORK_WORDS + 2];
-static uint32_t results[RESULT_WORDS + 2];
+static uint32_t results[WITHIN_WORDS + 2];
 
 /* Makes every work and result word 7. */
 static void fill_words(void)
@@ -34,7 +37,7 @@ static void fill_words(void)
 
     for (i = 0; i < FINDER_WORK_WORDS + 2; i++)
         work[i] = 7;
-    for (i = 0; i < RESULT_WORDS + 2; i++)
+    for (i = 0; i < WITHIN_WORDS + 2; i++)
         results[i] = 7;
 }
 
@@ -83,15 +86,19 @@ static void print_tree(size_t length)
     printf("\n  bytes changed after it %zu\n", after);
 }
 
-/* Prints the first yard of a list, where the tackle is to be reserved, and every result word. */
-static void print_results(const struct finder_found *found)
+/* Prints what a search returns, the first yard of its list, where the tackle is to be reserved, and every result
+ * word. */
+static void print_found(const char *call, struct finder_found found)
 {
     size_t i;
 
-    if (found->listed > 0)
+    report(call, found.refusal);
+    printf("  settled %u, listed %u, taken %u, measured %u\n", (unsigned)found.settled, (unsigned)found.listed,
+           (unsigned)found.taken, (unsigned)found.measured);
+    if (found.listed > 0)
         printf("  meet at yard %u, %u seconds\n", (unsigned)results[0], (unsigned)results[1]);
     printf("  results");
-    for (i = 0; i < RESULT_WORDS + 2; i++)
+    for (i = 0; i < WITHIN_WORDS + 2; i++)
         printf(" %u", (unsigned)results[i]);
     printf("\n");
 }
@@ -99,15 +106,17 @@ static void print_results(const struct finder_found *found)
 /* Searches the first bytes of the tree for what the query asks, with so many result words. */
 static void search(const char *call, size_t length, size_t words)
 {
-    struct finder_found found;
-
     fill_words();
-    found = finder_search(road, sizeof road, tree, length, query, sizeof query, work, FINDER_WORK_WORDS,
-                          results, words);
-    report(call, found.refusal);
-    printf("  settled %u, listed %u, taken %u, measured %u\n", (unsigned)found.settled, (unsigned)found.listed,
-           (unsigned)found.taken, (unsigned)found.measured);
-    print_results(&found);
+    print_found(call, finder_search(road, sizeof road, tree, length, query, sizeof query, work, FINDER_WORK_WORDS,
+                                    results, words));
+}
+
+/* Searches the first bytes of the tree for all yards within so many seconds, with so many result words. */
+static void within(const char *call, size_t length, uint32_t seconds, size_t words)
+{
+    fill_words();
+    print_found(call, finder_within(road, sizeof road, tree, length, query, sizeof query, seconds,
+                                    work, FINDER_WORK_WORDS, results, words));
 }
 
 /* The query's searches: three are settled, one is spent, the others are refused. */
@@ -129,6 +138,35 @@ static void search_all(size_t length)
     search("search for too many yards", length, RESULT_WORDS);
     query[LAST_CREW] = 5; /* there are junctions 0 to 4 */
     search("search for a crew at no junction", length, RESULT_WORDS);
+    query[LAST_CREW] = 2;
+    query[K] = 2;
+}
+
+/* The same tree with its landmark at junction 2, from where the yards are 3, 4 and 5 seconds away. For crews at 0 and
+ * 2 each yard's bound is 5 then, and the yards are 5, 13 and 15 seconds away in sum. */
+static void move_landmark(void)
+{
+    tree[20] = 2;
+    tree[24] = 3;
+    tree[30] = 4;
+    tree[36] = 5;
+}
+
+/* The query's drive searches: four are settled, one is spent, the others are refused. */
+static void within_all(size_t length)
+{
+    query[LIMIT] = 6;
+    within("yards within 4 seconds", length, 4, WITHIN_WORDS);
+    within("yards within 5 seconds", length, 5, WITHIN_WORDS);
+    within("yards within 14 seconds", length, 14, WITHIN_WORDS);
+    within("yards within any drive", length, UINT32_MAX, WITHIN_WORDS);
+    query[LIMIT] = 5;
+    within("yards within 14 seconds, of five steps", length, 14, WITHIN_WORDS);
+    within("yards within 5 seconds with short results", length, 5, WITHIN_WORDS - 1);
+    query[K] = 65;
+    within("yards within 5 seconds, k of 65", length, 5, WITHIN_WORDS);
+    query[LAST_CREW] = 5; /* there are junctions 0 to 4 */
+    within("yards within 5 seconds for a crew at no junction", length, 5, WITHIN_WORDS);
     query[LAST_CREW] = 2;
     query[K] = 2;
 }
@@ -157,5 +195,10 @@ int main(void)
 
     tree[length - 1] = 2; /* junction 2 is no yard */
     check("check of another yard", length, FINDER_WORK_WORDS);
+    tree[length - 1] = 4;
+
+    move_landmark();
+    check("check of another landmark", length, FINDER_WORK_WORDS);
+    within_all(length);
     return 0;
 }

@@ -1,15 +1,17 @@
-/* Each refusal by the header's name, and each of the header's limits: a call at the limit passes, and one above it is
- * refused. Prints what is not as expected. */
+/* Each refusal by the header's name, of a drive search by each of its books and areas, and each of the header's limits:
+ * a call at the limit passes, and one above it is refused. Prints what is not as expected. */
 #include <stdio.h>
+#include <string.h>
 
 #include "books.h"
 
 _Static_assert(FINDER_SETTLING_LIMIT == FINDER_REGIONS_MAX / 2 + 2 * FINDER_YARDS_MAX, "inner regions, twice yards");
+_Static_assert(FINDER_WITHIN_WORDS == 2 * FINDER_YARDS_MAX, "two words for each yard");
 
 static struct book road, yard, tree, query;
 static uint8_t built[FINDER_TREE_BYTES];
 static uint32_t work[FINDER_WORK_WORDS];
-static uint32_t results[FINDER_RESULT_WORDS];
+static uint32_t results[FINDER_WITHIN_WORDS];
 static unsigned calls, failures;
 
 static void expect(const char *what, uint32_t refusal, enum finder_refusal wanted)
@@ -51,6 +53,51 @@ static struct finder_found search_with(size_t words)
 static uint32_t search(void)
 {
     return search_with(FINDER_RESULT_WORDS).refusal;
+}
+
+/* Drive searches of net N: it has three yards, of 5, 13 and 15 seconds. */
+#define WITHIN_SECONDS 14
+#define WITHIN_WORDS 6
+
+/* What the areas hold before a drive search, and held if it is refused: no two words alike. */
+static uint32_t work_before[FINDER_WORK_WORDS];
+static uint32_t results_before[FINDER_WITHIN_WORDS];
+
+static void fill_areas(void)
+{
+    uint32_t i;
+
+    for (i = 0; i < FINDER_WORK_WORDS; i++)
+        work[i] = work_before[i] = 0x9e3779b9u * (i + 1);
+    for (i = 0; i < FINDER_WITHIN_WORDS; i++)
+        results[i] = results_before[i] = 0x85ebca6bu * (i + 1);
+}
+
+/* Whether the answer is of a refusal and no more: every other field is 0, and every word is as it was. */
+static int refused_alone(const struct finder_found *found)
+{
+    return found->settled == 0 && found->listed == 0 && found->taken == 0 && found->measured == 0
+        && memcmp(work, work_before, sizeof work) == 0 && memcmp(results, results_before, sizeof results) == 0;
+}
+
+/* A drive search with so many words of each area. */
+static struct finder_found within_with(uint32_t seconds, size_t work_words, size_t result_words)
+{
+    struct finder_found found;
+
+    fill_areas();
+    found = finder_within(road.bytes, road.length, tree.bytes, tree.length, query.bytes, query.length, seconds,
+                          work, work_words, results, result_words);
+    if (found.refusal != FINDER_ACCEPTED && !refused_alone(&found)) {
+        failures++;
+        printf("a drive search refused by %u answers or writes more than that\n", (unsigned)found.refusal);
+    }
+    return found;
+}
+
+static uint32_t within(void)
+{
+    return within_with(WITHIN_SECONDS, FINDER_WORK_WORDS, WITHIN_WORDS).refusal;
 }
 
 /* The call with one byte of a book changed. */
@@ -117,6 +164,90 @@ static void try_refusals(void)
     expect("a short result area", search_with(3).refusal, FINDER_REFUSED_AREA);
 }
 
+/* A book with another length: its count is right. */
+static void resize(const char *what, struct book *book, size_t length, enum finder_refusal wanted)
+{
+    size_t before = book->length;
+
+    book->length = length;
+    close_book(book);
+    expect(what, within(), wanted);
+    book->length = before;
+    close_book(book);
+}
+
+/* A book's opening and header, by a drive search. */
+static void try_opening(struct book *book, size_t header)
+{
+    size_t length = book->length;
+
+    for (book->length = 0; book->length < 5; book->length++)
+        expect("fewer than five bytes", within(), FINDER_REFUSED_LENGTH);
+    book->length = length - 1;
+    expect("a byte less than the count", within(), FINDER_REFUSED_LENGTH);
+    book->length = length + 1;
+    expect("a byte more than the count", within(), FINDER_REFUSED_LENGTH);
+    book->length = length;
+    change("version 0", book, 4, 0, within, FINDER_REFUSED_VERSION);
+    change("version 2", book, 4, 2, within, FINDER_REFUSED_VERSION);
+    resize("a header cut short", book, header - 1, FINDER_REFUSED_HEADER);
+    resize("the last record cut short", book, length - 1, FINDER_REFUSED_RECORDS);
+    resize("a byte after the last record", book, length + 1, FINDER_REFUSED_RECORDS);
+}
+
+/* Every refusal that a drive search can get, by each of its books. */
+static void try_refusals_of_within(void)
+{
+    write_net_n();
+    take_built(1, 3);
+    expect("within", within(), FINDER_ACCEPTED);
+    try_opening(&road, 9);
+    try_opening(&tree, 12);
+    try_opening(&query, 12);
+    change("no junction", &road, 6, 0, within, FINDER_REFUSED_HEADER);
+    change("no region", &tree, 8, 0, within, FINDER_REFUSED_HEADER);
+    change("no yard", &tree, 10, 0, within, FINDER_REFUSED_HEADER);
+    change("no landmark", &tree, 11, 0, within, FINDER_REFUSED_HEADER);
+    change("a road after the last", &road, 8, 3, within, FINDER_REFUSED_RECORDS);
+    change("a crew after the last", &query, 11, 1, within, FINDER_REFUSED_RECORDS);
+    change("a road of no seconds", &road, 14, 0, within, FINDER_REFUSED_VALUE);
+    change("distances that fall", &tree, 24, 10, within, FINDER_REFUSED_VALUE);
+    change("a junction without a road", &road, 6, 6, within, FINDER_REFUSED_UNREACHED);
+    change("a root that holds not all yards", &tree, 10, 2, within, FINDER_REFUSED_SHAPE);
+    change("a junction more than the roads have", &tree, 6, 6, within, FINDER_REFUSED_DISAGREE);
+    change("a distance one more, which a search takes", &tree, 36, 11, within, FINDER_ACCEPTED);
+    change("a crew at no junction", &query, 15, 5, within, FINDER_REFUSED_CREWS);
+    change("an aggregate that is none", &query, 5, FINDER_MAXIMUM + 1, within, FINDER_REFUSED_NUMBER);
+    change("k of 0", &query, 6, 0, within, FINDER_REFUSED_NUMBER);
+    change("k and one more", &query, 6, FINDER_K_MAX + 1, within, FINDER_REFUSED_NUMBER);
+    change("k, which is not used", &query, 6, FINDER_K_MAX, within, FINDER_ACCEPTED);
+    expect("no work area", within_with(5, 0, WITHIN_WORDS).refusal, FINDER_REFUSED_AREA);
+    expect("a short work area", within_with(5, FINDER_WORK_WORDS - 1, WITHIN_WORDS).refusal, FINDER_REFUSED_AREA);
+    expect("no result area", within_with(0, FINDER_WORK_WORDS, 0).refusal, FINDER_REFUSED_AREA);
+    expect("a short result area", within_with(0, FINDER_WORK_WORDS, WITHIN_WORDS - 1).refusal, FINDER_REFUSED_AREA);
+    write_query(&query, 2, 0, 0);
+    expect("no crew", within(), FINDER_REFUSED_CREWS);
+    write_query(&query, 2, FINDER_CREWS_MAX + 1, 0);
+    expect("crews and one more", within(), FINDER_REFUSED_CREWS);
+}
+
+/* Of two faults the one that is tested first refuses: road, tree, query, areas. */
+static void try_order_of_within(void)
+{
+    write_net_n();
+    take_built(1, 3);
+    query.bytes[6] = 0; /* k */
+    expect("k of 0, no areas", within_with(5, 0, 0).refusal, FINDER_REFUSED_NUMBER);
+    query.bytes[15] = 5; /* the last crew */
+    expect("a crew at no junction, k of 0", within_with(5, 0, 0).refusal, FINDER_REFUSED_CREWS);
+    tree.bytes[6] = 6; /* the junctions */
+    expect("a tree of more junctions before a bad query", within_with(5, 0, 0).refusal, FINDER_REFUSED_DISAGREE);
+    tree.bytes[10] = 2; /* the yards */
+    expect("a tree of another shape before that", within_with(5, 0, 0).refusal, FINDER_REFUSED_SHAPE);
+    road.bytes[6] = 6; /* the junctions */
+    expect("a road book before a tree book", within_with(5, 0, 0).refusal, FINDER_REFUSED_UNREACHED);
+}
+
 /* Every pair of 92 junctions, the first so many of them, has a road. */
 static void write_pairs(unsigned roads)
 {
@@ -152,6 +283,24 @@ static void try_limits_of_roads_and_yards(void)
     expect("check of a full leaf", check(), FINDER_ACCEPTED);
 }
 
+/* Every yard of a full tree is within the longest drive, and none within no drive; the words for all are asked for. */
+static void try_limits_of_within(void)
+{
+    struct finder_found all, none;
+
+    expect("words for each yard, one less", within_with(0, FINDER_WORK_WORDS, FINDER_WITHIN_WORDS - 1).refusal,
+           FINDER_REFUSED_AREA);
+    none = within_with(0, FINDER_WORK_WORDS, FINDER_WITHIN_WORDS);
+    expect("within 0 seconds", none.refusal, FINDER_ACCEPTED);
+    all = within_with(UINT32_MAX, FINDER_WORK_WORDS, FINDER_WITHIN_WORDS);
+    expect("within any drive", all.refusal, FINDER_ACCEPTED);
+    if (!none.settled || none.listed != 0 || !all.settled || all.listed != FINDER_YARDS_MAX) {
+        failures++;
+        printf("drives: settled %u, listed %u; settled %u, listed %u\n", (unsigned)none.settled, (unsigned)none.listed,
+               (unsigned)all.settled, (unsigned)all.listed);
+    }
+}
+
 /* On the district that the limits of roads and yards leave, with a tree of small leaves. */
 static void try_limits_of_queries(void)
 {
@@ -166,6 +315,7 @@ static void try_limits_of_queries(void)
         failures++;
         printf("the settling limit: settled %u, listed %u\n", (unsigned)found.settled, (unsigned)found.listed);
     }
+    try_limits_of_within();
     write_query(&query, FINDER_K_MAX + 1, FINDER_CREWS_MAX, 64);
     expect("k and one more", search(), FINDER_REFUSED_NUMBER);
     write_query(&query, FINDER_K_MAX, FINDER_CREWS_MAX + 1, 1);
@@ -204,6 +354,8 @@ static void try_limits_of_depth(void)
 int main(void)
 {
     try_refusals();
+    try_refusals_of_within();
+    try_order_of_within();
     try_limits_of_roads_and_yards();
     try_limits_of_queries();
     try_limits_of_trees();

@@ -13,7 +13,7 @@ static uint8_t area[AREA];
 static struct book road, yard, tree, query;
 static uint8_t built[FINDER_TREE_BYTES];
 static uint32_t work[FINDER_WORK_WORDS];
-static uint32_t results[FINDER_RESULT_WORDS];
+static uint32_t results[FINDER_WITHIN_WORDS];
 static uint32_t refusal;
 static ucontext_t here, there;
 
@@ -43,6 +43,12 @@ static void search(void)
 {
     refusal = finder_search(road.bytes, road.length, tree.bytes, tree.length, query.bytes, query.length,
                             work, FINDER_WORK_WORDS, results, FINDER_RESULT_WORDS).refusal;
+}
+
+static void within(void)
+{
+    refusal = finder_within(road.bytes, road.length, tree.bytes, tree.length, query.bytes, query.length, UINT32_MAX,
+                            work, FINDER_WORK_WORDS, results, FINDER_WITHIN_WORDS).refusal;
 }
 
 /* The stack that a call takes, in bytes. */
@@ -75,5 +81,5 @@ int main(void)
 {
     write_books();
     return measure("check", check, FINDER_CHECK_STACK_BYTES) + measure("build", build, FINDER_CHECK_STACK_BYTES)
-        + measure("search", search, FINDER_STACK_BYTES);
+        + measure("search", search, FINDER_STACK_BYTES) + measure("within", within, FINDER_STACK_BYTES);
 }

@@ -1,7 +1,9 @@
 // A peer in C++ for the bench: LEMON's Dijkstra over a road book.
 //   peer roads < ROAD                     what eccentricity prints
-//   peer search ROAD YARD QUERY SECONDS   brute force for a query, again and again for so many seconds:
-//                                         the shortest time in milliseconds, then a line `yard distance` for each listed yard
+//   peer search ROAD YARD QUERY SECONDS [DRIVE]
+//                                         brute force for a query, again and again for so many seconds:
+//                                         the shortest time in milliseconds, then a line `yard distance` for each listed yard;
+//                                         the first k, or all within DRIVE seconds
 // The books are taken to be accepted ones: nothing is tested.
 #include <lemon/dijkstra.h>
 #include <lemon/static_graph.h>
@@ -93,8 +95,9 @@ static void roads()
 
 using Ranked = std::vector<std::pair<uint64_t, unsigned>>;
 
-// The first k yards of a query, by a walk from each crew and all yards sorted. The graph is made from the book, as in a call.
-static Ranked first_yards(const Bytes &road, const Bytes &yard, const Bytes &query)
+// The first k yards of a query, or all within a drive, by a walk from each crew and the yards sorted. The graph is made
+// from the book, as in a call.
+static Ranked listed(const Bytes &road, const Bytes &yard, const Bytes &query, const uint64_t *drive)
 {
     const Roads district(road);
     Dijkstra dijkstra(district.graph, district.seconds);
@@ -108,21 +111,27 @@ static Ranked first_yards(const Bytes &road, const Bytes &yard, const Bytes &que
             total = query.at(5) == 0 ? total + d : std::max(total, d);
         }
     }
+    if (drive) {
+        const auto above = [drive](const auto &yard) { return yard.first > *drive; };
+        ranked.erase(std::remove_if(ranked.begin(), ranked.end(), above), ranked.end());
+    }
     std::sort(ranked.begin(), ranked.end());
-    ranked.resize(std::min<size_t>(ranked.size(), query.at(6)));
+    if (!drive)
+        ranked.resize(std::min<size_t>(ranked.size(), query.at(6)));
     return ranked;
 }
 
-static void search(char **arguments)
+static void search(char **arguments, bool within)
 {
     using Clock = std::chrono::steady_clock;
     const Bytes road = file_of(arguments[0]), yard = file_of(arguments[1]), query = file_of(arguments[2]);
+    const uint64_t drive = within ? strtoull(arguments[4], nullptr, 10) : 0;
     const auto end = Clock::now() + std::chrono::duration<double>(atof(arguments[3]));
     std::chrono::duration<double, std::milli> best(1e9);
     Ranked ranked;
     do {
         const auto start = Clock::now();
-        ranked = first_yards(road, yard, query);
+        ranked = listed(road, yard, query, within ? &drive : nullptr);
         best = std::min<decltype(best)>(best, Clock::now() - start);
     } while (Clock::now() < end);
     printf("%f\n", best.count());
@@ -134,10 +143,10 @@ int main(int count, char **arguments)
 {
     if (count == 2 && strcmp(arguments[1], "roads") == 0)
         roads();
-    else if (count == 6 && strcmp(arguments[1], "search") == 0)
-        search(arguments + 2);
+    else if ((count == 6 || count == 7) && strcmp(arguments[1], "search") == 0)
+        search(arguments + 2, count == 7);
     else {
-        fputs("usage: peer roads < ROAD | peer search ROAD YARD QUERY SECONDS\n", stderr);
+        fputs("usage: peer roads < ROAD | peer search ROAD YARD QUERY SECONDS [DRIVE]\n", stderr);
         return 2;
     }
     return 0;

@@ -62,13 +62,25 @@ pub fn first_k(all: &[Vec<u64>], yards: &[u16], query: &Query) -> Vec<(u64, u16)
     ranked
 }
 
-/// A search's list on a tree that passes; only the crews' distances are worked out.
+/// "exactly the tree's yards within the drive": "each yard whose aggregate is at most a given number of seconds".
+pub fn within(all: &[Vec<u64>], yards: &[u16], query: &Query, seconds: u32) -> Vec<(u64, u16)> {
+    let mut ranked = ranked(all, yards, query);
+    ranked.retain(|&(aggregate, _)| aggregate <= u64::from(seconds));
+    ranked
+}
+
+/// The list of a search for k yards on a tree that passes.
 pub fn list(road: &RoadBook, tree: &Tree, query: &Query) -> Vec<(u64, u16)> {
+    first_k(&crew_distances(road, query), &tree.yards_of(0), query)
+}
+
+/// The crews' distances, each at its junction's place; the others are left out.
+pub fn crew_distances(road: &RoadBook, query: &Query) -> Vec<Vec<u64>> {
     let mut all = vec![Vec::new(); usize::from(road.junctions)];
     for &crew in &query.crews {
         all[usize::from(crew)] = distances(road, crew);
     }
-    first_k(&all, &tree.yards_of(0), query)
+    all
 }
 
 /// A yard's bound on a tree that passes, from all distances.

@@ -24,4 +24,4 @@ pub mod generate;
 
 pub use build::{build, Built};
 pub use check::check;
-pub use search::{search, Found};
+pub use search::{ask, search, within, Asked, Found};

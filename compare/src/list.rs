@@ -1,21 +1,43 @@
-//! The list program.
+//! The list program and the within program.
 
 use std::fmt::Write;
 
 use crate::book::u32_at;
 use crate::refusal::WORK_WORDS;
-use crate::search::{search, Found};
+use crate::search::{ask, Asked, Found};
 
 /// The most bytes of input that a program takes.
 pub const MOST_INPUT: u64 = 65_536;
 
 /// "The list program reads road, tree and query books from standard input": what it prints for these bytes.
 pub fn list(input: &[u8]) -> String {
-    let (road, rest) = first_book(input);
+    asked(Asked::FirstK, input, &mut [0; 128])
+}
+
+/// Decimal seconds and a line end, then the books as list reads them; anything else before the line end that is
+/// not a decimal number below 4,294,967,296 prints `refused 1`.
+pub fn within(input: &[u8]) -> String {
+    let Some(end) = input.iter().position(|&byte| byte == b'\n') else {
+        return String::from("refused 1\n");
+    };
+    match seconds(&input[..end]) {
+        Some(seconds) => asked(Asked::Within(seconds), &input[end + 1..], &mut [0; 512]),
+        None => String::from("refused 1\n"),
+    }
+}
+
+/// A number of digits alone, if there is one of 32 bits.
+fn seconds(line: &[u8]) -> Option<u32> {
+    let digits = !line.is_empty() && line.iter().all(u8::is_ascii_digit);
+    digits.then(|| std::str::from_utf8(line).ok()?.parse().ok())?
+}
+
+/// What is printed for three books in turn.
+fn asked(asked: Asked, books: &[u8], results: &mut [u32]) -> String {
+    let (road, rest) = first_book(books);
     let (tree, query) = first_book(rest);
-    let mut results = [0; 128];
-    let found = search(road, tree, query, &mut [0; WORK_WORDS], &mut results);
-    printed(&found, &results)
+    let found = ask(asked, [road, tree, query], &mut [0; WORK_WORDS], results);
+    printed(&found, results)
 }
 
 /// "The first two each take four bytes and as many more as those count, or what is left if that is less".

@@ -10,12 +10,13 @@ use std::str::FromStr;
 use compare::eccentricity::eccentricity;
 use compare::generate::standard;
 use compare::list::{list, rows, MOST_INPUT};
-use compare::{build, check, search};
+use compare::{ask, build, check, Asked};
 
 const USAGE: &str = "usage: reference list < BYTES
        reference check ROAD YARD TREE WORK
        reference build ROAD YARD M LIMIT WORK AREA OUT
        reference search ROAD TREE QUERY WORK RESULTS
+       reference within ROAD TREE QUERY SECONDS WORK RESULTS
        reference roads ROAD|-
        reference generate grid|random|star|chain|ring|longchain SEED > ROAD
        reference generate yards N SEED > YARD
@@ -48,6 +49,7 @@ fn answer(arguments: &[OsString]) -> Result<Vec<u8>, String> {
         Some("check") => check_command(rest),
         Some("build") => build_command(rest),
         Some("search") => search_command(rest),
+        Some("within") => within_command(rest),
         Some("roads") => roads_command(rest),
         Some("generate") => generate_command(rest),
         _ => Err(format!("unknown command {}", command.display())),
@@ -87,10 +89,25 @@ fn build_command(arguments: &[OsString]) -> Result<Vec<u8>, String> {
 /// `reference search ROAD TREE QUERY WORK RESULTS`.
 fn search_command(arguments: &[OsString]) -> Result<Vec<u8>, String> {
     let [road, tree, query, work, results] = exactly(arguments)?;
-    let (road, tree, query) = (file(road)?, file(tree)?, file(query)?);
+    asked(Asked::FirstK, [road, tree, query], [work, results])
+}
+
+/// `reference within ROAD TREE QUERY SECONDS WORK RESULTS`.
+fn within_command(arguments: &[OsString]) -> Result<Vec<u8>, String> {
+    let [road, tree, query, seconds, work, results] = exactly(arguments)?;
+    let within = Asked::Within(number(seconds)?);
+    asked(within, [road, tree, query], [work, results])
+}
+
+/// What a search of these files on areas of these lengths answers and lists.
+fn asked(asked: Asked, files: [&OsString; 3], areas: [&OsString; 2]) -> Result<Vec<u8>, String> {
+    let [road, tree, query] = files;
+    let books = [file(road)?, file(tree)?, file(query)?];
+    let [work, results] = areas;
     let mut work = vec![0; length(work)?];
     let mut results = vec![0; length(results)?];
-    let found = search(&road, &tree, &query, &mut work, &mut results);
+    let books = books.each_ref().map(Vec::as_slice);
+    let found = ask(asked, books, &mut work, &mut results);
     let numbers = format!(
         "{} {} {} {} {}\n",
         found.refusal, found.settled, found.listed, found.taken, found.measured

@@ -75,6 +75,13 @@ fn checks_builds_and_searches() {
     assert_eq!(printed(&search, &[]), "0 1 2 9 4\n1 91\n2 91\n");
     let short = ["search", &road, &tree, &query, "16384", "3"];
     assert_eq!(printed(&short, &[]), "12 0 0 0 0\n");
+    let within = |seconds, words| {
+        let arguments = ["within", &road, &tree, &query, seconds, "16384", words];
+        printed(&arguments, &[])
+    };
+    assert_eq!(within("91", "10"), "0 1 4 9 4\n1 91\n2 91\n5 91\n6 91\n");
+    assert_eq!(within("90", "10"), "0 1 0 5 0\n");
+    assert_eq!(within("91", "9"), "12 0 0 0 0\n");
 }
 
 #[test]
@@ -125,7 +132,7 @@ fn generates() {
 #[test]
 fn usage() {
     let road = file("usage", &sound_road());
-    let wrong: [&[&str]; 14] = [
+    let wrong: [&[&str]; 17] = [
         &[],
         &["unknown"],
         &["list", "more"],
@@ -135,6 +142,9 @@ fn usage() {
         &["check", &road, &road, &road, "words"],
         &["build", &road, &road, "4294967296", "1", "1", "1", "out"],
         &["search", &road, &road, &road, "1"],
+        &["within", &road, &road, &road, "1", "1"],
+        &["within", &road, &road, &road, "4294967296", "1", "1"],
+        &["within", &road, &road, &road, "-1", "1", "1"],
         &["roads"],
         &["generate", "unknown", "1"],
         &["generate", "grid", "4294967296"],

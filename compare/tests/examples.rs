@@ -6,7 +6,7 @@ use compare::query::Aggregate;
 use compare::refusal::WORK_WORDS;
 use compare::road::Road;
 use compare::search::bound::{crew_bound, f};
-use compare::{build, check, query, road, search, yard, Built, Found};
+use compare::{build, check, query, road, search, within, yard, Built, Found};
 
 /// The roads of a chain with these seconds.
 fn chain(seconds: &[u16]) -> Vec<u8> {
@@ -124,6 +124,35 @@ fn k_64_lists_three_yards() {
     let (found, listed) = n_listed(&query::write(0, 64, 6, &[0, 2]));
     assert_eq!((found.settled, found.listed), (1, 3));
     assert_eq!(listed, [(1, 5), (3, 13), (4, 15)]);
+}
+
+/// Request 1 on N: the aggregates are 5, 13 and 15, whatever k is.
+#[test]
+fn within_a_drive() {
+    let (road, tree) = (n_road(), tree(&n_road(), &[1, 3, 4]));
+    let all = [1, 5, 3, 13, 4, 15];
+    for (seconds, listed) in [
+        (0, 0),
+        (4, 0),
+        (5, 1),
+        (12, 1),
+        (13, 2),
+        (14, 2),
+        (15, 3),
+        (u32::MAX, 3),
+    ] {
+        for k in [1, 64] {
+            let query = query::write(0, k, 6, &[0, 2]);
+            let mut results = [9; 7];
+            let work = &mut [9; WORK_WORDS];
+            let found = within(&road, &tree, &query, seconds, work, &mut results);
+            assert_eq!((found.refusal, found.settled), (0, 1));
+            assert_eq!(found.listed, listed, "{seconds} seconds");
+            let words = 2 * listed as usize;
+            assert_eq!(results[..words], all[..words]);
+            assert!(results[words..].iter().all(|&word| word == 9));
+        }
+    }
 }
 
 #[test]

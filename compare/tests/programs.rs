@@ -4,7 +4,7 @@ use std::fs;
 use std::path::{Path, PathBuf};
 
 use compare::build::AREA_BYTES;
-use compare::list::{list, MOST_INPUT};
+use compare::list::{list, within, MOST_INPUT};
 use compare::refusal::WORK_WORDS;
 use compare::road::Road;
 use compare::{build, query, road, search, yard};
@@ -106,25 +106,35 @@ fn examples_that_are_executed() {
     assert_eq!(lines.concat(), expected);
 }
 
-/// What the list program prints for a file, of which it takes at most 65,536 bytes.
-fn listed(file: &Path) -> String {
+/// What a program takes of a file: at most 65,536 bytes.
+fn input(file: &Path) -> Vec<u8> {
     let mut bytes = fs::read(file).unwrap();
     bytes.truncate(MOST_INPUT as usize);
-    list(&bytes)
+    bytes
 }
 
-#[test]
-fn cases_of_list() {
+/// Holds a program's cases against what the plain finder prints.
+fn cases(folder: &str, program: fn(&[u8]) -> String) {
     let mut cases = 0;
-    for entry in fs::read_dir(path("tests/cases/list")).unwrap() {
-        let input = entry.unwrap().path();
-        if input.extension().is_some_and(|extension| extension == "in") {
-            let expected = fs::read_to_string(input.with_extension("out")).unwrap();
-            assert_eq!(listed(&input), expected, "{}", input.display());
+    for entry in fs::read_dir(path(folder)).unwrap() {
+        let file = entry.unwrap().path();
+        if file.extension().is_some_and(|extension| extension == "in") {
+            let expected = fs::read_to_string(file.with_extension("out")).unwrap();
+            assert_eq!(program(&input(&file)), expected, "{}", file.display());
             cases += 1;
         }
     }
     assert!(cases > 0);
+}
+
+#[test]
+fn cases_of_list() {
+    cases("tests/cases/list", list);
+}
+
+#[test]
+fn cases_of_within() {
+    cases("tests/cases/within", within);
 }
 
 #[test]
@@ -133,7 +143,7 @@ fn the_listing_of_n() {
     let expected = "yard seconds\n1 5\n3 13\nmeasured 2 taken 4\n";
     for name in ["crates/list/stdin", "examples/net-n.list"] {
         assert_eq!(fs::read(path(name)).unwrap(), books);
-        assert_eq!(listed(&path(name)), expected);
+        assert_eq!(list(&input(&path(name))), expected);
     }
     let stdout = fs::read_to_string(path("crates/list/stdout")).unwrap();
     assert_eq!(stdout, expected);

@@ -6,7 +6,7 @@ use compare::build::AREA_BYTES;
 use compare::generate::damage::{self, Call, Case, Damage};
 use compare::generate::Numbers;
 use compare::refusal::WORK_WORDS;
-use compare::{build, check, query, search, tree, Found};
+use compare::{ask, build, check, query, tree, Asked, Found};
 
 /// Makes the call on areas that hold 7 everywhere; the answer is the refusal number.
 fn refusal(call: &Call) -> u32 {
@@ -31,12 +31,13 @@ fn refusal(call: &Call) -> u32 {
             area,
         } => build_refusal(&road, &yard, [m, leaf_limit], work, area),
         Call::Search {
+            asked,
             road,
             tree,
             query,
             work,
             results,
-        } => search_refusal(&road, &tree, &query, work, results),
+        } => search_refusal(asked, [&road, &tree, &query], work, results),
     }
 }
 
@@ -54,10 +55,10 @@ fn build_refusal(road: &[u8], yard: &[u8], parameters: [u32; 2], work: usize, ar
 }
 
 /// Makes the search.
-fn search_refusal(road: &[u8], tree: &[u8], query: &[u8], work: usize, results: usize) -> u32 {
+fn search_refusal(asked: Asked, books: [&[u8]; 3], work: usize, results: usize) -> u32 {
     let mut work = vec![7; work];
     let mut results = vec![7; results];
-    let found = search(road, tree, query, &mut work, &mut results);
+    let found = ask(asked, books, &mut work, &mut results);
     assert_work(found.refusal, &work);
     if found.refusal != 0 {
         let refusal = found.refusal;
@@ -108,11 +109,9 @@ fn sound_calls_are_accepted() {
 fn false_trees_are_searched() {
     let (road, query) = (damage::sound_road(), damage::sound_query());
     for Damage { cause, book, .. } in damage::false_trees() {
-        assert_eq!(
-            refusal(&damage::search_of(&road, &book, &query)),
-            0,
-            "{cause}"
-        );
+        for call in damage::searches_of(&road, &book, &query) {
+            assert_eq!(refusal(&call), 0, "{cause}");
+        }
     }
 }
 
@@ -137,6 +136,9 @@ fn the_earlier_book_is_refused() {
                 refusal(&damage::check_of(&r.book, &yard, &t.book)),
                 r.refusal
             );
+            for call in damage::searches_of(&r.book, &t.book, &damage::sound_query()) {
+                assert_eq!(refusal(&call), r.refusal);
+            }
         }
     }
     for t in &trees {
@@ -147,10 +149,9 @@ fn the_earlier_book_is_refused() {
             );
         }
         for q in &damage::queries() {
-            assert_eq!(
-                refusal(&damage::search_of(&road, &t.book, &q.book)),
-                t.refusal
-            );
+            for call in damage::searches_of(&road, &t.book, &q.book) {
+                assert_eq!(refusal(&call), t.refusal);
+            }
         }
     }
 }
@@ -191,6 +192,11 @@ fn damaged_calls() -> Vec<(Damage, WithBook)> {
     for d in damage::queries() {
         calls.push((d, |book| {
             damage::search_of(&damage::sound_road(), &damage::sound_tree(), book)
+        }));
+    }
+    for d in damage::queries() {
+        calls.push((d, |book| {
+            damage::within_of(0, &damage::sound_road(), &damage::sound_tree(), book)
         }));
     }
     calls
@@ -251,6 +257,29 @@ fn greatest_query_passes() {
         *results = 128;
     }
     assert_eq!(refusal(&call), 0);
+    for seconds in [0, u32::MAX] {
+        let (road, tree) = (damage::sound_road(), damage::sound_tree());
+        let call = damage::within_of(seconds, &road, &tree, &query);
+        assert_eq!(refusal(&call), 0, "k is not used");
+    }
+}
+
+/// "The result area holds two words for each yard in the tree": of a tree with 256.
+#[test]
+fn a_drive_search_holds_every_yard() {
+    let road = compare::generate::standard::road_book("grid", 1).unwrap();
+    let yard = compare::generate::standard::yard_book(256, 1).unwrap();
+    let mut tree = vec![0; AREA_BYTES];
+    let built = build(&road, &yard, 1, 4, &mut [0; WORK_WORDS], &mut tree);
+    tree.truncate(built.length as usize);
+    let query = query::write(0, 1, u32::MAX, &[0]);
+    for (words, expected) in [(2, 12), (511, 12), (512, 0), (515, 0)] {
+        for seconds in [0, u32::MAX] {
+            let books: [&[u8]; 3] = [&road, &tree, &query];
+            let asked = Asked::Within(seconds);
+            assert_eq!(search_refusal(asked, books, WORK_WORDS, words), expected);
+        }
+    }
 }
 
 #[test]
@@ -277,7 +306,9 @@ fn any_bytes_are_answered() {
         let [road, yard, tree, query] = damage::damaged_books(&mut numbers);
         assert!(refusal(&damage::check_of(&road, &yard, &tree)) <= 12);
         assert!(refusal(&damage::build_of(&road, &yard)) <= 12);
-        assert!(refusal(&damage::search_of(&road, &tree, &query)) <= 12);
+        for call in damage::searches_of(&road, &tree, &query) {
+            assert!(refusal(&call) <= 12);
+        }
         compare::list::list(&[road, tree, query].concat());
     }
 }
@@ -291,6 +322,8 @@ fn random_fields_are_answered() {
         let sound = damage::sound_road();
         assert!(refusal(&damage::check_of(&sound, &damage::sound_yard(), &tree)) <= 12);
         assert!(refusal(&damage::build_of(&sound, &yard)) <= 12);
-        assert!(refusal(&damage::search_of(&sound, &damage::sound_tree(), &query)) <= 12);
+        for call in damage::searches_of(&sound, &damage::sound_tree(), &query) {
+            assert!(refusal(&call) <= 12);
+        }
     }
 }

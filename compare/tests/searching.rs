@@ -3,6 +3,7 @@
 use std::collections::BTreeSet;
 
 use compare::build::AREA_BYTES;
+use compare::generate::call::seconds;
 use compare::generate::damage::random_damage;
 use compare::generate::district::{district, false_tree, query_book, random_tree};
 use compare::generate::{standard, Numbers};
@@ -11,16 +12,21 @@ use compare::refusal::WORK_WORDS;
 use compare::road::RoadBook;
 use compare::search::{run, tested};
 use compare::tree::Tree;
-use compare::{brute, build, check, road, search, tree, yard, Found};
+use compare::{ask, brute, build, check, road, search, tree, within, yard, Asked, Found};
 
-/// The three books of a search.
+/// The three books of a search, and what it is asked for.
 struct Books {
+    asked: Asked,
     road: Vec<u8>,
     tree: Vec<u8>,
     query: Vec<u8>,
 }
 
 impl Books {
+    fn all(&self) -> [&[u8]; 3] {
+        [&self.road, &self.tree, &self.query]
+    }
+
     /// "A tree passes beside a road book if check gives 0 for the two with some yard book and a full work area".
     fn passes(&self) -> bool {
         let Ok(road) = road::read(&self.road) else {
@@ -54,8 +60,14 @@ fn random_books(numbers: &mut Numbers, most: u16) -> Books {
         }
         _ => random_tree(numbers, &roads, &d.yards),
     };
+    let query = query_book(numbers, d.junctions);
+    let asked = match numbers.between(0, 1) {
+        0 => Asked::FirstK,
+        _ => Asked::Within(seconds(numbers, &roads, &d.yards, &query)),
+    };
     Books {
-        query: query_book(numbers, d.junctions),
+        asked,
+        query,
         tree: tree::write(&tree),
         road: d.road,
     }
@@ -95,35 +107,57 @@ fn assert_search(books: &Books, found: &Found, list: &[(u64, u16)]) {
     }
     let spent_all = found.settled == 1 || found.taken == query.limit;
     assert!(spent_all && found.taken <= query.limit);
-    if found.settled == 0 {
-        return;
+    let passes = books.passes();
+    if passes {
+        assert_measured(books, &all, found, list);
     }
-    if books.passes() {
-        assert_eq!(list, brute::first_k(&all, &yards, &query));
-        assert_measured(books, &all, list);
-    } else {
-        assert_true_list(&all, &yards, &query, list);
+    match (found.settled, passes) {
+        (0, _) => assert!(list.is_empty()),
+        (_, true) => assert_eq!(list, expected(books.asked, &all, &yards, &query)),
+        (_, false) => assert_true_list(books.asked, &all, &yards, &query, list),
     }
 }
 
-/// "none of these measured a yard whose bound exceeds the last listed distance of a full list".
-fn assert_measured(books: &Books, all: &[Vec<u64>], list: &[(u64, u16)]) {
-    let search = tested(&books.road, &books.tree, &books.query, WORK_WORDS, 128).unwrap();
+/// "exactly the first k of the tree's yards (or all if fewer)"; "exactly the tree's yards within the drive".
+fn expected(asked: Asked, all: &[Vec<u64>], yards: &[u16], query: &Query) -> Vec<(u64, u16)> {
+    match asked {
+        Asked::FirstK => brute::first_k(all, yards, query),
+        Asked::Within(seconds) => brute::within(all, yards, query, seconds),
+    }
+}
+
+/// "none of these measured a yard whose bound exceeds the last listed distance of a full list"; "no yard whose bound
+/// exceeds the seconds is measured", in a spent search neither.
+fn assert_measured(books: &Books, all: &[Vec<u64>], found: &Found, list: &[(u64, u16)]) {
+    let search = tested(books.asked, books.all(), WORK_WORDS, 512).unwrap();
     let measured = run(&search).state.measured;
     let distinct: BTreeSet<u16> = measured.iter().copied().collect();
     assert_eq!(distinct.len(), measured.len());
-    if list.len() == search.query.k {
-        let last = list[list.len() - 1].0;
-        for yard in measured {
-            assert!(brute::yard_bound(all, &search.tree, &search.query, yard) <= last);
-        }
+    assert_eq!(found.measured as usize, measured.len());
+    let most = match books.asked {
+        Asked::FirstK if list.len() == search.query.k => list[list.len() - 1].0,
+        Asked::FirstK => u64::MAX,
+        Asked::Within(seconds) => u64::from(seconds),
+    };
+    for yard in measured {
+        assert!(brute::yard_bound(all, &search.tree, &search.query, yard) <= most);
     }
 }
 
-/// "with true distances, distinct yards and yard order, but a yard may be left out".
-fn assert_true_list(all: &[Vec<u64>], yards: &[u16], query: &Query, list: &[(u64, u16)]) {
+/// "with true distances, distinct yards and yard order, but a yard may be left out"; in a drive search none above the
+/// seconds is listed.
+fn assert_true_list(
+    asked: Asked,
+    all: &[Vec<u64>],
+    yards: &[u16],
+    query: &Query,
+    list: &[(u64, u16)],
+) {
     let ranked = brute::ranked(all, yards, query);
-    assert_eq!(list.len(), query.k.min(yards.len()));
+    match asked {
+        Asked::FirstK => assert_eq!(list.len(), query.k.min(yards.len())),
+        Asked::Within(seconds) => assert!(list.iter().all(|&(d, _)| d <= u64::from(seconds))),
+    }
     assert!(list.windows(2).all(|pair| pair[0] < pair[1]));
     assert!(list.iter().all(|pair| ranked.contains(pair)));
 }
@@ -132,11 +166,10 @@ fn assert_true_list(all: &[Vec<u64>], yards: &[u16], query: &Query, list: &[(u64
 fn search_by_brute_force() {
     let mut numbers = Numbers::new(5);
     let mut settled = 0;
-    for turn in 0..4_000 {
+    for turn in 0..8_000 {
         let books = random_books(&mut numbers, if turn % 40 == 0 { 120 } else { 30 });
-        let (mut work, mut results) = (vec![3; WORK_WORDS + 2], [5; 130]);
-        let Books { road, tree, query } = &books;
-        let found = search(road, tree, query, &mut work, &mut results);
+        let (mut work, mut results) = (vec![3; WORK_WORDS + 2], [5; 250]);
+        let found = ask(books.asked, books.all(), &mut work, &mut results);
         assert_eq!(found.refusal, 0);
         assert!(work[..WORK_WORDS].iter().all(|&word| word == 0));
         assert_eq!(work[WORK_WORDS..], [3; 2]);
@@ -146,7 +179,7 @@ fn search_by_brute_force() {
         assert_search(&books, &found, &listed(&found, &results));
         settled += found.settled;
     }
-    assert!((2_000..4_000).contains(&settled));
+    assert!((4_000..8_000).contains(&settled));
 }
 
 #[test]
@@ -157,18 +190,51 @@ fn full_size_by_brute_force() {
         let yard = standard::yard_book(256, 11).unwrap();
         let tree = built(&mut numbers, &road, &yard);
         let query = query::write(0, 64, u32::MAX, &[0, 5, 900, 1_023, 5]);
-        let books = Books { road, tree, query };
+        let asked = Asked::FirstK;
+        let books = Books {
+            asked,
+            road,
+            tree,
+            query,
+        };
         let (roads, tree, query) = books.read();
-        let mut results = [0; 128];
-        let work = &mut [0; WORK_WORDS];
-        let found = search(&books.road, &books.tree, &books.query, work, &mut results);
-        let mut all = vec![Vec::new(); 1_024];
-        for &crew in &query.crews {
-            all[usize::from(crew)] = brute::distances(&roads, crew);
+        let all = brute::crew_distances(&roads, &query);
+        let ranked = brute::ranked(&all, &tree.yards_of(0), &query);
+        let drives = [0, 2, 25, 255].map(|place| ranked[place].0 as u32);
+        let drives = drives.iter().flat_map(|&d| [d, d - 1]);
+        let drives = drives.chain([0, u32::MAX]).map(Asked::Within);
+        for asked in drives.chain([Asked::FirstK]) {
+            let mut results = [0; 512];
+            let found = ask(asked, books.all(), &mut [0; WORK_WORDS], &mut results);
+            let expected = expected(asked, &all, &tree.yards_of(0), &query);
+            assert_eq!(listed(&found, &results), expected, "{kind} {asked:?}");
         }
-        let expected = brute::first_k(&all, &tree.yards_of(0), &query);
-        assert_eq!(listed(&found, &results), expected, "{kind}");
     }
+}
+
+/// A drive of the last distance of a full list lists that list first, and after it only yards of that distance.
+#[test]
+fn a_full_list_comes_first() {
+    let mut numbers = Numbers::new(10);
+    let mut longer = 0;
+    for _ in 0..1_000 {
+        let d = district(&mut numbers, 40);
+        let tree = built(&mut numbers, &d.road, &d.yard);
+        let crews = [(); 2].map(|()| numbers.between16(0, d.junctions - 1));
+        let k = numbers.between(1, d.yards.len().min(64) as u64) as u8;
+        let query = query::write(numbers.between(0, 1) as u8, k, u32::MAX, &crews);
+        let (mut first, mut all) = ([0; 128], [0; 80]);
+        let work = &mut [0; WORK_WORDS];
+        let full = search(&d.road, &tree, &query, work, &mut first);
+        let first = listed(&full, &first);
+        let last = first[usize::from(k) - 1].0;
+        let found = within(&d.road, &tree, &query, last as u32, work, &mut all);
+        let all = listed(&found, &all);
+        assert_eq!(all[..first.len()], first);
+        assert!(all[first.len()..].iter().all(|&(d, _)| d == last));
+        longer += u32::from(all.len() > first.len());
+    }
+    assert!(longer >= 50, "{longer}");
 }
 
 /// A search of the list: mostly sound books, some damaged.
@@ -202,13 +268,7 @@ fn assert_demand_3(numbers: &mut Numbers, counts: &mut [u32; 3]) {
     for _ in 0..numbers.between(1, 8) {
         let books = next_books(numbers);
         let before = (work.clone(), results.clone());
-        let found = search(
-            &books.road,
-            &books.tree,
-            &books.query,
-            &mut work,
-            &mut results,
-        );
+        let found = ask(books.asked, books.all(), &mut work, &mut results);
         if found.refusal != 0 {
             assert_eq!(
                 found,
@@ -237,24 +297,24 @@ fn assert_demand_3(numbers: &mut Numbers, counts: &mut [u32; 3]) {
 fn lists_of_searches() {
     let mut numbers = Numbers::new(7);
     let mut counts = [0; 3];
-    for _ in 0..2_000 {
+    for _ in 0..4_000 {
         assert_demand_3(&mut numbers, &mut counts);
     }
-    assert!(counts.iter().all(|&count| count > 200), "{counts:?}");
+    assert!(counts.iter().all(|&count| count > 400), "{counts:?}");
 }
 
 #[test]
 fn area_contents_never_matter() {
     let mut numbers = Numbers::new(8);
     for _ in 0..300 {
-        let Books { road, tree, query } = next_books(&mut numbers);
+        let books = next_books(&mut numbers);
         let mut first = (vec![0; WORK_WORDS], vec![0; 128]);
         let mut second = (
             any_area(&mut numbers, 16_384, 16_384),
             any_area(&mut numbers, 128, 128),
         );
-        let one = search(&road, &tree, &query, &mut first.0, &mut first.1);
-        let other = search(&road, &tree, &query, &mut second.0, &mut second.1);
+        let one = ask(books.asked, books.all(), &mut first.0, &mut first.1);
+        let other = ask(books.asked, books.all(), &mut second.0, &mut second.1);
         assert_eq!(one, other);
         let words = 2 * one.listed as usize;
         assert_eq!(first.1[..words], second.1[..words]);
@@ -270,21 +330,31 @@ fn each_limit_is_a_prefix() {
         let crews: Vec<u16> = (0..3)
             .map(|_| numbers.between16(0, d.junctions - 1))
             .collect();
-        let ask = |limit: u32| {
-            let query = query::write(0, 2, limit, &crews);
-            search(&d.road, &tree, &query, &mut [0; WORK_WORDS], &mut [0; 4])
-        };
-        let settled = ask(u32::MAX);
-        assert_eq!(ask(settled.taken), settled);
-        let mut measured = 0;
-        for limit in 0..settled.taken {
-            let spent = ask(limit);
-            assert_eq!(
-                (spent.refusal, spent.settled, spent.listed, spent.taken),
-                (0, 0, 0, limit)
-            );
-            assert!((measured..=measured + 1).contains(&spent.measured));
-            measured = spent.measured;
+        let roads = road::read(&d.road).unwrap();
+        let query = query::write(0, 2, 0, &crews);
+        let drive = seconds(&mut numbers, &roads, &d.yards, &query);
+        for asked in [Asked::FirstK, Asked::Within(drive)] {
+            assert_prefixes(|limit| {
+                let query = query::write(0, 2, limit, &crews);
+                let books = [&d.road[..], &tree, &query];
+                ask(asked, books, &mut [0; WORK_WORDS], &mut [0; 40])
+            });
         }
+    }
+}
+
+/// A search with fewer steps than it takes to settle is spent.
+fn assert_prefixes(ask: impl Fn(u32) -> Found) {
+    let settled = ask(u32::MAX);
+    assert_eq!(ask(settled.taken), settled);
+    let mut measured = 0;
+    for limit in 0..settled.taken {
+        let spent = ask(limit);
+        assert_eq!(
+            (spent.refusal, spent.settled, spent.listed, spent.taken),
+            (0, 0, 0, limit)
+        );
+        assert!((measured..=measured + 1).contains(&spent.measured));
+        measured = spent.measured;
     }
 }

@@ -6,6 +6,7 @@ use compare::refusal::WORK_WORDS;
 use compare::road::{self, Road};
 use compare::search::state::Item::{self, Region, Yard};
 use compare::search::state::{step, State};
+use compare::search::Asked::{self, FirstK, Within};
 use compare::search::{tested, Search};
 use compare::tree::{self, Landmark, Stored, Tree};
 
@@ -13,7 +14,7 @@ type Queue = Vec<(u64, Item)>;
 
 /// A queue from its text: each item is a key and R or Y with a number.
 fn queue(text: &str) -> Queue {
-    let words: Vec<&str> = text.split_whitespace().collect();
+    let words: Vec<&str> = text.split_whitespace().filter(|&w| w != "-").collect();
     let item = |words: &[&str]| {
         let (kind, number) = words[1].split_at(1);
         let number: u16 = number.parse().unwrap();
@@ -26,7 +27,8 @@ fn queue(text: &str) -> Queue {
     words.chunks(2).map(item).collect()
 }
 
-/// The queue at first and after each step, one a line; settled after the last and not before.
+/// The queue at first and after each step, one a line; settled after the last and not before. `-` is an
+/// empty queue.
 fn follow(search: &Search, queues: &str) -> State {
     let mut queues = queues.trim().lines();
     let mut state = State::start(search);
@@ -48,9 +50,10 @@ fn held_queue(state: &State) -> Queue {
 /// A search on the sound district: 16 junctions in a chain, 10 + low seconds each, so at
 /// 0 10 21 33 46 60 75 91 108 126 145 165 186 208 231 255 seconds from junction 0.
 /// Its leaves hold yards 1 and 2, 5 and 6, 14; its root's landmarks are 0 and 8.
-fn sound(tree: &Tree, aggregate: u8) -> Search {
+fn sound(tree: &Tree, aggregate: u8, asked: Asked) -> Search {
     let query = query::write(aggregate, 2, 100, &[0, 7]);
-    tested(&sound_road(), &tree::write(tree), &query, WORK_WORDS, 4).unwrap()
+    let books: [&[u8]; 3] = [&sound_road(), &tree::write(tree), &query];
+    tested(asked, books, WORK_WORDS, 10).unwrap()
 }
 
 /// The sound tree.
@@ -80,9 +83,8 @@ fn the_sound_tree() {
     assert_eq!(tree.regions[3].landmarks[1].list(), [(45, 14)]);
 }
 
-#[test]
-fn by_sum() {
-    let queues = "
+/// The sum's steps up to the four yards of 91 seconds; yard 14 is 231 + 140 away.
+const BY_SUM: &str = "
         26 R0
         45 R1  76 R2  191 R3
         67 R1  76 R2  91 Y1  191 R3
@@ -93,14 +95,49 @@ fn by_sum() {
         91 Y5  91 Y6  191 R3
         91 Y6  191 R3
         191 R3";
-    let state = follow(&sound(&tree_value(), 0), queues);
+
+/// The first so many lines of a text.
+fn lines(text: &str, count: usize) -> String {
+    let lines: Vec<&str> = text.trim().lines().take(count).collect();
+    lines.join("\n")
+}
+
+#[test]
+fn by_sum() {
+    let state = follow(&sound(&tree_value(), 0, FirstK), BY_SUM);
     assert_eq!(state.measured, [1, 2, 5, 6]);
     assert_eq!(state.held, [(91, 1), (91, 2)]);
 }
 
+/// "The search is settled when the queue is empty or every queued key is above the seconds."
 #[test]
-fn by_maximum() {
-    let queues = "
+fn by_sum_within() {
+    let ask = |seconds| sound(&tree_value(), 0, Within(seconds));
+    for (seconds, steps) in [(0, 0), (25, 0), (26, 1), (45, 2), (75, 3), (90, 5)] {
+        let state = follow(&ask(seconds), &lines(BY_SUM, steps + 1));
+        assert!(state.measured.is_empty() && state.held.is_empty());
+    }
+    let all_91 = [(91, 1), (91, 2), (91, 5), (91, 6)];
+    for seconds in [91, 190] {
+        let state = follow(&ask(seconds), BY_SUM);
+        assert_eq!(state.measured, [1, 2, 5, 6]);
+        assert_eq!(state.held, all_91);
+    }
+    let further = format!("{BY_SUM}\n371 Y14");
+    for seconds in [191, 370] {
+        let state = follow(&ask(seconds), &further);
+        assert_eq!(state.held, all_91);
+    }
+    for seconds in [371, u32::MAX] {
+        let state = follow(&ask(seconds), &format!("{further}\n-"));
+        assert_eq!(state.measured, [1, 2, 5, 6, 14]);
+        assert_eq!(state.held[..4], all_91);
+        assert_eq!(state.held[4..], [(371, 14)]);
+    }
+}
+
+/// The maximum's steps up to yards 5 and 2.
+const BY_MAXIMUM: &str = "
         16 R0
         35 R1  60 R2  141 R3
         46 R1  60 R2  81 Y1  141 R3
@@ -109,9 +146,22 @@ fn by_maximum() {
         60 Y5  70 Y2  75 Y6  81 Y1  141 R3
         70 Y2  75 Y6  81 Y1  141 R3
         75 Y6  81 Y1  141 R3";
-    let state = follow(&sound(&tree_value(), 1), queues);
+
+#[test]
+fn by_maximum() {
+    let state = follow(&sound(&tree_value(), 1, FirstK), BY_MAXIMUM);
     assert_eq!(state.measured, [5, 2]);
     assert_eq!(state.held, [(60, 5), (70, 2)]);
+}
+
+#[test]
+fn by_maximum_within() {
+    let ask = |seconds| sound(&tree_value(), 1, Within(seconds));
+    let state = follow(&ask(74), BY_MAXIMUM);
+    assert_eq!(state.held, [(60, 5), (70, 2)]);
+    let state = follow(&ask(75), &format!("{BY_MAXIMUM}\n81 Y1  141 R3"));
+    assert_eq!(state.measured, [5, 2, 6]);
+    assert_eq!(state.held, [(60, 5), (70, 2), (75, 6)]);
 }
 
 /// The root's least is false, the greatest u32: its key, 2 × 4,294,967,295 − 17, goes to all below it.
@@ -136,51 +186,89 @@ fn a_false_root() {
         K Y5  K Y6  K Y14";
     let key = 2 * 4_294_967_295_u64 - 17;
     let queues = queues.replace('K', &key.to_string());
-    let state = follow(&sound(&tree, 0), &queues);
+    let state = follow(&sound(&tree, 0, FirstK), &queues);
     assert_eq!(state.held, [(91, 1), (91, 2)]);
+    let state = follow(&sound(&tree, 0, Within(u32::MAX)), &lines(&queues, 1));
+    assert!(state.held.is_empty());
 }
 
-/// A search on net N with another list, crews 0 and 2 by sum.
-fn n_search(list: [(u32, u16); 3], k: u8) -> Search {
-    let road = |(low, high, seconds)| Road { low, high, seconds };
-    let roads = [(0, 1, 2), (1, 2, 3), (2, 3, 4), (3, 4, 1)].map(road);
+/// The road book of a chain.
+fn chain(seconds: &[u16]) -> Vec<u8> {
+    let road = |(low, &seconds): (usize, &u16)| Road {
+        low: low as u16,
+        high: low as u16 + 1,
+        seconds,
+    };
+    let roads: Vec<Road> = seconds.iter().enumerate().map(road).collect();
+    road::write(seconds.len() as u16 + 1, &roads)
+}
+
+/// The book of a tree that is one leaf with one landmark.
+fn one_leaf(junctions: u16, junction: u16, list: &[(u32, u16)]) -> Vec<u8> {
+    let yards = list.len() as u16;
     let landmark = Landmark {
-        junction: 0,
+        junction,
         stored: Stored::List(list.to_vec()),
     };
     let root = tree::Region {
         first: 0,
-        after: 5,
+        after: junctions,
         children: 0,
-        yards: 3,
+        yards,
         landmarks: vec![landmark],
     };
-    let tree = Tree {
-        junctions: 5,
-        yards: 3,
+    tree::write(&Tree {
+        junctions,
+        yards,
         m: 1,
         regions: vec![root],
-    };
+    })
+}
+
+/// A search on net N with another list, crews 0 and 2 by sum.
+fn n_asked(list: [(u32, u16); 3], k: u8, asked: Asked) -> Search {
     let query = query::write(0, k, 100, &[0, 2]);
-    tested(
-        &road::write(5, &roads),
-        &tree::write(&tree),
-        &query,
-        WORK_WORDS,
-        128,
-    )
-    .unwrap()
+    let books: [&[u8]; 3] = [&chain(&[2, 3, 4, 1]), &one_leaf(5, 0, &list), &query];
+    tested(asked, books, WORK_WORDS, 128).unwrap()
+}
+
+/// The same for k yards.
+fn n_search(list: [(u32, u16); 3], k: u8) -> Search {
+    n_asked(list, k, FirstK)
 }
 
 /// Yard 1 is stored as far away, and left out.
 #[test]
 fn a_yard_left_out() {
-    let search = n_search([(9, 3), (10, 4), (67_042_305, 1)], 1);
+    let list = [(9, 3), (10, 4), (67_042_305, 1)];
     let queues = "
         13 R0
         13 Y3  15 R0
         15 R0";
-    assert_eq!(follow(&search, queues).held, [(13, 3)]);
+    for asked in [FirstK, Within(13), Within(14)] {
+        let search = n_asked(list, 1, asked);
+        assert_eq!(follow(&search, queues).held, [(13, 3)]);
+    }
+}
+
+/// A chain of three, seconds 1 and 1, the landmark in its middle: yard 2's bound is 0, and crew 0 is 2 away.
+#[test]
+fn a_yard_measured_and_not_held() {
+    let tree = one_leaf(3, 1, &[(1, 0), (1, 2)]);
+    let query = query::write(0, 1, 100, &[0]);
+    let books: [&[u8]; 3] = [&chain(&[1, 1]), &tree, &query];
+    let queues = "
+        0 R0
+        0 R0  0 Y0
+        0 Y0  0 Y2
+        0 Y2
+        -";
+    for (seconds, held) in [(0, 1), (1, 1), (2, 2)] {
+        let search = tested(Within(seconds), books, WORK_WORDS, 4).unwrap();
+        let state = follow(&search, queues);
+        assert_eq!(state.measured, [0, 2]);
+        assert_eq!(state.held, [(0, 0), (2, 2)][..held]);
+    }
 }
 
 /// Yard 4 is stored as near: its f ties with yard 1's, its bound is still the sheet's.

@@ -1,7 +1,7 @@
 //! The same call through the proved finder and the plain one: the answers and every byte and word of the lent areas, the books and the
 //! guards around them have to be alike afterwards.
 
-use compare::{Built, Found};
+use compare::{Asked, Built, Found};
 
 use crate::lent::{lent_bytes, lent_words, Lent};
 
@@ -60,17 +60,17 @@ impl Areas {
     }
 
     /// Makes the search through both finders, each on its areas as its search before left them.
-    pub fn search(&mut self, books: [&[u8]; 3]) -> Found {
+    pub fn ask(&mut self, asked: Asked, books: [&[u8]; 3]) -> Found {
         let mut held = books.map(lent_bytes);
-        let [road, tree, query] = held.each_mut().map(|book| &*book.area());
+        let lent = held.each_mut().map(|book| &*book.area());
         let [work, results] = self.ours.each_mut().map(|area| area.area());
-        let ours = crate::search(road, tree, query, work, results);
+        let ours = crate::ask(asked, lent, work, results);
 
         let [work, results] = &mut self.theirs;
-        let theirs = compare::search(books[0], books[1], books[2], work, results);
+        let theirs = compare::ask(asked, books, work, results);
         let call = || {
             format!(
-                "a search with {} result words, {}",
+                "a search, {asked:?}, with {} result words, {}",
                 results.len(),
                 told(&books, work.len())
             )

@@ -5,7 +5,7 @@ pub mod dispatch;
 pub mod lent;
 pub mod turns;
 
-use compare::{Built, Found};
+use compare::{Asked, Built, Found};
 
 /// `struct finder_built`.
 #[repr(C)]
@@ -61,6 +61,32 @@ extern "C" {
         results: *mut u32,
         results_len: usize,
     ) -> FinderFound;
+
+    fn finder_within(
+        road: *const u8,
+        road_len: usize,
+        tree: *const u8,
+        tree_len: usize,
+        query: *const u8,
+        query_len: usize,
+        seconds: u32,
+        work: *mut u32,
+        work_len: usize,
+        results: *mut u32,
+        results_len: usize,
+    ) -> FinderFound;
+}
+
+impl From<FinderFound> for Found {
+    fn from(found: FinderFound) -> Self {
+        Found {
+            refusal: found.refusal,
+            settled: found.settled,
+            listed: found.listed,
+            taken: found.taken,
+            measured: found.measured,
+        }
+    }
 }
 
 /// The refusal number, 0 if accepted.
@@ -133,11 +159,46 @@ pub fn search(
             results.len(),
         )
     };
-    Found {
-        refusal: found.refusal,
-        settled: found.settled,
-        listed: found.listed,
-        taken: found.taken,
-        measured: found.measured,
+    found.into()
+}
+
+/// The same of a drive search, for all yards within so many seconds.
+pub fn within(
+    road: &[u8],
+    tree: &[u8],
+    query: &[u8],
+    seconds: u32,
+    work: &mut [u32],
+    results: &mut [u32],
+) -> Found {
+    // SAFETY: as for `build`.
+    let found = unsafe {
+        finder_within(
+            road.as_ptr(),
+            road.len(),
+            tree.as_ptr(),
+            tree.len(),
+            query.as_ptr(),
+            query.len(),
+            seconds,
+            work.as_mut_ptr(),
+            work.len(),
+            results.as_mut_ptr(),
+            results.len(),
+        )
+    };
+    found.into()
+}
+
+/// The search that is asked for.
+pub fn ask(
+    asked: Asked,
+    [road, tree, query]: [&[u8]; 3],
+    work: &mut [u32],
+    results: &mut [u32],
+) -> Found {
+    match asked {
+        Asked::FirstK => search(road, tree, query, work, results),
+        Asked::Within(seconds) => within(road, tree, query, seconds, work, results),
     }
 }

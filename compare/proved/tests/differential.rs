@@ -3,10 +3,11 @@
 use std::collections::BTreeMap;
 
 use compare::build::AREA_BYTES;
-use compare::generate::call::{random_build, random_check, random_search};
+use compare::generate::call::{random_build, random_check, random_search, random_within};
 use compare::generate::damage::{self, Call};
 use compare::generate::{standard, Numbers};
 use compare::refusal::WORK_WORDS;
+use compare::Asked;
 use proved::alike::{self, Areas};
 
 /// How many calls of each kind got each refusal number.
@@ -15,8 +16,9 @@ struct Tally {
     checks: BTreeMap<u32, u32>,
     builds: BTreeMap<u32, u32>,
     searches: BTreeMap<u32, u32>,
-    /// Of the accepted searches.
-    spent: u32,
+    drives: BTreeMap<u32, u32>,
+    /// Of the accepted searches for k yards, and of the accepted drive searches.
+    spent: [u32; 2],
 }
 
 impl Tally {
@@ -45,6 +47,7 @@ impl Tally {
                 *self.builds.entry(built.refusal).or_default() += 1;
             }
             Call::Search {
+                asked,
                 road,
                 tree,
                 query,
@@ -52,11 +55,21 @@ impl Tally {
                 results,
             } => {
                 let mut areas = Areas::new(&words(numbers, *work), &words(numbers, *results));
-                let found = areas.search([road, tree, query]);
-                *self.searches.entry(found.refusal).or_default() += 1;
-                self.spent += u32::from(found.refusal == 0 && found.settled == 0);
+                let found = areas.ask(*asked, [road, tree, query]);
+                let [searches, drives] = &mut self.spent;
+                let (refusals, spent) = match asked {
+                    Asked::FirstK => (&mut self.searches, searches),
+                    Asked::Within(_) => (&mut self.drives, drives),
+                };
+                *refusals.entry(found.refusal).or_default() += 1;
+                *spent += u32::from(found.refusal == 0 && found.settled == 0);
             }
         }
+    }
+
+    /// Makes calls through both finders.
+    fn make_all(&mut self, calls: &[Call], numbers: &mut Numbers) {
+        calls.iter().for_each(|call| self.make(call, numbers));
     }
 
     /// Every refusal that a call can get was seen, and acceptance, each so often.
@@ -69,11 +82,10 @@ impl Tally {
         assert_eq!(seen(&self.checks), [0, 1, 2, 3, 4, 5, 6, 7, 8, 9, 12]);
         println!("builds by refusal: {:?}", self.builds);
         assert_eq!(seen(&self.builds), [0, 1, 2, 3, 4, 5, 6, 8, 11, 12]);
-        println!("searches by refusal: {:?}", self.searches);
-        assert_eq!(
-            seen(&self.searches),
-            [0, 1, 2, 3, 4, 5, 6, 7, 8, 10, 11, 12]
-        );
+        for searches in [&self.searches, &self.drives] {
+            println!("searches by refusal: {searches:?}");
+            assert_eq!(seen(searches), [0, 1, 2, 3, 4, 5, 6, 7, 8, 10, 11, 12]);
+        }
     }
 }
 
@@ -100,14 +112,31 @@ fn every_cause() {
     for case in damage::cases() {
         tally.make(&case.call, &mut numbers);
     }
-    for call in damage::accepted() {
-        tally.make(&call, &mut numbers);
-    }
+    tally.make_all(&damage::accepted(), &mut numbers);
     let (road, query) = (damage::sound_road(), damage::sound_query());
     for t in damage::false_trees() {
-        tally.make(&damage::search_of(&road, &t.book, &query), &mut numbers);
+        let calls = damage::searches_of(&road, &t.book, &query);
+        tally.make_all(&calls, &mut numbers);
     }
     tally.assert_all(1);
+}
+
+/// Every number of seconds up to past the furthest yard, and the greatest ones, on the sound tree and on false ones.
+#[test]
+fn every_drive() {
+    let mut numbers = Numbers::new(27);
+    let mut tally = Tally::default();
+    let [road, _, tree, query] = damage::sound_books();
+    let greatest = [u32::MAX - 1, u32::MAX];
+    for seconds in (0..380).chain(greatest) {
+        let call = damage::within_of(seconds, &road, &tree, &query);
+        tally.make(&call, &mut numbers);
+        for t in damage::false_trees() {
+            let call = damage::within_of(seconds, &road, &t.book, &query);
+            tally.make(&call, &mut numbers);
+        }
+    }
+    assert_eq!(tally.drives.keys().copied().collect::<Vec<u32>>(), [0]);
 }
 
 #[test]
@@ -124,15 +153,18 @@ fn two_damages() {
         }
         for t in &trees {
             tally.make(&damage::check_of(&r.book, &yard, &t.book), &mut numbers);
-            tally.make(&damage::search_of(&r.book, &t.book, &query), &mut numbers);
+            let calls = damage::searches_of(&r.book, &t.book, &query);
+            tally.make_all(&calls, &mut numbers);
         }
         for q in &queries {
-            tally.make(&damage::search_of(&r.book, &tree, &q.book), &mut numbers);
+            let calls = damage::searches_of(&r.book, &tree, &q.book);
+            tally.make_all(&calls, &mut numbers);
         }
     }
     for t in &trees {
         for q in &queries {
-            tally.make(&damage::search_of(&road, &t.book, &q.book), &mut numbers);
+            let calls = damage::searches_of(&road, &t.book, &q.book);
+            tally.make_all(&calls, &mut numbers);
         }
         for y in &yards {
             tally.make(&damage::check_of(&road, &y.book, &t.book), &mut numbers);
@@ -149,9 +181,10 @@ fn random_districts() {
         tally.make(&random_check(&mut numbers, most), &mut numbers);
         tally.make(&random_build(&mut numbers, most), &mut numbers);
         tally.make(&random_search(&mut numbers, most), &mut numbers);
+        tally.make(&random_within(&mut numbers, most), &mut numbers);
     }
     tally.assert_all(20);
-    assert!(tally.spent >= 1_000);
+    assert!(tally.spent.iter().all(|&spent| spent >= 1_000));
 }
 
 #[test]
@@ -162,7 +195,8 @@ fn any_bytes() {
         let [road, yard, tree, query] = damage::damaged_books(&mut numbers);
         tally.make(&damage::check_of(&road, &yard, &tree), &mut numbers);
         tally.make(&damage::build_of(&road, &yard), &mut numbers);
-        tally.make(&damage::search_of(&road, &tree, &query), &mut numbers);
+        let calls = damage::searches_of(&road, &tree, &query);
+        tally.make_all(&calls, &mut numbers);
     }
 }
 
@@ -176,7 +210,8 @@ fn random_fields() {
         let [road, sound_yard, sound_tree, _] = &sound;
         tally.make(&damage::check_of(road, sound_yard, &tree), &mut numbers);
         tally.make(&damage::build_of(road, &yard), &mut numbers);
-        tally.make(&damage::search_of(road, sound_tree, &query), &mut numbers);
+        let calls = damage::searches_of(road, sound_tree, &query);
+        tally.make_all(&calls, &mut numbers);
     }
 }
 

@@ -1,51 +1,130 @@
 //! Lists of searches through both finders on shared areas, and settled searches against brute force.
 
 use compare::build::AREA_BYTES;
-use compare::generate::call::random_search;
+use compare::generate::call::{random_search, random_within};
 use compare::generate::damage::Call;
 use compare::generate::district::false_tree;
 use compare::generate::{standard, Numbers};
+use compare::query::Query;
 use compare::refusal::WORK_WORDS;
-use compare::{brute, build, check, query, road, tree, yard};
+use compare::road::RoadBook;
+use compare::tree::Tree;
+use compare::{brute, build, check, query, road, tree, yard, Asked, Found};
 use proved::alike::Areas;
 
-/// The three books of a search.
+/// The three books of a search, and what it is asked for.
 struct Books {
+    asked: Asked,
     road: Vec<u8>,
     tree: Vec<u8>,
     query: Vec<u8>,
 }
 
 impl Books {
-    /// A district's books: the tree built, cut at random, or false; some books damaged.
-    fn random(numbers: &mut Numbers, most_junctions: u16) -> Self {
-        match random_search(numbers, most_junctions) {
+    /// The books of a search's call.
+    fn of(call: Call) -> Self {
+        match call {
             Call::Search {
-                road, tree, query, ..
-            } => Books { road, tree, query },
+                asked,
+                road,
+                tree,
+                query,
+                ..
+            } => Books {
+                asked,
+                road,
+                tree,
+                query,
+            },
             _ => unreachable!("it is a search"),
         }
+    }
+
+    /// A district's books: the tree built, cut at random, or false; some books damaged. For k yards or within a drive.
+    fn random(numbers: &mut Numbers, most_junctions: u16) -> Self {
+        let random = match numbers.between(0, 1) {
+            0 => random_search,
+            _ => random_within,
+        };
+        Books::of(random(numbers, most_junctions))
     }
 
     fn all(&self) -> [&[u8]; 3] {
         [&self.road, &self.tree, &self.query]
     }
 
-    /// The words that a settled search writes, by brute force; none if check refuses the tree beside these roads.
-    fn list(&self) -> Option<Vec<u32>> {
+    /// Makes the search through both finders.
+    fn ask(&self, areas: &mut Areas) -> Found {
+        areas.ask(self.asked, self.all())
+    }
+
+    /// Whether check passes the tree beside these roads.
+    fn passes(&self) -> bool {
+        let Some((_, tree, _)) = self.read() else {
+            return false;
+        };
+        let yard = yard::write(&tree.yards_of(0));
+        check(&self.road, &yard, &self.tree, &mut [0; WORK_WORDS]) == 0
+    }
+
+    /// The books read, if none is refused.
+    fn read(&self) -> Option<(RoadBook, Tree, Query)> {
         let road = road::read(&self.road).ok()?;
         let tree = tree::read(&self.tree, road.junctions).ok()?;
         let query = query::read(&self.query, road.junctions).ok()?;
-        let yard = yard::write(&tree.yards_of(0));
-        let passes = check(&self.road, &yard, &self.tree, &mut [0; WORK_WORDS]) == 0;
-        let list = brute::list(&road, &tree, &query).into_iter();
-        let words = |(distance, yard): (u64, u16)| [u32::from(yard), distance as u32];
-        passes.then(|| list.flat_map(words).collect())
+        Some((road, tree, query))
+    }
+
+    /// All of the tree's yards in yard order, by brute force; the books must be sound.
+    fn ranked(&self) -> Vec<(u64, u16)> {
+        let (road, tree, query) = self.read().expect("sound books");
+        let all = brute::crew_distances(&road, &query);
+        brute::ranked(&all, &tree.yards_of(0), &query)
+    }
+
+    /// The words that a settled search writes, by brute force; none if check refuses the tree beside these roads.
+    fn list(&self) -> Option<Vec<u32>> {
+        let (_, _, query) = self.read()?;
+        self.passes()
+            .then(|| words(wanted(self.asked, query.k, &self.ranked())))
+    }
+
+    /// "with true distances, distinct yards and yard order, but a yard may be left out"; in a drive search none above
+    /// the seconds is listed.
+    fn assert_true(&self, list: &[u32]) {
+        let ranked = self.ranked();
+        let pairs = list.chunks(2).map(|p| (u64::from(p[1]), p[0] as u16));
+        let pairs: Vec<(u64, u16)> = pairs.collect();
+        assert!(pairs.windows(2).all(|pair| pair[0] < pair[1]));
+        assert!(pairs.iter().all(|pair| ranked.contains(pair)));
+        match self.asked {
+            Asked::FirstK => assert_eq!(pairs.len(), ranked.len().min(self.query[6].into())),
+            Asked::Within(seconds) => assert!(pairs.iter().all(|p| p.0 <= u64::from(seconds))),
+        }
     }
 }
 
+/// Of all yards in yard order those that a settled list has: "exactly the first k of the tree's yards (or all if
+/// fewer)", or "exactly the tree's yards within the drive".
+fn wanted(asked: Asked, k: usize, ranked: &[(u64, u16)]) -> &[(u64, u16)] {
+    let count = match asked {
+        Asked::FirstK => k.min(ranked.len()),
+        Asked::Within(seconds) => ranked
+            .iter()
+            .filter(|yard| yard.0 <= u64::from(seconds))
+            .count(),
+    };
+    &ranked[..count]
+}
+
+/// "(yard, distance) words".
+fn words(list: &[(u64, u16)]) -> Vec<u32> {
+    let words = |&(distance, yard): &(u64, u16)| [u32::from(yard), distance as u32];
+    list.iter().flat_map(words).collect()
+}
+
 /// What became of the searches.
-#[derive(Debug, Default)]
+#[derive(Clone, Copy, Debug, Default)]
 struct Seen {
     refused: u32,
     spent: u32,
@@ -62,7 +141,7 @@ fn any_area(numbers: &mut Numbers, least: u64, most: u64) -> Vec<u32> {
 }
 
 /// A list of searches, each given both areas as the one before left them; the settled lists go over the results' start in turn.
-fn make_list(numbers: &mut Numbers, seen: &mut Seen) {
+fn make_list(numbers: &mut Numbers, seen: &mut [Seen; 2]) {
     let full = WORK_WORDS as u64;
     let least = if numbers.once_in(10) { 0 } else { full };
     let work = any_area(numbers, least, full + 8);
@@ -70,8 +149,12 @@ fn make_list(numbers: &mut Numbers, seen: &mut Seen) {
     let mut areas = Areas::new(&work, &expected);
     for _ in 0..numbers.between(1, 8) {
         let books = Books::random(numbers, 30);
-        let found = areas.search(books.all());
+        let found = books.ask(&mut areas);
         let words = 2 * found.listed as usize;
+        let seen = match books.asked {
+            Asked::FirstK => &mut seen[0],
+            Asked::Within(_) => &mut seen[1],
+        };
         match (found.refusal, found.settled, books.list()) {
             (0, 1, Some(list)) => {
                 expected[..list.len()].copy_from_slice(&list);
@@ -79,6 +162,7 @@ fn make_list(numbers: &mut Numbers, seen: &mut Seen) {
                 seen.exact += 1;
             }
             (0, 1, None) => {
+                books.assert_true(&areas.results()[..words]);
                 expected[..words].copy_from_slice(&areas.results()[..words]);
                 seen.others += 1;
             }
@@ -92,13 +176,15 @@ fn make_list(numbers: &mut Numbers, seen: &mut Seen) {
 #[test]
 fn lists_on_shared_areas() {
     let mut numbers = Numbers::new(31);
-    let mut seen = Seen::default();
-    for _ in 0..4_000 {
+    let mut seen = [Seen::default(); 2];
+    for _ in 0..8_000 {
         make_list(&mut numbers, &mut seen);
     }
-    println!("{seen:?}");
-    let least = seen.refused.min(seen.spent).min(seen.exact);
-    assert!(least.min(seen.others) >= 500, "{seen:?}");
+    println!("searches and drive searches: {seen:?}");
+    for seen in seen {
+        let least = seen.refused.min(seen.spent).min(seen.exact);
+        assert!(least.min(seen.others) >= 500, "{seen:?}");
+    }
 }
 
 /// Some queries with one to 16 crews, k 1 to 64, and no limit, a short one or the steps that the search takes at most.
@@ -119,10 +205,38 @@ fn queries(numbers: &mut Numbers) -> Vec<Vec<u8>> {
     queries
 }
 
+/// What yards are asked for: the first k; the drive of the first, of a tenth and of all of them, each with one second
+/// less; the least and the greatest drive.
+fn asks(ranked: &[(u64, u16)]) -> Vec<Asked> {
+    let mut drives = vec![0, u32::MAX];
+    for place in [0, ranked.len() / 10, ranked.len() - 1] {
+        let aggregate = ranked[place].0 as u32;
+        drives.extend([aggregate, aggregate.saturating_sub(1)]);
+    }
+    let drives = drives.into_iter().map(Asked::Within);
+    drives.chain([Asked::FirstK]).collect()
+}
+
+/// All that the yards are asked for, on a false tree and on one that passes; the settled lists of this one against
+/// brute force.
+fn ask_all(areas: &mut Areas, mut books: Books, false_tree: &[u8]) {
+    let ranked = books.ranked();
+    for asked in asks(&ranked) {
+        books.asked = asked;
+        areas.ask(asked, [&books.road, false_tree, &books.query]);
+        let found = books.ask(areas);
+        let list = match found.settled {
+            1 => words(wanted(asked, books.query[6].into(), &ranked)),
+            _ => Vec::new(),
+        };
+        assert_eq!(areas.results()[..2 * found.listed as usize], list);
+    }
+}
+
 #[test]
 fn full_size() {
     let mut numbers = Numbers::new(32);
-    let mut areas = Areas::new(&[7; WORK_WORDS + 5], &[7; 131]);
+    let mut areas = Areas::new(&[7; WORK_WORDS + 5], &[7; 515]);
     for kind in standard::KINDS {
         let road = standard::road_book(kind, 7).unwrap();
         for (yards, m, leaf_limit) in [(256, 4, 16), (256, 1, 256), (100, 3, 4), (1, 1, 1)] {
@@ -130,17 +244,76 @@ fn full_size() {
             let mut area = vec![0; AREA_BYTES];
             let built = build(&road, &yard, m, leaf_limit, &mut [0; WORK_WORDS], &mut area);
             area.truncate(built.length as usize);
+            assert_eq!(check(&road, &yard, &area, &mut [0; WORK_WORDS]), 0);
             let sound = tree::read(&area, 1_024).unwrap();
             let other = tree::write(&false_tree(&mut numbers, &sound));
             for query in queries(&mut numbers) {
-                areas.search([&road, &other, &query]);
-                let found = areas.search([&road, &area, &query]);
-                let (road, tree) = (road.clone(), area.clone());
-                let list = Books { road, tree, query }.list().unwrap();
-                let words = 2 * found.listed as usize;
-                let written = (found.settled == 1).then_some(&list[..]);
-                assert_eq!(areas.results()[..words], *written.unwrap_or(&[]));
+                let books = Books {
+                    asked: Asked::FirstK,
+                    road: road.clone(),
+                    tree: area.clone(),
+                    query,
+                };
+                ask_all(&mut areas, books, &other);
             }
         }
     }
+}
+
+/// A drive of the last distance of a full list lists that list first, and after it only yards of that distance.
+#[test]
+fn a_full_list_comes_first() {
+    let mut numbers = Numbers::new(33);
+    let (mut settled, mut longer) = (0, 0);
+    for _ in 0..8_000 {
+        let mut books = Books::random(&mut numbers, 40);
+        books.asked = Asked::FirstK;
+        let mut areas = Areas::new(&[7; WORK_WORDS], &[7; 128]);
+        let found = books.ask(&mut areas);
+        let first = areas.results()[..2 * found.listed as usize].to_vec();
+        let Some(list) = books.list().filter(|_| found.settled == 1) else {
+            continue;
+        };
+        assert_eq!(first, list);
+        let last = first[first.len() - 1];
+        books.asked = Asked::Within(last);
+        let found = books.ask(&mut areas);
+        if found.settled == 0 {
+            continue;
+        }
+        let (start, rest) = areas.results()[..2 * found.listed as usize].split_at(first.len());
+        assert_eq!(start, first);
+        assert!(rest.chunks(2).all(|pair| pair[1] == last));
+        settled += 1;
+        longer += u32::from(!rest.is_empty());
+    }
+    println!("{settled} settled, {longer} of them longer");
+    assert!(settled >= 1_000 && longer >= 100);
+}
+
+/// Fewer steps than a drive search takes to settle leave it spent, on trees that pass and on false ones.
+#[test]
+fn spent_drives() {
+    let mut numbers = Numbers::new(34);
+    let mut spent = 0;
+    for _ in 0..300 {
+        let mut books = Books::of(random_within(&mut numbers, 25));
+        let mut areas = Areas::new(&[7; WORK_WORDS], &[7; 50]);
+        let mut with_limit = |limit: u32| {
+            if let Some(bytes) = books.query.get_mut(7..11) {
+                bytes.copy_from_slice(&limit.to_be_bytes());
+            }
+            books.ask(&mut areas)
+        };
+        let settled = with_limit(u32::MAX);
+        for limit in 0..settled.taken {
+            let found = with_limit(limit);
+            let counts = [found.refusal, found.settled, found.listed, found.taken];
+            assert_eq!(counts, [0, 0, 0, limit]);
+            spent += 1;
+        }
+        assert_eq!(with_limit(settled.taken), settled);
+    }
+    println!("{spent} spent");
+    assert!(spent >= 1_000);
 }

@@ -7,7 +7,9 @@ use super::Numbers;
 use crate::build::{build, AREA_BYTES};
 use crate::refusal::WORK_WORDS;
 use crate::road::{self, RoadBook};
+use crate::search::Asked;
 use crate::tree::{self, Tree};
+use crate::{brute, query};
 
 /// A check; the district has at most so many junctions.
 pub fn random_check(numbers: &mut Numbers, most_junctions: u16) -> Call {
@@ -37,8 +39,18 @@ pub fn random_build(numbers: &mut Numbers, most_junctions: u16) -> Call {
     }
 }
 
-/// A search; the district has at most so many junctions.
+/// A search for k yards; the district has at most so many junctions.
 pub fn random_search(numbers: &mut Numbers, most_junctions: u16) -> Call {
+    random_asked(numbers, most_junctions, false)
+}
+
+/// A drive search; the district has at most so many junctions.
+pub fn random_within(numbers: &mut Numbers, most_junctions: u16) -> Call {
+    random_asked(numbers, most_junctions, true)
+}
+
+/// A search, for k yards or within a drive.
+fn random_asked(numbers: &mut Numbers, most_junctions: u16, drive: bool) -> Call {
     let d = district(numbers, most_junctions);
     let roads = roads_of(&d);
     let tree = some_tree(numbers, &d, &roads);
@@ -48,12 +60,35 @@ pub fn random_search(numbers: &mut Numbers, most_junctions: u16) -> Call {
         tree::write(&tree)
     };
     let query = query_book(numbers, d.junctions);
+    let (asked, listed) = if drive {
+        let seconds = seconds(numbers, &roads, &d.yards, &query);
+        (Asked::Within(seconds), d.yards.len())
+    } else {
+        (Asked::FirstK, usize::from(query[6]))
+    };
     Call::Search {
+        asked,
         road: other_road(numbers, &d, &roads),
         tree,
-        results: area(numbers, 2 * usize::from(query[6])),
+        results: area(numbers, 2 * listed),
         query: other_query(numbers, query, d.junctions),
         work: area(numbers, WORK_WORDS),
+    }
+}
+
+/// A drive's seconds: a yard's aggregate, one less or one more, seldom the least, the greatest or any number.
+pub fn seconds(numbers: &mut Numbers, road: &RoadBook, yards: &[u16], query: &[u8]) -> u32 {
+    let query = query::read(query, road.junctions).expect("the query passes");
+    let ranked = brute::ranked(&brute::crew_distances(road, &query), yards, &query);
+    let place = numbers.between(0, ranked.len() as u64 - 1) as usize;
+    let aggregate = ranked[place].0 as u32;
+    match numbers.between(0, 11) {
+        0 => 0,
+        1 => u32::MAX,
+        2 => numbers.any() as u32,
+        3..=5 => aggregate.saturating_sub(1),
+        6 => aggregate + 1,
+        _ => aggregate,
     }
 }
 

@@ -6,6 +6,7 @@ use super::Numbers;
 use crate::build::{build, AREA_BYTES};
 use crate::refusal::WORK_WORDS;
 use crate::road::Road;
+use crate::search::Asked;
 use crate::tree::{Landmark, Region, Stored, Tree, MOST_DISTANCE};
 use crate::{book, query, road, tree, yard};
 
@@ -15,6 +16,10 @@ pub const JUNCTIONS: u16 = 16;
 pub const YARDS: [u16; 5] = [1, 2, 5, 6, 14];
 /// The sound query's k.
 pub const K: u8 = 2;
+/// The sound drive search's seconds: four of the five yards are within.
+pub const SECONDS: u32 = 91;
+/// What a search can be asked for.
+pub const ASKED: [Asked; 2] = [Asked::FirstK, Asked::Within(SECONDS)];
 
 /// A damaged book, what is wrong with it and the refusal it falls to.
 pub struct Damage {
@@ -41,6 +46,7 @@ pub enum Call {
         area: usize,
     },
     Search {
+        asked: Asked,
         road: Vec<u8>,
         tree: Vec<u8>,
         query: Vec<u8>,
@@ -62,7 +68,9 @@ pub fn cases() -> Vec<Case> {
     for d in roads() {
         cases.push(case(&d, check_of(&d.book, &sound_yard(), &sound_tree())));
         cases.push(case(&d, build_of(&d.book, &sound_yard())));
-        cases.push(case(&d, search_of(&d.book, &sound_tree(), &sound_query())));
+        for call in searches_of(&d.book, &sound_tree(), &sound_query()) {
+            cases.push(case(&d, call));
+        }
     }
     for d in yards() {
         cases.push(case(&d, check_of(&sound_road(), &d.book, &sound_tree())));
@@ -70,10 +78,14 @@ pub fn cases() -> Vec<Case> {
     }
     for d in trees() {
         cases.push(case(&d, check_of(&sound_road(), &sound_yard(), &d.book)));
-        cases.push(case(&d, search_of(&sound_road(), &d.book, &sound_query())));
+        for call in searches_of(&sound_road(), &d.book, &sound_query()) {
+            cases.push(case(&d, call));
+        }
     }
     for d in queries() {
-        cases.push(case(&d, search_of(&sound_road(), &sound_tree(), &d.book)));
+        for call in searches_of(&sound_road(), &sound_tree(), &d.book) {
+            cases.push(case(&d, call));
+        }
     }
     for d in false_trees() {
         cases.push(case(&d, check_of(&sound_road(), &sound_yard(), &d.book)));
@@ -115,14 +127,34 @@ pub fn build_of(road: &[u8], yard: &[u8]) -> Call {
     }
 }
 
-/// A search with full areas.
+/// A search for k yards with full areas.
 pub fn search_of(road: &[u8], tree: &[u8], query: &[u8]) -> Call {
+    asked_of(Asked::FirstK, road, tree, query)
+}
+
+/// A drive search with full areas.
+pub fn within_of(seconds: u32, road: &[u8], tree: &[u8], query: &[u8]) -> Call {
+    asked_of(Asked::Within(seconds), road, tree, query)
+}
+
+/// A search of each kind with full areas.
+pub fn searches_of(road: &[u8], tree: &[u8], query: &[u8]) -> [Call; 2] {
+    ASKED.map(|asked| asked_of(asked, road, tree, query))
+}
+
+/// A search with areas that are full beside the sound tree and query.
+fn asked_of(asked: Asked, road: &[u8], tree: &[u8], query: &[u8]) -> Call {
+    let listed = match asked {
+        Asked::FirstK => usize::from(K),
+        Asked::Within(_) => YARDS.len(),
+    };
     Call::Search {
+        asked,
         road: road.to_vec(),
         tree: tree.to_vec(),
         query: query.to_vec(),
         work: WORK_WORDS,
-        results: 2 * usize::from(K),
+        results: 2 * listed,
     }
 }
 
@@ -630,6 +662,10 @@ fn disagreeing() -> Vec<Case> {
         ),
         ("a junction more", search_of(&longer_road, &tree, &query)),
         (
+            "a junction more",
+            within_of(SECONDS, &longer_road, &tree, &query),
+        ),
+        (
             "a yard missing",
             check_of(&road, &yard::write(&[1, 2, 5, 6]), &tree),
         ),
@@ -703,16 +739,26 @@ fn short_areas() -> Vec<Case> {
         }
         add("tree or result area", call);
     }
+    let [road, _, tree, query] = sound_books();
+    for words in [0, 2 * usize::from(K)] {
+        let mut call = within_of(SECONDS, &road, &tree, &query);
+        if let Call::Search { results, .. } = &mut call {
+            *results = words;
+        }
+        add("no more result words than k asks for", call);
+    }
     cases
 }
 
-/// The three calls with sound books and areas just long enough.
-pub fn accepted() -> [Call; 3] {
+/// The four calls with sound books and areas just long enough.
+pub fn accepted() -> [Call; 4] {
     let (road, yard, tree) = (sound_road(), sound_yard(), sound_tree());
+    let [search, within] = searches_of(&road, &tree, &sound_query());
     [
         check_of(&road, &yard, &tree),
         build_of(&road, &yard),
-        search_of(&road, &tree, &sound_query()),
+        search,
+        within,
     ]
 }
 

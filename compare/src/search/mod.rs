@@ -1,4 +1,4 @@
-//! Search: the k yards of least aggregate, by the tree's bounds.
+//! Search: the k yards of least aggregate, or all yards within a drive, by the tree's bounds.
 
 pub mod bound;
 pub mod state;
@@ -20,10 +20,21 @@ pub struct Found {
     pub measured: u32,
 }
 
+/// What a search is asked for, which decides what it keeps and when it stops; its steps are the same.
+#[derive(Clone, Copy, Debug, PartialEq, Eq)]
+pub enum Asked {
+    /// The first k yards, by the query's k.
+    FirstK,
+    /// "each yard whose aggregate is at most a given number of seconds, not a fixed k". "The query's k is tested
+    /// but otherwise unused."
+    Within(u32),
+}
+
 /// All that a search asks of its books, with the crews' true distances and the sheet.
 pub struct Search {
     pub tree: Tree,
     pub query: Query,
+    pub asked: Asked,
     pub sheet: Sheet,
     pub crew_distances: Vec<Vec<u32>>,
 }
@@ -35,7 +46,7 @@ pub struct Outcome {
     pub state: State,
 }
 
-/// "The planner, in C, calls search": refused, settled or spent.
+/// "The planner, in C, calls search": for the first k yards.
 pub fn search(
     road: &[u8],
     tree: &[u8],
@@ -43,7 +54,25 @@ pub fn search(
     work: &mut [u32],
     results: &mut [u32],
 ) -> Found {
-    let search = match tested(road, tree, query, work.len(), results.len()) {
+    ask(Asked::FirstK, [road, tree, query], work, results)
+}
+
+/// "a search that lists all of them, each once, in yard order, by the same steps, limit and "spent"": all yards
+/// within so many seconds.
+pub fn within(
+    road: &[u8],
+    tree: &[u8],
+    query: &[u8],
+    seconds: u32,
+    work: &mut [u32],
+    results: &mut [u32],
+) -> Found {
+    ask(Asked::Within(seconds), [road, tree, query], work, results)
+}
+
+/// A search of road, tree and query books: refused, settled or spent.
+pub fn ask(asked: Asked, books: [&[u8]; 3], work: &mut [u32], results: &mut [u32]) -> Found {
+    let search = match tested(asked, books, work.len(), results.len()) {
         Ok(search) => search,
         Err(refusal) => return refused(refusal),
     };
@@ -58,25 +87,35 @@ pub fn search(
 /// "Books are tested in the order road, yard, tree, query, each through its own tests, a test between books
 /// going with the later one; then the call's m, leaf limit and areas."
 pub fn tested(
-    road: &[u8],
-    tree: &[u8],
-    query: &[u8],
+    asked: Asked,
+    [road, tree, query]: [&[u8]; 3],
     work: usize,
     results: usize,
 ) -> Result<Search, u32> {
     let road = road::read(road)?;
     let tree = tree::read(tree, road.junctions)?;
     let query = query::read(query, road.junctions)?;
-    refuse_unless(work >= WORK_WORDS && results >= 2 * query.k, AREA)?;
+    let needed = result_words(asked, &tree, &query);
+    refuse_unless(work >= WORK_WORDS && results >= needed, AREA)?;
     let sheet = Sheet::new(&road, &tree);
     let distances = |&crew: &u16| road.least_distances(crew);
     let crew_distances = query.crews.iter().map(distances).collect();
     Ok(Search {
         tree,
         query,
+        asked,
         sheet,
         crew_distances,
     })
+}
+
+/// "results below 2 × k words"; of a drive search, "The result area holds two words for each yard in the tree,
+/// or refusal 12."
+fn result_words(asked: Asked, tree: &Tree, query: &Query) -> usize {
+    match asked {
+        Asked::FirstK => 2 * query.k,
+        Asked::Within(_) => 2 * usize::from(tree.yards),
+    }
 }
 
 /// "It is spent exactly if the limit's number of steps was taken and it isn't settled."

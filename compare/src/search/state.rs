@@ -3,7 +3,7 @@
 use std::collections::{BTreeMap, BTreeSet, VecDeque};
 
 use super::bound::{f, pick_landmark, region_key, yard_bound};
-use super::Search;
+use super::{Asked, Search};
 
 /// "at equal keys a region precedes a yard, then lower number first": the order of the cases is this order.
 #[derive(Clone, Copy, Debug, PartialEq, Eq, PartialOrd, Ord)]
@@ -46,14 +46,22 @@ impl State {
         }
     }
 
-    /// "The search is settled when the queue is empty, or k are held and every queued key is above the
-    /// greatest held distance."
+    /// "The search is settled when the queue is empty, or [...] every queued key is above" what it goes by.
     pub fn settled(&self, search: &Search) -> bool {
-        let Some((least_key, _)) = self.queue.first() else {
+        let Some(&(least_key, _)) = self.queue.first() else {
             return true;
         };
-        let full = self.held.len() == search.query.k;
-        full && self.held.last().is_some_and(|(d, _)| least_key > d)
+        let last = self.last_wanted(search);
+        last.is_some_and(|last| least_key > last)
+    }
+
+    /// What every queued key must be above: once "k are held [...] the greatest held distance"; in a drive
+    /// search "the seconds".
+    fn last_wanted(&self, search: &Search) -> Option<u64> {
+        match search.asked {
+            Asked::FirstK => self.held.get(search.query.k - 1).map(|&(d, _)| d),
+            Asked::Within(seconds) => Some(u64::from(seconds)),
+        }
     }
 }
 
@@ -116,12 +124,22 @@ fn first_taken(search: &Search, key: u64, number: usize) -> Leaf {
     }
 }
 
-/// "A yard is measured by true distances; the k least so far in yard order are held."
+/// "A yard is measured by true distances", and held at its place in yard order as far as the search keeps it.
 fn take_yard(search: &Search, state: &mut State, yard: u16) {
     state.measured.push(yard);
-    state.held.push((true_distance(search, yard), yard));
-    state.held.sort_unstable();
-    state.held.truncate(search.query.k);
+    let measured = (true_distance(search, yard), yard);
+    let place = state.held.partition_point(|held| *held < measured);
+    state.held.insert(place, measured);
+    state.held.truncate(kept(search, &state.held));
+}
+
+/// How many of some yards in yard order are kept: "the k least"; in a drive search "each yard whose aggregate
+/// is at most a given number of seconds".
+fn kept(search: &Search, yards: &[(u64, u16)]) -> usize {
+    match search.asked {
+        Asked::FirstK => search.query.k,
+        Asked::Within(seconds) => yards.partition_point(|&(d, _)| d <= u64::from(seconds)),
+    }
 }
 
 /// The aggregate of a yard's true distances to the crews.

@@ -4,6 +4,7 @@ use build_tree::Built;
 use search_tree::Found;
 ghost use mathlib.Core.Path.{_≡_};
 ghost use mathlib.Core.List.{_∷_, []};
+ghost use mathlib.Core.Option.{none, some};
 ghost use lib.ListN.{length};
 ghost use Rattle.work_area.specs.Work.{workAfter};
 ghost use Rattle.build_tree.specs.Build.{buildAnswer, builtLength, treeAfter};
@@ -60,10 +61,10 @@ pub fn build_and_search(
 ) -> Found
     ensures found { λ r. ⌜ foundOf r ≡ searchFound (now (road .entry))
         (writtenBook (now (road .entry)) (now (yard .entry)) m limit (length (now (work .entry))) (now (tree .entry)))
-        (now (query .entry)) (length (now (work .entry))) (length (now (results .entry))) ⌝ }
+        (now (query .entry)) none (length (now (work .entry))) (length (now (results .entry))) ⌝ }
     ensures work { λ _. ⌜ now (work .exit) ≡ workAfter (searchRefusal (now (road .entry))
         (writtenBook (now (road .entry)) (now (yard .entry)) m limit (length (now (work .entry))) (now (tree .entry)))
-        (now (query .entry)) (length (now (work .entry))) (length (now (results .entry))))
+        (now (query .entry)) none (length (now (work .entry))) (length (now (results .entry))))
         (workAfter (buildAnswer (now (road .entry)) (now (yard .entry)) m limit
         (length (now (work .entry))) (length (now (tree .entry))))
         (workAfter (buildAnswer (now (road .entry)) (now (yard .entry)) m limit
@@ -72,7 +73,7 @@ pub fn build_and_search(
         (length (now (work .entry))) (now (tree .entry)) ⌝ }
     ensures results { λ _. ⌜ now (results .exit) ≡ resultsAfter (now (road .entry))
         (writtenBook (now (road .entry)) (now (yard .entry)) m limit (length (now (work .entry))) (now (tree .entry)))
-        (now (query .entry)) (length (now (work .entry))) (now (results .entry)) ⌝ }
+        (now (query .entry)) none (length (now (work .entry))) (now (results .entry)) ⌝ }
 {
     let built = build_checked(road, yard, m, limit, work, tree);
     let n = built.length as usize;
@@ -87,10 +88,29 @@ pub fn search_promised(
     work: &mut [u32],
     results: &mut [u32],
 ) -> Found
-    ensures found { λ r. ⌜ foundOf r ≡ searchFound (now (road .entry)) (now (tree .entry)) (now (query .entry))
+    ensures found { λ r. ⌜ foundOf r ≡ searchFound (now (road .entry)) (now (tree .entry)) (now (query .entry)) none
         (length (now (work .entry))) (length (now (results .entry))) ⌝ }
-    ensures promised { λ _. ⌜ Promised (callOf (now (road .entry)) (now (tree .entry)) (now (query .entry)) ∷ [])
+    ensures promised { λ _. ⌜ Promised (callOf (now (road .entry)) (now (tree .entry)) (now (query .entry)) none ∷ [])
         (areasOf (now (work .entry)) (now (results .entry))) ⌝ }
 {
     finder::finder_search(road, tree, query, work, results)
+}
+
+// Searches within a drive, and has what demand 3 promises of it: of a tree that passes the list is exactly the yards
+// within the seconds.
+pub fn within_promised(
+    road: &[u8],
+    tree: &[u8],
+    query: &[u8],
+    seconds: u32,
+    work: &mut [u32],
+    results: &mut [u32],
+) -> Found
+    ensures found { λ r. ⌜ foundOf r ≡ searchFound (now (road .entry)) (now (tree .entry)) (now (query .entry))
+        (some seconds) (length (now (work .entry))) (length (now (results .entry))) ⌝ }
+    ensures promised { λ _. ⌜ Promised
+        (callOf (now (road .entry)) (now (tree .entry)) (now (query .entry)) (some seconds) ∷ [])
+        (areasOf (now (work .entry)) (now (results .entry))) ⌝ }
+{
+    finder::finder_within(road, tree, query, seconds, work, results)
 }

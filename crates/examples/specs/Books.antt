@@ -1,5 +1,6 @@
 -- The books of the paper's examples, byte by byte, and what a search on them gives. Assumes nothing: these are
 -- definitions.
+use mathlib.Core.Option.{none}
 use mathlib.Core.List.{List, [], _∷_, _++_}
 use Prim.Native.Nat.{ℕ, _+_, _*_, _/_}
 use lib.ListN.{length, drop, replicate}
@@ -65,13 +66,13 @@ asking code k limit crews = 0 ∷ 0 ∷ 0 ∷ (8 + 2 * length crews) ∷ 1 ∷ c
     crewBytes crews
 
 unfoldable pub onN : List ℕ → Call
-onN query = record { road = roadN; tree = treeN; query = query }
+onN query = record { road = roadN; tree = treeN; query = query; drive = none }
 
 unfoldable pub onOne : List ℕ → Call
-onOne query = record { road = roadOne; tree = treeOne; query = query }
+onOne query = record { road = roadOne; tree = treeOne; query = query; drive = none }
 
 unfoldable pub onThree : List ℕ → Call
-onThree query = record { road = roadThree; tree = treeThree; query = query }
+onThree query = record { road = roadThree; tree = treeThree; query = query; drive = none }
 
 -- ---- what is seen of a call
 

@@ -3,6 +3,7 @@ use mathlib.Core.Path.{_≡_}
 use mathlib.Core.List.{List, [], _∷_}
 use Prim.Native.Nat.{ℕ, _≤_}
 use Rattle.tree_layout.specs.Values.{Element}
+use Rattle.search_rules.specs.Rule.{nearest}
 use Rattle.search_rules.specs.Instance.{Instance}
 use Rattle.search_rules.specs.Bounds.{crewBound, f}
 use Rattle.tree_layout.specs.Values.{noMark}
@@ -12,7 +13,7 @@ use Rattle.examples.specs.Books.{asking, onN, onOne, onThree, row, settl
 unfoldable pub valued : List ℕ → Instance
 valued crews = record {
   code = 0;
-  k = 1;
+  rule = nearest 1;
   crews = crews;
   tree = record {
     junctions = 0;

@@ -2,6 +2,7 @@
 use mathlib.Core.Path.{_≡_, refl, _∙_}
 use mathlib.Core.Logic.{_↔_}
 use mathlib.Core.List.{List, [], _∷_, _++_}
+use mathlib.Core.Option.{Option}
 use Prim.Native.Nat.{ℕ, _≤_}
 use native.Mathlib.Omega.{arith}
 use lib.ListN.{length}
@@ -35,14 +36,14 @@ use Rattle.check_tree.proofs.Turning.{check-tests, none-turned}
 use Rattle.build_tree.specs.Build.{buildAnswer}
 use Rattle.build_tree.proofs.Theorems.{build-refusals, build-exact}
 use Rattle.build_tree.proofs.FirstFailing.{build-tests}
-use Rattle.query.specs.Query.{kOf}
 use Rattle.query.proofs.Reading.{query-exact}
-use Rattle.search_call.specs.Call.{Call, Areas, treeRefusalIn, foundOn}
+use Rattle.search_call.specs.Call.{mostYards, Call, Areas, treeRefusalIn, foundOn}
 use Rattle.search_call.proofs.Refusing.{counts-agree, long-enough, by-areas}
 use Rattle.search_call.proofs.FirstFailing.{search-tests}
 use Rattle.search_call.proofs.Calls.{on-number, on-refused, on-tests, work-zeroed, areas-kept}
 use Rattle.search_call.proofs.Demand.{demand-3, any-tree}
 use Rattle.search_call.proofs.Lists.{work-unread}
+use Rattle.search_call.proofs.Agreeing.{searches-agree}
 use Rattle.finder.specs.Promises.{SoundBooks, SoundTreeBook, FirstRefusal, AcceptedCheck, CheckSafe, CheckTrue, FirstBuildRefusal, BuildAccepted}
 use Rattle.finder.specs.Promises.{BuildSafe}
 use Rattle.finder.specs.Promises.{BuildTrue, FirstSearchRefusal, SearchAccepted, SearchSafe, SearchesTrue, SearchesDecided}
@@ -212,6 +213,9 @@ module _ (c : Call) (a : Areas) where
   abbrev query : List ℕ
   query = c .query
 
+  abbrev drive : Option ℕ
+  drive = c .drive
+
   abbrev words : ℕ
   words = length (a .work)
 
@@ -221,19 +225,19 @@ module _ (c : Call) (a : Areas) where
   agree : SoundTreeBook (c .road) (c .tree) → treeRefusalIn (c .tree) (junctions (c .road)) ≡ 0
   agree s = counts-agree tree (junctions road) (sound-tree road tree s) (s .counts)
 
-  first-search-refusal : FirstSearchRefusal (c .road) (c .tree) (c .query) (length (a .work)) (length (a .results)) (foundOn c a .refusal)
+  first-search-refusal : FirstSearchRefusal (c .road) (c .tree) (c .query) (c .drive) (length (a .work)) (length (a .results)) (foundOn c a .refusal)
   first-search-refusal =
-      let f = rw (← on-number c a) at (search-tests road tree query words room) in
+      let f = rw (← on-number c a) at (search-tests road tree query drive words room) in
       record {
-        first = first-exact (searchTests road tree query words room) (foundOn c a .refusal) f;
+        first = first-exact (searchTests road tree query drive words room) (foundOn c a .refusal) f;
         six = six-exact road _ (foundOn c a .refusal) f tt;
         seven = seven-exact tree (roadTests road) _ (foundOn c a .refusal) (roads-none road) f tt tt tt tt;
       }
 
-  search-accepted : (foundOn c a .refusal ≡ 0) ↔ SearchAccepted (c .road) (c .tree) (c .query) (length (a .work)) (length (a .results))
+  search-accepted : (foundOn c a .refusal ≡ 0) ↔ SearchAccepted (c .road) (c .tree) (c .query) (c .drive) (length (a .work)) (length (a .results))
   search-accepted = (there, back)
     where
-      there : foundOn c a .refusal ≡ 0 → SearchAccepted road tree query words room
+      there : foundOn c a .refusal ≡ 0 → SearchAccepted road tree query drive words room
       there e =
           let t = on-tests c a e in
           record {
@@ -243,11 +247,11 @@ module _ (c : Call) (a : Areas) where
             areas = record { work = t .work-full; results = t .results-full };
           }
 
-      back : SearchAccepted road tree query words room → foundOn c a .refusal ≡ 0
+      back : SearchAccepted road tree query drive words room → foundOn c a .refusal ≡ 0
       back s =
-          on-number c a ∙ (by-areas road tree query words room (passing-exact road .1 (s .roads)) (agree (s .tree-sound)) (query-exact query (junctions road)
+          on-number c a ∙ (by-areas road tree query drive words room (passing-exact road .1 (s .roads)) (agree (s .tree-sound)) (query-exact query (junctions road)
           .1 (s .asked))
-          ∙ long-enough (kOf query) words room (s .areas .work) (s .areas .results))
+          ∙ long-enough (mostYards tree query drive) words room (s .areas .work) (s .areas .results))
 
 pub search-safe : SearchSafe
 search-safe c a = record {
@@ -263,4 +267,4 @@ pub searches-true : SearchesTrue
 searches-true = demand-3
 
 pub searches-decided : SearchesDecided
-searches-decided = (any-tree, work-unread)
+searches-decided = (any-tree, work-unread, searches-agree)

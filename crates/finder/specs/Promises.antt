@@ -2,15 +2,14 @@
 -- statements.
 --
 -- A call is lent books, lists of bytes, and a work area, a list of words; a build also the area of its tree, and a
--- search a result area of words. The contracts in
--- src/lib.rt say that a check answers `checkAnswer` of them, that a build answers `buildAnswer` and `builtLength` and
--- leaves `treeAfter` in the tree's area, that a
--- search answers `searchFound` and leaves `resultsAfter` in the result area, and that each leaves `workAfter` in the
--- work area; the statements here are about these,
--- for all lists.
+-- search a result area of words. The contracts in src/lib.rt say that a check answers `checkAnswer` of them, that a
+-- build answers `buildAnswer` and `builtLength` and leaves `treeAfter` in the tree's area, that a search answers
+-- `searchFound` and leaves `resultsAfter` in the result area, and that each leaves `workAfter` in the work area; the
+-- statements here are about these, for all lists.
 use mathlib.Core.Path.{_≡_}
 use mathlib.Core.Logic.{_≢_, _↔_}
 use mathlib.Core.List.{List, [], _∷_, _++_}
+use mathlib.Core.Option.{Option}
 use Prim.Native.Nat.{ℕ, _*_, _≤_, _<_}
 use lib.ListN.{length, drop}
 use Rattle.book.specs.Tests.{Test, test, FirstFailing}
@@ -34,10 +33,10 @@ use Rattle.check_tree.specs.Facts.{HoldsEach, TrueTotals}
 use Rattle.build_tree.specs.Build.{treeBytes, buildAnswer, builtTree, builtLength, treeAfter}
 use Rattle.build_tree.specs.Building.{BuiltFrom}
 use Rattle.build_tree.specs.Facts.{InRange, BuildAreas, writtenBook}
-use Rattle.query.specs.Query.{kOf, QueryLayout}
+use Rattle.query.specs.Query.{QueryLayout}
 use Rattle.query.specs.Tests.{queryTests}
-use Rattle.search_call.specs.Call.{Call, Found, foundOn, callOn, Areas as Lent, refused as refusedWith}
-use Rattle.search_call.specs.Demand.{Promised, OfBytes, AnyTree, WorkUnread}
+use Rattle.search_call.specs.Call.{mostYards, Call, Found, foundOn, callOn, Areas as Lent, refused as refusedWith}
+use Rattle.search_call.specs.Demand.{Promised, OfBytes, AnyTree, WorkUnread, SearchesAgree}
 
 -- ---- sound books
 
@@ -68,9 +67,8 @@ NumbersTrue road tree = TrueTotals (net road) (decode tree .regions)
 -- ---- demand 1, of check
 --
 -- Nothing handed in can make a call read or write outside what is lent, wrap, or fail to end. That is no statement
--- here: the prover shows it of every function,
--- for every input that meets its `requires`, before it looks at a contract, and the calls have no `requires`. Books are
--- lent as `&[u8]`, which no code can write.
+-- here: the prover shows it of every function, for every input that meets its `requires`, before it looks at a
+-- contract, and the calls have no `requires`. Books are lent as `&[u8]`, which no code can write.
 --
 -- The rest of the demand: "input outside the layouts gets exactly the refusal listed", and the areas.
 
@@ -128,10 +126,9 @@ CheckSafe = (road yard tree work : List ℕ)
 -- ---- demand 2, of check
 --
 -- "Beside a sound road book and yard book, with full areas, a tree of sound layout and shape and of the road book's
--- junction count passes the check if and only if
--- its leaves hold each yard of the yard book once and no other, and each stored distance is the least total of any walk
--- through the roads, as the COLT paper
--- defines it, with each least and greatest true of its region's yards."
+-- junction count passes the check if and only if its leaves hold each yard of the yard book once and no other, and each
+-- stored distance is the least total of any walk through the roads, as the COLT paper defines it, with each least and
+-- greatest true of its region's yards."
 abbrev pub CheckTrue : Type 0
 CheckTrue = (road yard tree : List ℕ) (words : ℕ) → SoundBooks road yard → workWords ≤ words → SoundTreeBook road tree
     → (checkAnswer road yard tree words ≡ 0) ↔ (YardsHeld yard tree × NumbersTrue road tree)
@@ -213,14 +210,15 @@ BuildTrue = (road yard : List ℕ) (m limit : ℕ) (work tree : List ℕ) → So
 
 -- ---- demand 1, of search
 
--- "work below 16,384 words, results below 2 × k words": both areas are long enough
-pub record SearchAreas (query : List ℕ) (words room : ℕ) : Type 0 where
+-- "work below 16,384 words, results below 2 × k words", or, of a drive search, below "two words for each yard in the
+-- tree": both areas are long enough
+pub record SearchAreas (tree query : List ℕ) (drive : Option ℕ) (words room : ℕ) : Type 0 where
   pub work : workWords ≤ words
-  pub results : 2 * kOf query ≤ room
+  pub results : 2 * mostYards tree query drive ≤ room
 
--- "Turned back, in this order": a search's tests
-abbrev pub searchTests : (road tree query : List ℕ) (words room : ℕ) → List Test
-searchTests road tree query words room =
+-- "Turned back, in this order": a search's tests. A drive search has its seconds, and a search for k yards none.
+abbrev pub searchTests : (road tree query : List ℕ) (drive : Option ℕ) (words room : ℕ) → List Test
+searchTests road tree query drive words room =
     -- "Books are tested in the order road, .., tree, query": the road book's 1 to 6
     roadTests road
     -- the tree book's 1 to 5, and 7
@@ -229,32 +227,32 @@ searchTests road tree query words room =
     ++ test 8 (junctionCount tree ≡ junctions road)
     -- the query book's 1 to 4, 10 and 11
     ∷ queryTests query (junctions road)
-    -- 12: "work below 16,384 words, results below 2 × k words"
+    -- 12: "work below 16,384 words, results below 2 × k words", or below "two words for each yard in the tree"
     ++ test 12 (workWords ≤ words)
-    ∷ test 12 (2 * kOf query ≤ room)
+    ∷ test 12 (2 * mostYards tree query drive ≤ room)
     ∷ []
 
 -- the refusal of a search is the number of the first test that fails
-pub record FirstSearchRefusal (road tree query : List ℕ) (words room answer : ℕ) : Type 0 where
-  pub first : (n : ℕ) → (answer ≡ n) ↔ FirstFailing (searchTests road tree query words room) n
+pub record FirstSearchRefusal (road tree query : List ℕ) (drive : Option ℕ) (words room answer : ℕ) : Type 0 where
+  pub first : (n : ℕ) → (answer ≡ n) ↔ FirstFailing (searchTests road tree query drive words room) n
   -- 6 exactly if the road book's layout is sound and some junction has no walk from junction 0
   pub six : (answer ≡ 6) ↔ (RoadLayout road × CutOff road)
   -- 7 exactly if the road book is sound and so is the tree's layout, but "Tree shape" does not hold
   pub seven : (answer ≡ 7) ↔ (Passing road × TreeLayout tree × (TreeShape (decode tree) → ⊥))
 
 -- what holds whenever a search's refusal is 0
-pub record SearchAccepted (road tree query : List ℕ) (words room : ℕ) : Type 0 where
+pub record SearchAccepted (road tree query : List ℕ) (drive : Option ℕ) (words room : ℕ) : Type 0 where
   pub roads : Passing road
   pub tree-sound : SoundTreeBook road tree
   pub asked : QueryLayout query (junctions road)
-  pub areas : SearchAreas query words room
+  pub areas : SearchAreas tree query drive words room
 
 -- a search's answer, and both areas before and after
 pub record SearchKept (c : Call) (a : Lent) (found : Found) (after : Lent) : Type 0 where
-  pub refused : FirstSearchRefusal (c .road) (c .tree) (c .query) (length (a .work)) (length (a .results)) (found
-      .refusal)
-  pub accepted : (found .refusal ≡ 0) ↔ SearchAccepted (c .road) (c .tree) (c .query) (length (a .work)) (length (a
-      .results))
+  pub refused : FirstSearchRefusal (c .road) (c .tree) (c .query) (c .drive) (length (a .work))
+      (length (a .results)) (found .refusal)
+  pub accepted : (found .refusal ≡ 0) ↔ SearchAccepted (c .road) (c .tree) (c .query) (c .drive) (length (a .work))
+      (length (a .results))
   -- "A refusal returns its number, with every other returned field 0, and changes no lent byte or word."
   pub kept : found .refusal ≢ 0 → (found ≡ refusedWith (found .refusal)) × (after ≡ a)
   -- "zero the first 16,384 words of the work area and leave any after them"
@@ -265,18 +263,17 @@ SearchSafe = (c : Call) (a : Lent) → SearchKept c a (foundOn c a) (callOn c a)
 
 -- ---- demand 3
 --
--- Any list of searches on one work area and one result area, which hold anything at first: each is given both areas as
--- the one before left them, and brings its own
--- books. `Promised` (crates/search_call/specs/Demand.antt) has the demand's four sentences: a settled search on a tree
--- that passes lists exactly the first k yards;
--- none of these measured a yard whose bound exceeds the last listed distance of a full list; enough steps always
--- settle; at the end the result area is what it held
--- at first with all the settled lists written over its start in turn. A tree book is asked to be of bytes, which a lent
--- book is.
+-- Any list of searches of both kinds, mixed, on one work area and one result area, which hold anything at first: each
+-- is given both areas as the one before left them, and brings its own books. `Promised`
+-- (crates/search_call/specs/Demand.antt) has the demand's four sentences: a settled search on a tree that passes lists
+-- exactly the first k yards, or exactly those within its drive; none of these measured a yard whose bound exceeds the
+-- last listed distance of a full list, or the seconds; enough steps always settle; at the end the result area is what
+-- it held at first with all the settled lists written over its start in turn. A tree book is asked to be of bytes,
+-- which a lent book is.
 abbrev pub SearchesTrue : Type 0
 SearchesTrue = (calls : List Call) → OfBytes calls → (first : Lent) → Promised calls first
 
--- Beside it: what holds of every search, on a tree that "check would refuse by 9" too, and that the work area's
--- contents never matter.
+-- Beside it: what holds of every search, on a tree that "check would refuse by 9" too; that the work area's contents
+-- never matter; and that the two kinds of search agree.
 abbrev pub SearchesDecided : Type 0
-SearchesDecided = AnyTree × WorkUnread
+SearchesDecided = AnyTree × WorkUnread × SearchesAgree

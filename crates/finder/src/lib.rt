@@ -2,7 +2,9 @@
 // says what is lent.
 use build_tree::Built;
 use search_tree::Found;
+use search_tree::Goal;
 ghost use mathlib.Core.Path.{_≡_};
+ghost use mathlib.Core.Option.{none, some};
 ghost use lib.ListN.{length};
 ghost use Rattle.book.specs.Bytes.{Bytes};
 ghost use Rattle.work_area.specs.Work.{workAfter};
@@ -61,15 +63,40 @@ pub extern "C" fn finder_search(
     work: &mut [u32],
     results: &mut [u32],
 ) -> Found
-    ensures found { λ r. ⌜ foundOf r ≡ searchFound (now (road .entry)) (now (tree .entry)) (now (query .entry))
+    ensures found { λ r. ⌜ foundOf r ≡ searchFound (now (road .entry)) (now (tree .entry)) (now (query .entry)) none
         (length (now (work .entry))) (length (now (results .entry))) ⌝ }
     ensures work { λ _. ⌜ now (work .exit) ≡ workAfter (searchRefusal (now (road .entry)) (now (tree .entry)) (now
-        (query .entry))
+        (query .entry)) none
         (length (now (work .entry))) (length (now (results .entry)))) (now (work .entry)) ⌝ }
     ensures results { λ _. ⌜ now (results .exit)
-        ≡ resultsAfter (now (road .entry)) (now (tree .entry)) (now (query .entry))
+        ≡ resultsAfter (now (road .entry)) (now (tree .entry)) (now (query .entry)) none
         (length (now (work .entry))) (now (results .entry)) ⌝ }
     ensures bytes { λ _. ⌜ Bytes (now (road .entry)) × Bytes (now (tree .entry)) × Bytes (now (query .entry)) ⌝ }
 {
-    search_tree::search(road, tree, query, work, results)
+    search_tree::search(road, tree, query, Goal::Nearest, work, results)
+}
+
+// Searches a tree book beside a road book for every yard whose aggregate is at most so many seconds, by the query's
+// aggregate, crews and limit of steps; its k is tested and not used. What it returns and writes is as in a search, and
+// the result area holds two words for each yard of the tree.
+#[no_mangle]
+pub extern "C" fn finder_within(
+    road: &[u8],
+    tree: &[u8],
+    query: &[u8],
+    seconds: u32,
+    work: &mut [u32],
+    results: &mut [u32],
+) -> Found
+    ensures found { λ r. ⌜ foundOf r ≡ searchFound (now (road .entry)) (now (tree .entry)) (now (query .entry))
+        (some seconds) (length (now (work .entry))) (length (now (results .entry))) ⌝ }
+    ensures work { λ _. ⌜ now (work .exit) ≡ workAfter (searchRefusal (now (road .entry)) (now (tree .entry)) (now
+        (query .entry)) (some seconds)
+        (length (now (work .entry))) (length (now (results .entry)))) (now (work .entry)) ⌝ }
+    ensures results { λ _. ⌜ now (results .exit)
+        ≡ resultsAfter (now (road .entry)) (now (tree .entry)) (now (query .entry))
+        (some seconds) (length (now (work .entry))) (now (results .entry)) ⌝ }
+    ensures bytes { λ _. ⌜ Bytes (now (road .entry)) × Bytes (now (tree .entry)) × Bytes (now (query .entry)) ⌝ }
+{
+    search_tree::search(road, tree, query, Goal::InDrive(seconds), work, results)
 }

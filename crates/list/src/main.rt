@@ -1,8 +1,6 @@
 // Reads a road book, a tree book and a query book from standard input, and writes the yards that a search lists, or
 // that it is spent, or that it is refused. The whole text is made first, and then written.
-mod answer; // answer.rt: a search's answer as text
-mod books; // books.rt: the books of the input, and the search by them
-
+use search_tree::Goal;
 use streams::Read;
 ghost use mathlib.Core.Path.{_≡_};
 ghost use Prim.Native.Nat.{_≤_};
@@ -10,14 +8,13 @@ ghost use lib.ListN.{length, take};
 ghost use Rattle.list.specs.Output.{listText};
 
 // Makes the text that the input leads to, at the start of an array, and answers its length.
-fn listing(input: &[u8], out: &mut [u8]) -> usize
+fn text_of(input: &[u8], out: &mut [u8]) -> usize
     requires { ⌜ 65536 ≤ length (now out) ⌝ }
     ensures text { λ r. ⌜ take r (now (out .exit)) ≡ listText (now (input .entry)) ⌝ }
     ensures fits { λ r. ⌜ r ≤ 65536 ⌝ }
 {
     let mut results = [0u32; 128];
-    let found = books::find(input, &mut results);
-    answer::put(found, &results, out)
+    listing::put(input, Goal::Nearest, &mut results, out)
 }
 
 fn main() {
@@ -26,6 +23,6 @@ fn main() {
         return;
     };
     let mut out = io::large_buffer();
-    let end = listing(&input[..n], &mut out);
+    let end = text_of(&input[..n], &mut out);
     streams::write_output(&out[..end]);
 }

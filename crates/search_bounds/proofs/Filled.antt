@@ -13,6 +13,7 @@ use Rattle.tree_layout.specs.Facts.{TreeLayout}
 use Rattle.tree_layout.proofs.Places.{place-first, decode-junctions}
 use Rattle.tree_layout.specs.Reading.{headerOf}
 use Rattle.tree_layout.specs.declared.Header.{Header}
+use Rattle.search_rules.specs.Rule.{Rule}
 use Rattle.search_rules.specs.Instance.{Instance, marks}
 use Rattle.search_rules.specs.Books.{searchOf}
 use Rattle.search_rules.specs.Bounds.{tableAt}
@@ -78,7 +79,7 @@ module _ (tree : List ℕ) (layout : TreeLayout tree) where
 
 -- ---- a search's landmark table
 
-module _ (road tree : List ℕ) (layout : TreeLayout tree) (code goal : ℕ) (crews : List ℕ) where
+module _ (road tree : List ℕ) (layout : TreeLayout tree) (code : ℕ) (goal : Rule) (crews : List ℕ) where
   abbrev i : Instance
   i = searchOf road tree code goal crews
 

@@ -10,6 +10,7 @@ use Rattle.tree_layout.specs.Values.{Mark, regionAt}
 use Rattle.tree_layout.specs.Decode.{decode, landmarkCount}
 use Rattle.tree_layout.proofs.Formed.{at-mem, decode-formed}
 use Rattle.tree_layout.proofs.Places.{decode-landmarks}
+use Rattle.search_rules.specs.Rule.{Rule}
 use Rattle.search_rules.specs.Instance.{Instance, marks}
 use Rattle.search_rules.specs.Books.{searchOf, Passed}
 use Rattle.search_rules.specs.Bounds.{lower, bound, chosen}
@@ -29,7 +30,7 @@ same-chosen : (table : List ℕ) (rows : ℕ) (crews crews′ : List ℕ) (ks ks
     → rowsChosen table rows crews ks ≡ rowsChosen table rows crews′ ks′
 same-chosen table rows crews crews′ ks ks′ e f = rw (e, f) refl
 
-module _ (road tree : List ℕ) (code goal : ℕ) (crews : List ℕ) where
+module _ (road tree : List ℕ) (code : ℕ) (goal : Rule) (crews : List ℕ) where
   abbrev i : Instance
   i = searchOf road tree code goal crews
 

@@ -9,6 +9,7 @@ use Rattle.book.proofs.Lists.{getD-mem}
 use Rattle.road.specs.Dijkstra.{dist}
 use Rattle.tree_layout.specs.Values.{Element, Mark}
 use Rattle.tree_layout.specs.Decode.{decode}
+use Rattle.search_rules.specs.Rule.{Rule}
 use Rattle.search_rules.specs.Instance.{Instance}
 use Rattle.search_rules.specs.Books.{searchOf}
 use Rattle.search_rules.specs.Bounds.{absDiff, combine, aggregate, lower, total, f, yardBound}
@@ -31,12 +32,12 @@ aggregate-to code g road l (q ∷ qs) =
 
 -- ---- of a search of two books
 
-module _ (road tree : List ℕ) (code goal : ℕ) (crews : List ℕ) where
+module _ (road tree : List ℕ) (code : ℕ) (goal : Rule) (crews : List ℕ) where
   abbrev i : Instance
   i = searchOf road tree code goal crews
 
   abbrev j : Instance
-  j = record { code = code; k = goal; crews = crews; tree = decode tree; d = dist road }
+  j = record { code = code; rule = goal; crews = crews; tree = decode tree; d = dist road }
 
   pub total-of : (y : ℕ) → totalOf road code crews y ≡ total i y
   unfolding totalOf

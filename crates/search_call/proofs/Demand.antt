@@ -2,6 +2,7 @@
 use mathlib.Core.Bool.{not}
 use mathlib.Core.Path.{_≡_, refl, sym, ap, _∙_}
 use mathlib.Core.List.{List, [], _∷_, _++_, map, List·Memᴰ as Mem, List·Memᴰ·head as head, List·Memᴰ·tail as tail}
+use mathlib.Core.Option.{Option, none, some, Option·some-ne-none, Option·none-ne-some, Option·some-injective}
 use Prim.Native.Nat.{ℕ, _+_, _≤_}
 use native.Mathlib.Omega.{arith}
 use lib.ListN.{length, drop}
@@ -21,19 +22,24 @@ use Rattle.check_tree.specs.Facts.{SoundBeside}
 use Rattle.check_tree.proofs.Passing.{passed-laid, passed-yards, passed-true}
 use Rattle.search_rules.specs.Run.{words, answer}
 use Rattle.search_rules.specs.Facts.{WellFormed, SoundInstance}
-use Rattle.search_rules.specs.Theorems.{Sorted, TreeYards, Listing, Decided as RulesDecided}
+use Rattle.search_rules.specs.Rule.{Rule, nearest, inDrive}
+use Rattle.search_rules.specs.Books.{searchOf}
+use Rattle.search_rules.specs.Walks.{FirstYards, DriveYards}
+use Rattle.search_rules.specs.Theorems.{Sorted, NotPast, TreeYards, Listing, Decided as RulesDecided}
 use Rattle.search_rules.proofs.Held.{before-not, greatest-is}
 use Rattle.search_rules.specs.Books.{Passed}
 use Rattle.search_rules.proofs.Books.{well-of, sound-of}
-use Rattle.search_rules.proofs.Asked.{asked-k, asked-yards, asked-there, asked-ends}
+use Rattle.search_rules.proofs.Asked.{asked-rule, asked-yards, asked-there, asked-ends}
 use Rattle.search_rules.proofs.Theorems.{decided, answer-taken, answer-measured, answer-listing, answer-within, answer-spent, words-length}
-use Rattle.search_rules.proofs.Walks.{total-least, first-yards}
-use Rattle.search_call.specs.Call.{Call, Areas, Search, searches}
-use Rattle.search_call.specs.Demand.{OnPassing, NotRefused, Settled, code, k, crews, limit, yards, instanceOf, list, Full, lastDistance, measured}
+use Rattle.search_rules.proofs.Walks.{total-least, first-yards, drive-yards}
+use Rattle.search_rules.proofs.Fronts.{nearest-allowed, drive-allowed, nearest-not-past, drive-not-past}
+use Rattle.search_call.specs.Call.{ruleBy, Call, Areas, Search, searches}
+use Rattle.search_call.specs.Demand.{OnPassing, NotRefused, Settled, ForYards, ForDrive, code, k, crews, arcs, limit, yards, instanceOf, list, Full, lastDistance, measured}
 use Rattle.search_call.specs.Demand.{BoundOf, Demand3, TrueList, DecidedSearch, AnyTree, OwnYards}
 use Rattle.search_call.proofs.Calls.{on-settled, settled-on, spent-on, on-listed, on-taken, on-measured, on-tests, on-refused, work-zeroed}
 use Rattle.search_call.proofs.Calls.{results-written, results-kept, areas-kept}
 use Rattle.search_call.proofs.Bounded.{has-bound, one-bound}
+use Rattle.search_call.proofs.Room.{listed-most}
 use Rattle.search_call.proofs.Lists.{call-of, written-in-turn}
 
 -- whatever yard book a tree passes with has the tree's own yards
@@ -65,39 +71,87 @@ module _ (s : Search) where
   abbrev tree : List ℕ
   tree = s .call .tree
 
+  abbrev rule : Rule
+  rule = ruleBy (k s) (s .call .drive)
+
+  rule-is : instanceOf s .rule ≡ rule
+  rule-is = asked-rule road tree (code s) rule (crews s)
+
+  -- by what it is for
+  for-yards : ForYards s → instanceOf s .rule ≡ nearest (k s)
+  for-yards e = rule-is ∙ ap (ruleBy (k s)) e
+
+  for-drive : (seconds : ℕ) → ForDrive s seconds → instanceOf s .rule ≡ inDrive seconds
+  for-drive seconds e = rule-is ∙ ap (ruleBy (k s)) e
+
   module _ (p : Passed road tree (crews s)) where
     well : WellFormed (instanceOf s)
-    well = well-of road tree (code s) (k s) (crews s) p
+    well = well-of road tree (code s) rule (crews s) p
 
     tree-yards : TreeYards (instanceOf s) (yards s)
-    tree-yards = asked-yards road tree (code s) (k s) (crews s) p
+    tree-yards = asked-yards road tree (code s) rule (crews s) p
 
-    -- on a tree that passes it is sound
-    sound : OnPassing s → SoundInstance (instanceOf s)
-    sound q =
+    -- on a tree that passes it is sound, whatever its rule
+    pub sound-by : (r : Rule) → OnPassing s → SoundInstance (searchOf road tree (code s) r (crews s))
+    sound-by r q =
         let numbers : TrueNumbers (dist road) (decode tree) = passed-true road (q .yard) tree (q .work) (q .zero) in
         let laid : SoundBeside road (q .yard) tree (q .work) = passed-laid road (q .yard) tree (q .work) (q .zero) in
-        sound-of road tree (code s) (k s) (crews s) p (numbers .lists) (tested tree (laid .shape) .encloses (dist road) numbers)
+        sound-of road tree (code s) r (crews s) p (numbers .lists) (tested tree (laid .shape) .encloses (dist road) numbers)
+
+    sound : OnPassing s → SoundInstance (instanceOf s)
+    sound = sound-by rule
 
     true-list : T (answer (instanceOf s) (limit s) .settled) → TrueList s
     true-list t =
         let l : Listing (instanceOf s) (list s) = answer-listing (instanceOf s) well (limit s) t in
         record {
           distances = λ e j. rw (l .distances e j)
-              (total-least road tree (code s) (k s) (crews s) p (e .yard) (asked-there road tree (code s) (k s) (crews s) p (e .yard) (l .in-tree e j)));
+              (total-least road tree (code s) rule (crews s) p (e .yard) (asked-there road tree (code s) rule (crews s) p (e .yard) (l .in-tree e j)));
           distinct = yards-distinct (list s) (l .sorted) (l .distinct);
           sorted = l .sorted;
           in-tree = λ e j. tree-yards .every (e .yard) (l .in-tree e j);
-          few = omega (arith, l .few, asked-k road tree (code s) (k s) (crews s));
+          few = λ e. nearest-allowed (instanceOf s .rule) (k s) (list s) (for-yards e) (l .allowed);
+          inside = λ seconds e. drive-allowed (instanceOf s .rule) seconds (list s) (for-drive seconds e) (l .allowed);
         }
 
-    -- no measured yard's bound is above the last distance of a full list
-    within-last : OnPassing s → T (answer (instanceOf s) (limit s) .settled) → Full s → (y b : ℕ) → Mem y (measured s) → BoundOf s y b → b ≤ lastDistance s
-    within-last q t full y b j d =
+    -- no measured yard's bound is past what ends the search
+    not-past : OnPassing s → T (answer (instanceOf s) (limit s) .settled) → (y b : ℕ) → Mem y (measured s) → BoundOf s y b
+        → NotPast (instanceOf s .rule) (list s) b
+    not-past q t y b j d =
         let m : Mem (d .element .yard) (measured s) = rw (d .names) j in
-        let f = full ∙ sym (asked-k road tree (code s) (k s) (crews s)) in
-        let h = answer-within (instanceOf s) (sound q) (limit s) t f (d .home) (d .element) (d .is-leaf) (d .number) (d .in-list) m in
-        omega (arith, d .value, greatest-is (list s))
+        rw (d .value) (answer-within (instanceOf s) (sound q) (limit s) t (d .home) (d .element) (d .is-leaf) (d .number) (d .in-list) m)
+
+    -- it is not above the last distance of a full list
+    within-last : OnPassing s → T (answer (instanceOf s) (limit s) .settled) → ForYards s → Full s → (y b : ℕ) → Mem y (measured s) → BoundOf s y b
+        → b ≤ lastDistance s
+    within-last q t e full y b j d =
+        omega (arith, nearest-not-past (instanceOf s .rule) (k s) (list s) b (for-yards e) (not-past q t y b j d) full, greatest-is (list s))
+
+    -- nor above the seconds of a drive
+    within-drive : OnPassing s → T (answer (instanceOf s) (limit s) .settled) → (seconds : ℕ) → ForDrive s seconds → (y b : ℕ) → Mem y (measured s)
+        → BoundOf s y b → b ≤ seconds
+    within-drive q t seconds e y b j d = drive-not-past (instanceOf s .rule) seconds (list s) b (for-drive seconds e) (not-past q t y b j d)
+
+    -- the list is exact, by what the search is for
+    exact-yards : OnPassing s → T (answer (instanceOf s) (limit s) .settled) → ForYards s → FirstYards (arcs s) (code s) (k s) (crews s) (yards s) (list s)
+    exact-yards q t e = yards-of (s .call .drive) e (sound q) t
+      where
+        yards-of : (d : Option ℕ) → d ≡ none → SoundInstance (searchOf road tree (code s) (ruleBy (k s) d) (crews s))
+            → T (answer (searchOf road tree (code s) (ruleBy (k s) d) (crews s)) (limit s) .settled)
+            → FirstYards (arcs s) (code s) (k s) (crews s) (yards s) (answer (searchOf road tree (code s) (ruleBy (k s) d) (crews s)) (limit s) .listed)
+        yards-of none e so u = first-yards road tree (code s) (k s) (crews s) p so (limit s) u
+        yards-of (some x) e so u = absurd (Option·some-ne-none x e)
+
+    exact-drive : OnPassing s → T (answer (instanceOf s) (limit s) .settled) → (seconds : ℕ) → ForDrive s seconds
+        → DriveYards (arcs s) (code s) seconds (crews s) (yards s) (list s)
+    exact-drive q t seconds e = yards-of (s .call .drive) e (sound q) t
+      where
+        yards-of : (d : Option ℕ) → d ≡ some seconds → SoundInstance (searchOf road tree (code s) (ruleBy (k s) d) (crews s))
+            → T (answer (searchOf road tree (code s) (ruleBy (k s) d) (crews s)) (limit s) .settled)
+            → DriveYards (arcs s) (code s) seconds (crews s) (yards s) (answer (searchOf road tree (code s) (ruleBy (k s) d) (crews s)) (limit s)
+            .listed)
+        yards-of none e so u = absurd (Option·none-ne-some seconds e)
+        yards-of (some x) e so u = rw (← Option·some-injective x seconds e) (drive-yards road tree (code s) x (crews s) p so (limit s) u)
 
   -- whatever the tree's numbers say
   module _ (bytes : Bytes tree) where
@@ -108,7 +162,7 @@ module _ (s : Search) where
     a = s .areas
 
     -- the books of a search that is not refused pass the tests
-    books : NotRefused s → Passed road tree (crews s)
+    pub books : NotRefused s → Passed road tree (crews s)
     books n = on-tests c a n .books bytes
 
     abbrev rules : (n : NotRefused s) → RulesDecided (instanceOf s) (limit s)
@@ -118,7 +172,9 @@ module _ (s : Search) where
     true-settled t = let (n, u) = on-settled c a t in true-list (books n) u
 
     room : Settled s → length (words (list s)) ≤ length (a .results)
-    room t = omega (arith, words-length (list s), true-settled t .few, on-tests c a (on-settled c a t .0) .results-full)
+    room t =
+        let (n, u) = on-settled c a t in
+        omega (arith, words-length (list s), listed-most road tree (c .query) (c .drive) (books n) u, on-tests c a n .results-full)
 
     not-settled : NotRefused s → (Settled s → ⊥) → T (not (answer (instanceOf s) (limit s) .settled))
     not-settled n h = not-T (answer (instanceOf s) (limit s) .settled) (λ t. h (settled-on c a n t))
@@ -150,13 +206,18 @@ pub demand-3 : Demand3
 demand-3 calls bytes first = record {
   exact = λ s m q t.
       let (n, u) = on-settled (s .call) (s .areas) t in
-      let p = books s (of-bytes s m) n in
-      first-yards (s .call .road) (s .call .tree) (code s) (k s) (crews s) p (sound s p q) (limit s) u;
+      exact-yards s (books s (of-bytes s m) n) q u;
+  exact-drive = λ s m q t.
+      let (n, u) = on-settled (s .call) (s .areas) t in
+      exact-drive s (books s (of-bytes s m) n) q u;
   measured-within = λ s m q t.
       let (n, u) = on-settled (s .call) (s .areas) t in
       within-last s (books s (of-bytes s m) n) q u;
+  measured-drive = λ s m q t.
+      let (n, u) = on-settled (s .call) (s .areas) t in
+      within-drive s (books s (of-bytes s m) n) q u;
   ends = λ s m q n h. settled-on (s .call) (s .areas) n
-      (asked-ends (s .call .road) (s .call .tree) (code s) (k s) (crews s) (books s (of-bytes s m) n) (limit s) h);
+      (asked-ends (s .call .road) (s .call .tree) (code s) (rule s) (crews s) (books s (of-bytes s m) n) (limit s) h);
   results = written-in-turn calls first;
 }
   where

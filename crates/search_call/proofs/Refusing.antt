@@ -1,6 +1,7 @@
 -- Which tests lead to which answer of a search's refusal, one book after the other. Assumes nothing.
 use mathlib.Core.Path.{_≡_, _∙_}
 use mathlib.Core.List.{List}
+use mathlib.Core.Option.{Option}
 use Prim.Native.Nat.{ℕ, _*_, _≤_, _<_}
 use native.Mathlib.Omega.{arith}
 use borrow.Author.Tests.{eq-eqb, ne-eqb, le-leb, lt-leb}
@@ -12,8 +13,8 @@ use Rattle.road_layout.specs.Road.{junctions}
 use Rattle.road.specs.Refusal.{roadRefusal}
 use Rattle.tree_layout.specs.Decode.{junctionCount}
 use Rattle.tree.specs.Shape.{treeRefusal}
-use Rattle.query.specs.Query.{kOf, queryRefusal}
-use Rattle.search_call.specs.Call.{treeRefusalIn, areasRefusal, searchRefusal}
+use Rattle.query.specs.Query.{queryRefusal}
+use Rattle.search_call.specs.Call.{mostYards, treeRefusalIn, areasRefusal, searchRefusal}
 
 -- ---- the tree book
 
@@ -56,21 +57,21 @@ module _ (k work results : ℕ) where
 
 -- ---- the call
 
-module _ (road tree query : List ℕ) (work results : ℕ) where
-  pub by-road : 1 ≤ roadRefusal road → searchRefusal road tree query work results ≡ roadRefusal road
+module _ (road tree query : List ℕ) (drive : Option ℕ) (work results : ℕ) where
+  pub by-road : 1 ≤ roadRefusal road → searchRefusal road tree query drive work results ≡ roadRefusal road
   unfolding searchRefusal
   by-road h = first-earlier (roadRefusal road) _ h
 
   module _ (a : roadRefusal road ≡ 0) where
-    pub by-tree : 1 ≤ treeRefusalIn tree (junctions road) → searchRefusal road tree query work results ≡ treeRefusalIn tree (junctions road)
+    pub by-tree : 1 ≤ treeRefusalIn tree (junctions road) → searchRefusal road tree query drive work results ≡ treeRefusalIn tree (junctions road)
     unfolding searchRefusal
     by-tree h = first-later _ _ a ∙ first-earlier (treeRefusalIn tree (junctions road)) _ h
 
     module _ (b : treeRefusalIn tree (junctions road) ≡ 0) where
-      pub by-query : 1 ≤ queryRefusal query (junctions road) → searchRefusal road tree query work results ≡ queryRefusal query (junctions road)
+      pub by-query : 1 ≤ queryRefusal query (junctions road) → searchRefusal road tree query drive work results ≡ queryRefusal query (junctions road)
       unfolding searchRefusal
       by-query h = first-later _ _ a ∙ first-later _ _ b ∙ first-earlier (queryRefusal query (junctions road)) _ h
 
-      pub by-areas : queryRefusal query (junctions road) ≡ 0 → searchRefusal road tree query work results ≡ areasRefusal (kOf query) work results
+      pub by-areas : queryRefusal query (junctions road) ≡ 0 → searchRefusal road tree query drive work results ≡ areasRefusal (mostYards tree query drive) work results
       unfolding searchRefusal
       by-areas c = first-later _ _ a ∙ first-later _ _ b ∙ first-later _ _ c

@@ -1,6 +1,7 @@
 -- A search call: its answer and each lent area after it; and a list of calls on the same two areas. Assumes nothing:
 -- these are definitions.
 use mathlib.Core.List.{List, [], _∷_}
+use mathlib.Core.Option.{Option, none, some}
 use Prim.Native.Nat.{ℕ, _*_}
 use lib.ListN.{length}
 use lib.Dec.{eqb, leb}
@@ -9,12 +10,29 @@ use Rattle.book.specs.Writing.{write}
 use Rattle.work_area.specs.Work.{workRefusal, workAfter}
 use Rattle.road_layout.specs.Road.{junctions}
 use Rattle.road.specs.Refusal.{roadRefusal}
-use Rattle.tree_layout.specs.Decode.{junctionCount}
+use Rattle.tree_layout.specs.Decode.{junctionCount, treeYardCount}
 use Rattle.tree.specs.Shape.{treeRefusal}
 use Rattle.query.specs.Query.{aggregateOf, kOf, limitOf, crewsOf, queryRefusal}
+use Rattle.search_rules.specs.Rule.{Rule, nearest, inDrive}
 use Rattle.search_rules.specs.Instance.{Instance}
 use Rattle.search_rules.specs.Books.{searchOf}
 use Rattle.search_rules.specs.Run.{Answer, words, answer}
+
+-- ---- what a call asks for
+
+-- A search for k yards brings no drive, and a drive search its seconds. The first k yards, or all within the drive:
+-- "The query's k is tested but otherwise unused."
+abbrev pub ruleBy : (k : ℕ) → (drive : Option ℕ) → Rule
+ruleBy k none = nearest k
+ruleBy k (some seconds) = inDrive seconds
+
+-- how many yards the result area must hold: k, or "each yard in the tree"
+abbrev pub mostBy : (k yards : ℕ) → (drive : Option ℕ) → ℕ
+mostBy k yards none = k
+mostBy k yards (some seconds) = yards
+
+abbrev pub mostYards : (tree query : List ℕ) → (drive : Option ℕ) → ℕ
+mostYards tree query drive = mostBy (kOf query) (treeYardCount tree) drive
 
 -- ---- one call
 
@@ -27,15 +45,15 @@ treeRefusalIn tree junctions =
     -- 8: "Junction counts .. disagree between books"
     (refuse (eqb (junctionCount tree) junctions) 8 0)
 
--- 12: "A lent area is too short: work below 16,384 words, results below 2 × k words"
-unfoldable pub areasRefusal : (k work results : ℕ) → ℕ
-areasRefusal k work results = firstOf (workRefusal work) (refuse (leb (2 * k) results) 12 0)
+-- 12: "A lent area is too short: work below 16,384 words, results below 2 × k words", or below "two words for each yard
+-- in the tree": so many yards
+unfoldable pub areasRefusal : (yards work results : ℕ) → ℕ
+areasRefusal yards work results = firstOf (workRefusal work) (refuse (leb (2 * yards) results) 12 0)
 
 -- "Books are tested in the order road, yard, tree, query, each through its own tests, ..; then the call's .. areas.":
--- the number of the first test that
--- fails, or 0, with so many work words and result words
-unfoldable pub searchRefusal : (road tree query : List ℕ) → (work results : ℕ) → ℕ
-searchRefusal road tree query work results =
+-- the number of the first test that fails, or 0, with so many work words and result words
+unfoldable pub searchRefusal : (road tree query : List ℕ) → (drive : Option ℕ) → (work results : ℕ) → ℕ
+searchRefusal road tree query drive work results =
     -- 1 to 6
     firstOf (roadRefusal road)
     -- 1 to 5, 7 and 8
@@ -43,15 +61,15 @@ searchRefusal road tree query work results =
     -- 1 to 4, 10 and 11
     (firstOf (queryRefusal query (junctions road))
     -- 12
-    (areasRefusal (kOf query) work results)))
+    (areasRefusal (mostYards tree query drive) work results)))
 
 -- the search that the books ask for
-abbrev pub searchIn : (road tree query : List ℕ) → Instance
-searchIn road tree query = searchOf road tree (aggregateOf query) (kOf query) (crewsOf query)
+abbrev pub searchIn : (road tree query : List ℕ) → (drive : Option ℕ) → Instance
+searchIn road tree query drive = searchOf road tree (aggregateOf query) (ruleBy (kOf query) drive) (crewsOf query)
 
 -- its answer under the query's step limit, by the step rules
-abbrev pub searchAnswer : (road tree query : List ℕ) → Answer
-searchAnswer road tree query = answer (searchIn road tree query) (limitOf query)
+abbrev pub searchAnswer : (road tree query : List ℕ) → (drive : Option ℕ) → Answer
+searchAnswer road tree query drive = answer (searchIn road tree query drive) (limitOf query)
 
 -- What a search returns. Settled is 1 or 0; spent is refusal 0 and settled 0.
 pub record Found : Type 0 where
@@ -75,10 +93,10 @@ accepted a = record {
   measured = a .measured;
 }
 
-unfoldable pub searchFound : (road tree query : List ℕ) → (work results : ℕ) → Found
-searchFound road tree query work results =
-    let why = searchRefusal road tree query work results in
-    let found = accepted (searchAnswer road tree query) in
+unfoldable pub searchFound : (road tree query : List ℕ) → (drive : Option ℕ) → (work results : ℕ) → Found
+searchFound road tree query drive work results =
+    let why = searchRefusal road tree query drive work results in
+    let found = accepted (searchAnswer road tree query drive) in
     choose (eqb why 0) found (refused why)
 
 -- "(yard, distance) words .. and nothing after them": a list of words written over the start of the result area
@@ -86,21 +104,21 @@ abbrev pub overStart : List ℕ → List ℕ → List ℕ
 overStart list results = write results 0 list
 
 -- The result area after a call with so many work words: "Settled writes (yard, distance) words into the result area and
--- nothing after them; spent writes
--- nothing there." "A refusal .. changes no lent byte or word."
-unfoldable pub resultsAfter : (road tree query : List ℕ) → (work : ℕ) → List ℕ → List ℕ
-resultsAfter road tree query work results =
-    let a = searchAnswer road tree query in
+-- nothing after them; spent writes nothing there." "A refusal .. changes no lent byte or word."
+unfoldable pub resultsAfter : (road tree query : List ℕ) → (drive : Option ℕ) → (work : ℕ) → List ℕ → List ℕ
+resultsAfter road tree query drive work results =
+    let a = searchAnswer road tree query drive in
     let written = choose (a .settled) (overStart (words (a .listed)) results) results in
-    choose (eqb (searchRefusal road tree query work (length results)) 0) written results
+    choose (eqb (searchRefusal road tree query drive work (length results)) 0) written results
 
 -- ---- a list of calls
 
--- a search's own books
+-- a search's own books, and the seconds of a drive search
 pub record Call : Type 0 where
   pub road : List ℕ
   pub tree : List ℕ
   pub query : List ℕ
+  pub drive : Option ℕ
 
 -- the two lent areas, of words
 pub record Areas : Type 0 where
@@ -109,13 +127,14 @@ pub record Areas : Type 0 where
 
 -- what a call returns on two areas
 unfoldable pub foundOn : Call → Areas → Found
-foundOn c a = searchFound (c .road) (c .tree) (c .query) (length (a .work)) (length (a .results))
+foundOn c a = searchFound (c .road) (c .tree) (c .query) (c .drive) (length (a .work)) (length (a .results))
 
 -- both areas after it
 unfoldable pub callOn : Call → Areas → Areas
 callOn c a = record {
-  work = workAfter (searchRefusal (c .road) (c .tree) (c .query) (length (a .work)) (length (a .results))) (a .work);
-  results = resultsAfter (c .road) (c .tree) (c .query) (length (a .work)) (a .results);
+  work = workAfter (searchRefusal (c .road) (c .tree) (c .query) (c .drive) (length (a .work)) (length (a .results)))
+      (a .work);
+  results = resultsAfter (c .road) (c .tree) (c .query) (c .drive) (length (a .work)) (a .results);
 }
 
 -- a search of a list: its call, and both areas as the one before left them

@@ -1,10 +1,10 @@
 -- Demand 3: what is promised of any list of searches on one work area and one result area, to be held against the
--- paper; and what is promised beside it.
--- Assumes nothing: these are statements.
+-- paper; and what is promised beside it. Assumes nothing: these are statements.
 use mathlib.Core.Path.{_≡_}
 use mathlib.Core.List.{List, [], _∷_, _++_, map, List·Memᴰ as Mem}
+use mathlib.Core.Option.{none, some}
 use Prim.Native.Nat.{ℕ, _+_, _*_, _≤_, _<_}
-use lib.ListN.{length, drop}
+use lib.ListN.{length, take, drop}
 use lib.Dec.{T, eqb}
 use Rattle.book.specs.Choose.{choose}
 use Rattle.book.specs.Bytes.{Bytes}
@@ -22,7 +22,7 @@ use Rattle.search_rules.specs.Instance.{Instance, size, leaf}
 use Rattle.search_rules.specs.Bounds.{chosen, yardBound}
 use Rattle.search_rules.specs.Run.{words, run}
 use Rattle.search_rules.specs.Theorems.{Sorted}
-use Rattle.search_rules.specs.Walks.{AggregateLeast, FirstYards}
+use Rattle.search_rules.specs.Walks.{AggregateLeast, FirstYards, DriveYards}
 use Rattle.search_call.specs.Call.{Found, refused, Call, Areas, Search, searchIn, searchAnswer, overStart}
 use Rattle.search_call.specs.Call.{foundOn, callOn, searches, areasAfter}
 
@@ -62,6 +62,13 @@ k s = kOf (s .call .query)
 abbrev pub crews : Search → List ℕ
 crews s = crewsOf (s .call .query)
 
+-- what it is for: the first k yards, or, of a drive search, those within so many seconds
+abbrev pub ForYards : Search → Type 0
+ForYards s = s .call .drive ≡ none
+
+abbrev pub ForDrive : Search → ℕ → Type 0
+ForDrive s seconds = s .call .drive ≡ some seconds
+
 abbrev pub limit : Search → ℕ
 limit s = limitOf (s .call .query)
 
@@ -77,11 +84,11 @@ innerRegions s = inners (decode (s .call .tree))
 
 -- the search that its books ask for
 abbrev pub instanceOf : Search → Instance
-instanceOf s = searchIn (s .call .road) (s .call .tree) (s .call .query)
+instanceOf s = searchIn (s .call .road) (s .call .tree) (s .call .query) (s .call .drive)
 
 -- the yards that it lists, with their distances, by the step rules; the result area gets their words
 abbrev pub list : Search → List Element
-list s = searchAnswer (s .call .road) (s .call .tree) (s .call .query) .listed
+list s = searchAnswer (s .call .road) (s .call .tree) (s .call .query) (s .call .drive) .listed
 
 -- "a settled list is full if it has k yards"
 abbrev pub Full : Search → Type 0
@@ -96,9 +103,8 @@ abbrev pub measured : Search → List ℕ
 measured s = run (instanceOf s) (limit s) .state .measured
 
 -- "A yard's bound takes per crew the greatest of these differences over the landmark table's landmarks and l (for l
--- with the
--- list's distance), then aggregates.": b is
--- yard y's, which stands in the list of the landmark that its leaf picks
+-- with the list's distance), then aggregates.": b is yard y's, which stands in the list of the landmark that its leaf
+-- picks
 pub record BoundIn (i : Instance) (y b : ℕ) : Type 0 where
   pub home : ℕ
   pub number : home < size i
@@ -126,13 +132,19 @@ overwritten (l ∷ ls) results = overwritten ls (overStart (words l) results)
 -- of any list of calls, and what the two areas hold before the first
 pub record Promised (calls : List Call) (first : Areas) : Type 0 where
   -- "each settled search on a tree that passes has listed exactly the first k of the tree's yards, or all if fewer, by
-  -- aggregate least distance and then
-  -- junction number, each with that distance; so no yard left out comes before one listed"
-  pub exact : (s : Search) → Mem s (searches calls first) → OnPassing s → Settled s
+  -- aggregate least distance and then junction number, each with that distance; so no yard left out comes before one
+  -- listed"
+  pub exact : (s : Search) → Mem s (searches calls first) → OnPassing s → Settled s → ForYards s
       → FirstYards (arcs s) (code s) (k s) (crews s) (yards s) (list s)
+  -- "a settled list holds exactly the tree's yards within the drive", in yard order, each with its distance
+  pub exact-drive : (s : Search) → Mem s (searches calls first) → OnPassing s → Settled s
+      → (seconds : ℕ) → ForDrive s seconds → DriveYards (arcs s) (code s) seconds (crews s) (yards s) (list s)
   -- "none of these measured a yard whose bound exceeds the last listed distance of a full list"
-  pub measured-within : (s : Search) → Mem s (searches calls first) → OnPassing s → Settled s
+  pub measured-within : (s : Search) → Mem s (searches calls first) → OnPassing s → Settled s → ForYards s
       → Full s → (y b : ℕ) → Mem y (measured s) → BoundOf s y b → b ≤ lastDistance s
+  -- "no yard whose bound exceeds the seconds is measured"
+  pub measured-drive : (s : Search) → Mem s (searches calls first) → OnPassing s → Settled s
+      → (seconds : ℕ) → ForDrive s seconds → (y b : ℕ) → Mem y (measured s) → BoundOf s y b → b ≤ seconds
   -- "every search on such a tree, not refused, with a limit of inner regions plus twice the yards or more has settled"
   pub ends : (s : Search) → Mem s (searches calls first) → OnPassing s → NotRefused s
       → innerRegions s + 2 * length (yards s) ≤ limit s → Settled s
@@ -149,13 +161,14 @@ Demand3 = (calls : List Call) → OfBytes calls → (first : Areas) → Promised
 -- ---- beside it
 
 -- what a settled list has on any tree: "true distances, distinct yards and yard order"; its yards are the tree's, and
--- no more than k
+-- no more than k, or within the seconds
 pub record TrueList (s : Search) : Type 0 where
   pub distances : (e : Element) → Mem e (list s) → AggregateLeast (arcs s) (code s) (e .yard) (crews s) (e .distance)
   pub distinct : Distinct (map (λ (e : Element). e .yard) (list s))
   pub sorted : Sorted (list s)
   pub in-tree : (e : Element) → Mem e (list s) → Mem (e .yard) (yards s)
-  pub few : length (list s) ≤ k s
+  pub few : ForYards s → length (list s) ≤ k s
+  pub inside : (seconds : ℕ) → ForDrive s seconds → (e : Element) → Mem e (list s) → e .distance ≤ seconds
 
 -- a search, whether its tree passes or is one "that check would refuse by 9"
 pub record DecidedSearch (s : Search) : Type 0 where
@@ -197,3 +210,11 @@ WorkUnread = (calls : List Call) (a b : Areas) → length (a .work) ≡ length (
 -- whatever yard book a tree passes with has the tree's own yards
 abbrev pub OwnYards : Type 0
 OwnYards = (road tree : List ℕ) → (p : Passes road tree) → Same (treeYards (decode tree)) (yardsOf (p .yard))
+
+-- "The two searches agree": of the same roads, tree, aggregate and crews, a drive search whose seconds are the last
+-- listed distance of a full list of k yards lists that list first
+abbrev pub SearchesAgree : Type 0
+SearchesAgree = (s d : Search) → Bytes (s .call .tree) → s .call .road ≡ d .call .road → s .call .tree ≡ d .call .tree
+    → code s ≡ code d → crews s ≡ crews d → OnPassing s → Settled s → Settled d
+    → ForYards s → Full s → ForDrive d (lastDistance s)
+    → take (k s) (list d) ≡ list s

@@ -1,3 +1,4 @@
 pub mod Pairing
 pub mod Inserting
 pub mod Writing
+pub mod Ruling

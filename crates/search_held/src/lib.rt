@@ -1,4 +1,7 @@
-// The held yards: the k least so far in yard order.
+// The held yards of a search: those that its rule keeps of the measured ones, in yard order.
+mod drive; // drive.rt: the yards within a drive, in an array of words
+mod first; // first.rt: the first k yards, in a struct
+
 use book::Junction;
 ghost use mathlib.Core.Path.{_≡_};
 ghost use mathlib.Core.List.{List, []};
@@ -6,10 +9,22 @@ ghost use Prim.Native.Nat.{ℕ, _+_, _*_, _≤_, _<_};
 ghost use lib.ListN.{length};
 ghost use Rattle.book.specs.Writing.{write};
 ghost use Rattle.tree_layout.specs.Reading.{element};
-ghost use Rattle.search_rules.specs.Order.{yardFirst};
-ghost use Rattle.search_rules.specs.Held.{hold, greatestHeld};
+ghost use Rattle.search_rules.specs.Keeping.{keepBy, enoughBy};
 ghost use Rattle.search_rules.specs.Run.{words};
-ghost use Rattle.search_held.specs.code.Pairs.{placeIn, pairs, heldOf};
+ghost use Rattle.search_held.specs.code.Rules.{ruleOf, heldBy, countBy, Fits};
+
+// What a search keeps of the yards that it measures: the first so many, or those within so many seconds.
+pub enum Rule {
+    Nearest(u8),
+    InDrive(u32),
+}
+
+// What a search is asked: the aggregate's code, the limit of its steps, and its rule.
+pub struct Asked {
+    pub aggregate: u8,
+    pub limit: u32,
+    pub rule: Rule,
+}
 
 // Yards with their aggregate distances, in yard order, and their number.
 pub struct Held {
@@ -18,115 +33,89 @@ pub struct Held {
     pub count: usize,
 }
 
-// Nothing is held.
-pub fn none() -> Held
-    ensures { λ r. ⌜ (heldOf r ≡ []) × (r .count ≡ 0) ⌝ }
+// What is kept: the first k yards; or how many are within the drive, whose words stand in a lent array.
+pub struct Kept {
+    pub held: Held,
+    pub listed: usize,
+}
+
+// The words of the yards within a drive: a yard and its distance for each of at most 256.
+pub const WORDS: usize = 512;
+
+// Nothing is kept.
+pub fn none() -> Kept
+    ensures { λ r. ⌜ (r .held .count ≡ 0) × (r .listed ≡ 0) ⌝ }
 {
-    Held {
+    let held = Held {
         yards: [0u16; 64],
         distances: [0u32; 64],
         count: 0,
-    }
+    };
+    Kept { held, listed: 0 }
 }
 
-// Whether one yard with its distance comes before another, in yard order.
-fn comes_first(distance: u32, yard: Junction, d: u32, y: Junction) -> bool
-    ensures { λ r. ⌜ r ≡ yardFirst (element distance (yard .number)) (element d (y .number)) ⌝ }
+// What is kept once one more yard is measured.
+pub fn keep(kept: Kept, list: &mut [u32], rule: Rule, yard: Junction, distance: u32) -> Kept
+    requires { ⌜ Fits (ruleOf rule) kept × (countBy (ruleOf rule) kept < 256) × (length (now list) ≡ 512) ⌝ }
+    ensures held { λ r. ⌜ heldBy (ruleOf rule) r (now (list .exit))
+        ≡ keepBy (ruleOf rule) (element distance (yard .number)) (heldBy (ruleOf rule) kept (now (list .entry))) ⌝ }
+    ensures room { λ r. ⌜ Fits (ruleOf rule) r × (countBy (ruleOf rule) r ≤ countBy (ruleOf rule) kept + 1) ⌝ }
 {
-    if distance < d {
-        return true;
-    }
-    if distance != d {
-        return false;
-    }
-    yard.number < y.number
-}
-
-// The place of the first of n pairs that a yard with its distance comes before, or n.
-fn place(yards: &[u16], distances: &[u32], n: usize, yard: Junction, distance: u32) -> usize
-    requires { ⌜ (n ≤ length (now yards)) × (n ≤ length (now distances)) ⌝ }
-    ensures { λ r. ⌜ r
-        ≡ placeIn (element distance (yard .number)) (pairs (now (yards .entry)) (now (distances .entry)) n 0) ⌝ }
-{
-    let mut j: usize = 0;
-    while j < n {
-        let y = Junction { number: yards[j] };
-        if comes_first(distance, yard, distances[j], y) {
-            return j;
+    let so_far = kept.held;
+    match rule {
+        Rule::Nearest(k) => {
+            let held = first::hold(so_far, k as usize, yard, distance);
+            Kept {
+                held,
+                listed: kept.listed,
+            }
         }
-        j += 1;
-    }
-    j
-}
-
-// What is held after one more yard: it goes to its place, and each from there on goes to the next; of more than k the
-// last one goes.
-pub fn hold(held: Held, k: usize, yard: Junction, distance: u32) -> Held
-    requires { ⌜ (held .count ≤ k) × (k ≤ 64) ⌝ }
-    ensures held { λ r. ⌜ heldOf r ≡ hold k (element distance (yard .number)) (heldOf held) ⌝ }
-    ensures room { λ r. ⌜ r .count ≤ k ⌝ }
-{
-    let n = held.count;
-    let mut yards = held.yards;
-    let mut distances = held.distances;
-    let mut j = place(&yards, &distances, n, yard, distance);
-    let mut y = yard.number;
-    let mut d = distance;
-    while j < n {
-        let next_y = yards[j];
-        let next_d = distances[j];
-        yards[j] = y;
-        distances[j] = d;
-        y = next_y;
-        d = next_d;
-        j += 1;
-    }
-    if n < k {
-        yards[n] = y;
-        distances[n] = d;
-        return Held {
-            yards,
-            distances,
-            count: n + 1,
-        };
-    }
-    Held {
-        yards,
-        distances,
-        count: n,
+        Rule::InDrive(seconds) => {
+            let listed = drive::keep(list, kept.listed, seconds, yard, distance);
+            Kept {
+                held: so_far,
+                listed,
+            }
+        }
     }
 }
 
-// The greatest held distance, which is the last one, or 0.
-pub fn greatest(held: Held) -> u32
-    requires { ⌜ held .count ≤ 64 ⌝ }
-    ensures { λ r. ⌜ r ≡ greatestHeld (heldOf held) ⌝ }
+// Whether what is kept is enough, by the least queued key.
+pub fn enough(kept: Kept, rule: Rule, least: u64) -> bool
+    requires { ⌜ Fits (ruleOf rule) kept ⌝ }
+    ensures { λ r. ⌜ ((list : List ℕ) → r ≡ enoughBy (ruleOf rule) (heldBy (ruleOf rule) kept list) least) ⌝ }
 {
-    let n = held.count;
-    if n == 0 {
-        return 0;
+    match rule {
+        Rule::Nearest(k) => {
+            let held = kept.held;
+            if held.count != k as usize {
+                return false;
+            }
+            (first::greatest(held) as u64) < least
+        }
+        Rule::InDrive(seconds) => (seconds as u64) < least,
     }
-    held.distances[n - 1]
 }
 
-fn wide(x: u16) -> u32
-    ensures { λ r. ⌜ r ≡ x ⌝ }
+// How many yards are held.
+pub fn count(kept: Kept, rule: Rule) -> usize
+    ensures { λ r. ⌜ r ≡ countBy (ruleOf rule) kept ⌝ }
 {
-    x as u32
+    match rule {
+        Rule::Nearest(_) => kept.held.count,
+        Rule::InDrive(_) => kept.listed,
+    }
 }
 
 // Writes a yard and its distance for each held yard, over the start of the result area.
-pub fn write_words(held: Held, results: &mut [u32])
-    requires { ⌜ (held .count ≤ 64) × (2 * held .count ≤ length (now results)) ⌝ }
-    ensures { λ _. ⌜ now (results .exit) ≡ write (now (results .entry)) 0 (words (heldOf held)) ⌝ }
+pub fn write_words(kept: Kept, list: &[u32], rule: Rule, results: &mut [u32])
+    requires { ⌜ Fits (ruleOf rule) kept × (countBy (ruleOf rule) kept ≤ 256) × (length (now list) ≡ 512)
+        × (2 * countBy (ruleOf rule) kept ≤ length (now results)) ⌝ }
+    ensures { λ _. ⌜ now (results .exit)
+        ≡ write (now (results .entry)) 0 (words (heldBy (ruleOf rule) kept (now (list .entry)))) ⌝ }
 {
-    let count = held.count;
-    let yards = held.yards;
-    let distances = held.distances;
-    let mut j: usize = 0;
-    while j < count {
-        results[2 * j] = wide(yards[j]);
-        results[2 * j + 1] = distances[j];
-        j += 1;
+    match rule {
+        Rule::Nearest(_) => first::write_held(kept.held, results),
+        Rule::InDrive(_) => drive::write_listed(list, kept.listed, results),
     }
 }

@@ -14,6 +14,7 @@ use Rattle.tree_layout.specs.Reading.{headerOf}
 use Rattle.tree_layout.specs.declared.Header.{Header}
 use Rattle.tree_layout.proofs.Reading.{header-regions, header-junctions}
 use Rattle.tree_layout.proofs.Decoding.{list-part-is}
+use Rattle.search_rules.specs.Rule.{Rule}
 use Rattle.search_rules.specs.Instance.{Instance}
 use Rattle.search_rules.specs.Books.{searchOf}
 use Rattle.search_rules.specs.Bounds.{lower, f, yardBound}
@@ -104,7 +105,7 @@ module _ (tree : List ℕ) (at yards : ℕ) (l : List ℕ) (el : l ≡ listPart 
 abbrev pub Once : List Element → Type 0
 Once es = (e h : Element) → Mem e es → Mem h es → e .yard ≡ h .yard → e ≡ h
 
-module _ (road tree : List ℕ) (code goal : ℕ) (crews : List ℕ) (table : List ℕ) (rows : ℕ) (m : Mark) (fs bounds fs′ bounds′ : List ℕ)
+module _ (road tree : List ℕ) (code : ℕ) (goal : Rule) (crews : List ℕ) (table : List ℕ) (rows : ℕ) (m : Mark) (fs bounds fs′ bounds′ : List ℕ)
     (f-set : fs′ ≡ byYard (fIn code (toCrews road (m .place) crews)) (m .list) fs)
     (bound-set : bounds′ ≡ byYard (boundIn code table rows crews (toCrews road (m .place) crews)) (m .list) bounds)
     (near-fs : Near (length fs) (m .list)) (near-bounds : Near (length bounds) (m .list)) where

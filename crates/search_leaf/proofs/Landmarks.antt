@@ -21,6 +21,7 @@ use Rattle.tree_layout.proofs.Places.{decode-length}
 use Rattle.tree_layout.proofs.Reading.{leaf-list, leaf-place}
 use Rattle.tree_layout.proofs.MarkPlaces.{listMark, region-marks, leaf-mark-at}
 use Rattle.tree.proofs.Fielding.{laid-region, laid-children}
+use Rattle.search_rules.specs.Rule.{Rule}
 use Rattle.search_rules.specs.Instance.{Instance, size, marks, leaf}
 use Rattle.search_rules.specs.Books.{searchOf}
 use Rattle.search_rules.specs.Bounds.{chosen}
@@ -51,7 +52,7 @@ yards-of tree at f e = rw e refl
 pub same-none : (r n : ℕ) (ws : List ℕ) → SameQueue r n ws ws
 same-none r n ws = record { keys = refl; yards = refl; firsts = refl; gone = refl }
 
-module _ (road tree : List ℕ) (code goal : ℕ) (crews drives places table : List ℕ)
+module _ (road tree : List ℕ) (code : ℕ) (goal : Rule) (crews drives places table : List ℕ)
     (ready : Ready road tree code goal crews drives places table) where
   abbrev i : Instance
   i = searchOf road tree code goal crews

@@ -13,6 +13,7 @@ use Rattle.tree_layout.specs.Reading.{headerOf}
 use Rattle.tree_layout.specs.code.Marks.{markPlace}
 use Rattle.tree_layout.specs.declared.Header.{Header}
 use Rattle.tree_layout.proofs.Formed.{readList-length}
+use Rattle.search_rules.specs.Rule.{Rule}
 use Rattle.search_rules.specs.Instance.{Instance}
 use Rattle.search_rules.specs.Books.{searchOf}
 use Rattle.search_rules.specs.Bounds.{chosen, yardBound}
@@ -21,8 +22,6 @@ use Rattle.search_rules.specs.Step.{SearchState, noElement, againKey, nextPlace
 use Rattle.search_rules.proofs.Queue.{pick-range}
 use Rattle.search_rules.proofs.Steps.{open-leaf-on}
 use Rattle.search_rules.proofs.Turns.{word-at}
-use Rattle.search_held.specs.declared.Held.{Held}
-use Rattle.search_held.specs.code.Pairs.{heldOf}
 use Rattle.search_state.specs.code.State.{regionKeysIn, yardKeysIn, firstsIn, picksIn, fsIn, boundsIn, goneIn, stateOf, newest}
 use Rattle.search_state.proofs.Cells.{Parts, parts-of, state-by}
 use Rattle.search_leaf.specs.code.Leaves.{wordsOf, Opened}
@@ -54,7 +53,7 @@ module _ (i : Instance) (m : Mark) (fs bounds : List ℕ) (o : Opened i m fs bou
 
 -- ---- the list of a ready search's leaf
 
-module _ (road tree : List ℕ) (code k : ℕ) (crews drives places table : List ℕ)
+module _ (road tree : List ℕ) (code : ℕ) (k : Rule) (crews drives places table : List ℕ)
     (ready : Ready road tree code k crews drives places table)
     (r : ℕ) (l : IsLeaf (searchOf road tree code k crews) r) (at : ℕ) (e : at ≡ getD places r 0)
     (p n place : ℕ) (picks : IsPick (searchOf road tree code k crews) r p) (en : n ≡ u16At tree (at + 5)) (ep : place ≡ markPlace tree at p)
@@ -93,14 +92,14 @@ module _ (road tree : List ℕ) (code k : ℕ) (crews drives places table : List
     first : getD firsts r 0 ≡ wordAt firsts r
     first = sym (word-at firsts r 0 (omega (arith, l .inside, w .firsts-count)))
 
-    leaf-state : (held : Held) (measured : List ℕ) (counted : ℕ) → record {
+    leaf-state : (held : List Element) (measured : List ℕ) (counted : ℕ) → record {
       regionKeys = set keys r (againKey (getD firsts r 0) (nextWord fs (set gone (nextIn fs gone es n .yard) true) es n));
       yardKeys = set yards (nextIn fs gone es n .yard) (max (getD bounds (nextIn fs gone es n .yard) 0) (getD firsts r 0));
       firsts = firsts;
       gone = set gone (nextIn fs gone es n .yard) true;
-      held = heldOf held;
+      held = held;
       measured = newest measured counted;
-    } ≡ openLeaf i (record { regionKeys = keys; yardKeys = yards; firsts = firsts; gone = gone; held = heldOf held; measured = newest measured counted }) r
+    } ≡ openLeaf i (record { regionKeys = keys; yardKeys = yards; firsts = firsts; gone = gone; held = held; measured = newest measured counted }) r
     unfolding m x
     leaf-state held measured counted =
         rw (
@@ -111,7 +110,7 @@ module _ (road tree : List ℕ) (code k : ℕ) (crews drives places table : List
         ∙ sym (open-leaf-on i st r m x refl (next-is i m fs bounds o gone n es count list-is) (w .waits))
       where
         st : SearchState
-        st = record { regionKeys = keys; yardKeys = yards; firsts = firsts; gone = gone; held = heldOf held; measured = newest measured counted }
+        st = record { regionKeys = keys; yardKeys = yards; firsts = firsts; gone = gone; held = held; measured = newest measured counted }
 
   -- the words before, when the leaf is open, and when its next yard and the leaf are queued
   module _ (ws ws′ : List ℕ) (q : Leafed i (length places) (junctionCount tree) ws r)
@@ -137,13 +136,13 @@ module _ (road tree : List ℕ) (code k : ℕ) (crews drives places table : List
           (goneIn regions junctions ws′) n es count list-is list-some),
     )
 
-    same-state : (held : Held) (measured : List ℕ) (counted : ℕ)
+    same-state : (held : List Element) (measured : List ℕ) (counted : ℕ)
         → stateOf regions junctions ws held measured counted ≡ record {
           regionKeys = regionKeysIn regions junctions ws′;
           yardKeys = yardKeysIn regions junctions ws′;
           firsts = firstsIn regions junctions ws′;
           gone = goneIn regions junctions ws′;
-          held = heldOf held;
+          held = held;
           measured = newest measured counted;
         }
     same-state held measured counted =
@@ -168,7 +167,7 @@ module _ (road tree : List ℕ) (code k : ℕ) (crews drives places table : List
           (boundsIn (length places) (junctionCount tree) ws″)
       leaf-cached = rw (parts .picks-are, parts .fs-are, parts .bounds-are) (o .cached)
 
-      pub leaf-taken : (held : Held) (measured : List ℕ) (counted : ℕ)
+      pub leaf-taken : (held : List Element) (measured : List ℕ) (counted : ℕ)
           → stateOf (length places) (junctionCount tree) ws″ held measured counted
           ≡ openLeaf i (stateOf (length places) (junctionCount tree) ws held measured counted) r
       unfolding y

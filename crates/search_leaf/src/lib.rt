@@ -4,7 +4,7 @@ pub mod elements; // elements.rt: a leaf's list: f and the bound of each of its 
 pub mod parts; // parts.rt: where a search's words stand
 mod opening; // opening.rt: a leaf that is first taken
 
-use query::Query;
+use search_held::Asked;
 use tree_layout::Region;
 use tree_layout::landmarks;
 use tree_layout::records;
@@ -15,7 +15,8 @@ ghost use lib.ListN.{length};
 ghost use Rattle.tree_layout.specs.Decode.{junctionCount};
 ghost use Rattle.search_rules.specs.Books.{searchOf};
 ghost use Rattle.search_rules.specs.Step.{openLeaf};
-ghost use Rattle.search_held.specs.declared.Held.{Held};
+ghost use Rattle.tree_layout.specs.Values.{Element};
+ghost use Rattle.search_held.specs.code.Rules.{ruleOf};
 ghost use Rattle.search_state.specs.code.State.{picksIn, fsIn, boundsIn, stateOf};
 ghost use Rattle.search_leaf.specs.code.Ready.{Ready, Readied, Cached, Leafed};
 
@@ -32,29 +33,31 @@ pub fn take(
     table: &[u32],
     drives: &[u32],
     crews: &[u16],
-    asked: Query,
+    asked: Asked,
     words: &mut [u64],
     r: Region,
 )
-    requires { ⌜ Readied (now tree) (asked .aggregate) (asked .k) (now crews) (now drives) (now places) (now table)
+    requires { ⌜ Readied (now tree) (asked .aggregate) (ruleOf (asked .rule))
+        (now crews) (now drives) (now places) (now table)
         × ((road : List ℕ)
-        → Ready road (now tree) (asked .aggregate) (asked .k) (now crews) (now drives) (now places) (now table)
-        → Leafed (searchOf road (now tree) (asked .aggregate) (asked .k) (now crews))
+        → Ready road (now tree) (asked .aggregate) (ruleOf (asked .rule))
+        (now crews) (now drives) (now places) (now table)
+        → Leafed (searchOf road (now tree) (asked .aggregate) (ruleOf (asked .rule)) (now crews))
         (length (now places)) (junctionCount (now tree)) (now words) (r .number)) ⌝ }
     ensures cached { λ _. ⌜ ((road : List ℕ)
-        → Ready road (now (tree .entry)) (asked .aggregate) (asked .k)
+        → Ready road (now (tree .entry)) (asked .aggregate) (ruleOf (asked .rule))
         (now (crews .entry)) (now (drives .entry)) (now (places .entry)) (now (table .entry))
-        → Cached (searchOf road (now (tree .entry)) (asked .aggregate) (asked .k) (now (crews .entry)))
+        → Cached (searchOf road (now (tree .entry)) (asked .aggregate) (ruleOf (asked .rule)) (now (crews .entry)))
         (picksIn (length (now (places .entry))) (junctionCount (now (tree .entry))) (now (words .exit)))
         (fsIn (length (now (places .entry))) (junctionCount (now (tree .entry))) (now (words .exit)))
         (boundsIn (length (now (places .entry))) (junctionCount (now (tree .entry))) (now (words .exit)))) ⌝ }
     ensures state { λ _. ⌜ ((road : List ℕ)
-        → Ready road (now (tree .entry)) (asked .aggregate) (asked .k)
+        → Ready road (now (tree .entry)) (asked .aggregate) (ruleOf (asked .rule))
         (now (crews .entry)) (now (drives .entry)) (now (places .entry)) (now (table .entry))
-        → (held : Held) (measured : List ℕ) (count : ℕ)
+        → (held : List Element) (measured : List ℕ) (count : ℕ)
         → stateOf (length (now (places .entry))) (junctionCount (now (tree .entry))) (now (words .exit))
         held measured count
-        ≡ openLeaf (searchOf road (now (tree .entry)) (asked .aggregate) (asked .k) (now (crews .entry)))
+        ≡ openLeaf (searchOf road (now (tree .entry)) (asked .aggregate) (ruleOf (asked .rule)) (now (crews .entry)))
         (stateOf (length (now (places .entry))) (junctionCount (now (tree .entry))) (now (words .entry))
         held measured count) (r .number)) ⌝ }
 {

@@ -1,8 +1,8 @@
 // A leaf when first taken picks its landmark, and its yards get their f and their bounds.
 use crate::elements;
 use crate::parts;
-use query::Query;
 use search_bounds::picks;
+use search_held::Asked;
 use tree_layout::Region;
 use tree_layout::landmarks;
 use tree_layout::records;
@@ -11,6 +11,7 @@ ghost use Prim.Native.Nat.{ℕ};
 ghost use lib.ListN.{length};
 ghost use Rattle.tree_layout.specs.Decode.{junctionCount};
 ghost use Rattle.search_rules.specs.Books.{searchOf};
+ghost use Rattle.search_held.specs.code.Rules.{ruleOf};
 ghost use Rattle.search_state.specs.code.State.{picksIn, fsIn, boundsIn};
 ghost use Rattle.search_leaf.specs.code.Ready.{Ready, Readied, Leafed, SameQueue, OpenLeaf};
 
@@ -21,21 +22,23 @@ fn open(
     table: &[u32],
     drives: &[u32],
     crews: &[u16],
-    asked: Query,
+    asked: Asked,
     words: &mut [u64],
     r: Region,
 ) -> usize
-    requires { ⌜ Readied (now tree) (asked .aggregate) (asked .k) (now crews) (now drives) (now places) (now table)
+    requires { ⌜ Readied (now tree) (asked .aggregate) (ruleOf (asked .rule))
+        (now crews) (now drives) (now places) (now table)
         × ((road : List ℕ)
-        → Ready road (now tree) (asked .aggregate) (asked .k) (now crews) (now drives) (now places) (now table)
-        → Leafed (searchOf road (now tree) (asked .aggregate) (asked .k) (now crews))
+        → Ready road (now tree) (asked .aggregate) (ruleOf (asked .rule))
+        (now crews) (now drives) (now places) (now table)
+        → Leafed (searchOf road (now tree) (asked .aggregate) (ruleOf (asked .rule)) (now crews))
         (length (now places)) (junctionCount (now tree)) (now words) (r .number)) ⌝ }
     ensures same { λ _. ⌜ SameQueue (length (now (places .entry))) (junctionCount (now (tree .entry)))
         (now (words .entry)) (now (words .exit)) ⌝ }
     ensures open { λ p. ⌜ ((road : List ℕ)
-        → Ready road (now (tree .entry)) (asked .aggregate) (asked .k)
+        → Ready road (now (tree .entry)) (asked .aggregate) (ruleOf (asked .rule))
         (now (crews .entry)) (now (drives .entry)) (now (places .entry)) (now (table .entry))
-        → OpenLeaf (searchOf road (now (tree .entry)) (asked .aggregate) (asked .k) (now (crews .entry)))
+        → OpenLeaf (searchOf road (now (tree .entry)) (asked .aggregate) (ruleOf (asked .rule)) (now (crews .entry)))
         (picksIn (length (now (places .entry))) (junctionCount (now (tree .entry))) (now (words .exit)))
         (fsIn (length (now (places .entry))) (junctionCount (now (tree .entry))) (now (words .exit)))
         (boundsIn (length (now (places .entry))) (junctionCount (now (tree .entry))) (now (words .exit)))
@@ -68,21 +71,23 @@ pub fn landmark(
     table: &[u32],
     drives: &[u32],
     crews: &[u16],
-    asked: Query,
+    asked: Asked,
     words: &mut [u64],
     r: Region,
 ) -> usize
-    requires { ⌜ Readied (now tree) (asked .aggregate) (asked .k) (now crews) (now drives) (now places) (now table)
+    requires { ⌜ Readied (now tree) (asked .aggregate) (ruleOf (asked .rule))
+        (now crews) (now drives) (now places) (now table)
         × ((road : List ℕ)
-        → Ready road (now tree) (asked .aggregate) (asked .k) (now crews) (now drives) (now places) (now table)
-        → Leafed (searchOf road (now tree) (asked .aggregate) (asked .k) (now crews))
+        → Ready road (now tree) (asked .aggregate) (ruleOf (asked .rule))
+        (now crews) (now drives) (now places) (now table)
+        → Leafed (searchOf road (now tree) (asked .aggregate) (ruleOf (asked .rule)) (now crews))
         (length (now places)) (junctionCount (now tree)) (now words) (r .number)) ⌝ }
     ensures same { λ _. ⌜ SameQueue (length (now (places .entry))) (junctionCount (now (tree .entry)))
         (now (words .entry)) (now (words .exit)) ⌝ }
     ensures open { λ p. ⌜ ((road : List ℕ)
-        → Ready road (now (tree .entry)) (asked .aggregate) (asked .k)
+        → Ready road (now (tree .entry)) (asked .aggregate) (ruleOf (asked .rule))
         (now (crews .entry)) (now (drives .entry)) (now (places .entry)) (now (table .entry))
-        → OpenLeaf (searchOf road (now (tree .entry)) (asked .aggregate) (asked .k) (now (crews .entry)))
+        → OpenLeaf (searchOf road (now (tree .entry)) (asked .aggregate) (ruleOf (asked .rule)) (now (crews .entry)))
         (picksIn (length (now (places .entry))) (junctionCount (now (tree .entry))) (now (words .exit)))
         (fsIn (length (now (places .entry))) (junctionCount (now (tree .entry))) (now (words .exit)))
         (boundsIn (length (now (places .entry))) (junctionCount (now (tree .entry))) (now (words .exit)))

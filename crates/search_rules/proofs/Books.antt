@@ -12,12 +12,13 @@ use Rattle.tree_layout.specs.Decode.{decode, junctionCount}
 use Rattle.tree_layout.proofs.Places.{decode-junctions}
 use Rattle.tree.specs.Shape.{treeRefusal}
 use Rattle.tree.specs.Yards.{yardsBelow}
+use Rattle.search_rules.specs.Rule.{Rule}
 use Rattle.search_rules.specs.Instance.{Instance}
 use Rattle.search_rules.specs.Books.{searchOf, Passed}
 use Rattle.search_rules.specs.Facts.{WellFormed, Triangle, Symmetric, SoundInstance}
 use Rattle.search_rules.proofs.Trees.{Accepted, accepted-tree, well-formed, truth-of}
 
-module _ (road tree : List ℕ) (code goal : ℕ) (crews : List ℕ) (p : Passed road tree crews) where
+module _ (road tree : List ℕ) (code : ℕ) (goal : Rule) (crews : List ℕ) (p : Passed road tree crews) where
   abbrev i : Instance
   i = searchOf road tree code goal crews
 

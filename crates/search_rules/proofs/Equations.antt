@@ -11,6 +11,7 @@ use Rattle.book.proofs.Lists.{eq→eqb, ne→neqb}
 use Rattle.road.specs.Dijkstra.{dist}
 use Rattle.tree_layout.specs.Values.{Mark, regionAt}
 use Rattle.tree_layout.specs.Decode.{decode}
+use Rattle.search_rules.specs.Rule.{Rule}
 use Rattle.search_rules.specs.Instance.{Instance, marks}
 use Rattle.search_rules.specs.Books.{searchOf}
 use Rattle.search_rules.specs.Bounds.{absDiff, combine, aggregate, greatestOf, leastOf, crewBound, tableAt, lower, upper, over, markBound, bound, weight}
@@ -120,7 +121,7 @@ module _ (i : Instance) where
 
 -- ---- the search of two books
 
-pub search-of : (road tree : List ℕ) (code goal : ℕ) (crews : List ℕ)
-    → searchOf road tree code goal crews ≡ record { code = code; k = goal; crews = crews; tree = decode tree; d = dist road }
+pub search-of : (road tree : List ℕ) (code : ℕ) (goal : Rule) (crews : List ℕ)
+    → searchOf road tree code goal crews ≡ record { code = code; rule = goal; crews = crews; tree = decode tree; d = dist road }
 unfolding searchOf
 search-of road tree code goal crews = refl

@@ -20,7 +20,9 @@ use Rattle.tree.specs.Shape.{childFits, siblings, subtree, treeRefusal}
 use Rattle.tree.specs.Yards.{endOf, starts, childrenOf, numbers, ownYards, leafYardsFrom, yardsBelow, treeYards, sumFrom, oneInner, inners}
 use Rattle.tree.proofs.Counts.{numbers-mem}
 use Rattle.tree.proofs.Vectors.{row0}
+use Rattle.search_rules.specs.Rule.{nearest}
 use Rattle.search_rules.specs.Instance.{Instance}
+use Rattle.search_rules.specs.Keeping.{front}
 use Rattle.search_rules.specs.Bounds.{absDiff}
 use Rattle.search_rules.specs.Held.{ranked}
 use Rattle.search_rules.specs.Run.{answer}
@@ -80,7 +82,7 @@ unfoldable pub along : List ℕ
 along = 0 ∷ 2 ∷ 5 ∷ 9 ∷ 10 ∷ []
 
 unfoldable pub five : Instance
-five = record { code = 0; k = 2; crews = 0 ∷ 2 ∷ []; tree = decode fiveRegions; d = λ u v. absDiff (getD along u 0) (getD along v 0) }
+five = record { code = 0; rule = nearest 2; crews = 0 ∷ 2 ∷ []; tree = decode fiveRegions; d = λ u v. absDiff (getD along u 0) (getD along v 0) }
 
 bytes : Bytes fiveRegions
 unfolding Bytes fiveRegions all
@@ -141,5 +143,5 @@ five-count = omega arith
 pub five-settles : T (answer five 8 .settled)
 five-settles = accepted-ends five tree-accepted 8 (five-sound .well) five-count
 
-pub five-lists : answer five 8 .listed ≡ take (five .k) (ranked five (1 ∷ 3 ∷ 4 ∷ []))
+pub five-lists : answer five 8 .listed ≡ front (five .rule) (ranked five (1 ∷ 3 ∷ 4 ∷ []))
 five-lists = rw (← yards-are) (accepted-exact five tree-accepted 8 five-sound five-settles)

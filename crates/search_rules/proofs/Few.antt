@@ -1,23 +1,29 @@
--- At most k yards are held and listed, whatever the tree and the query say. Assumes nothing.
+-- A search for k yards holds and lists at most k, whatever the tree and the query say. Assumes nothing.
+use mathlib.Core.Path.{_≡_}
 use mathlib.Core.List.{List, []}
 use Prim.Native.Nat.{ℕ, zero, suc, min, _≤_}
 use native.Mathlib.Omega.{arith}
 use lib.ListN.{length, length-take}
 use Rattle.book.proofs.Choosing.{choose-case}
 use Rattle.tree_layout.specs.Values.{Element}
+use Rattle.search_rules.specs.Rule.{Rule, nearest}
 use Rattle.search_rules.specs.Instance.{Instance, leaf}
 use Rattle.search_rules.specs.Bounds.{chosen}
 use Rattle.search_rules.specs.Queue.{queued, wordAt}
-use Rattle.search_rules.specs.Keeping.{keep}
+use Rattle.search_rules.specs.Keeping.{keepBy, keep}
 use Rattle.search_rules.specs.Held.{insert, hold, entry}
 use Rattle.search_rules.specs.Step.{SearchState, nextF, openInner, queueNext, closeLeaf, openLeaf, takeRegion, takeYard, nextRegion, nextYard, step}
 use Rattle.search_rules.specs.Step.{settled}
 use Rattle.search_rules.specs.Step.{startSearch}
 use Rattle.search_rules.specs.Run.{Outcome, advance, run, report, answer}
 
-module _ (i : Instance) where
+kept-few : (r : Rule) (k : ℕ) (e : Element) (held : List Element) → r ≡ nearest k → length (keepBy r e held) ≤ k
+unfolding keepBy hold
+kept-few r k e held p = rw p (omega (arith, length-take k (insert e held)))
+
+module _ (i : Instance) (k : ℕ) (asked : i .rule ≡ nearest k) where
   Few : SearchState → Type 0
-  Few st = length (st .held) ≤ i .k
+  Few st = length (st .held) ≤ k
 
   -- a region that is taken leaves the held yards
   region-few : (st : SearchState) (r a : ℕ) → Few st → Few (takeRegion i st r a)
@@ -25,8 +31,8 @@ module _ (i : Instance) where
   region-few st r a h = choose-case Few (leaf i r) (λ l. choose-case Few (queued (nextF i (st .gone) (chosen i r))) (λ t. h) (λ t. h)) (λ l. h)
 
   yard-few : (st : SearchState) (y : ℕ) → Few (takeYard i st y)
-  unfolding Few takeYard keep hold
-  yard-few st y = omega (arith, length-take (i .k) (insert (entry i y) (st .held)))
+  unfolding Few takeYard keep
+  yard-few st y = kept-few (i .rule) k (entry i y) (st .held) asked
 
   step-few : (st : SearchState) → Few st → Few (step i st)
   unfolding step
@@ -41,6 +47,6 @@ module _ (i : Instance) where
   run-few (suc limit) =
       choose-case (λ (o : Outcome). Few (o .state)) (settled i (run i limit .state)) (λ t. run-few limit) (λ t. step-few (run i limit .state) (run-few limit))
 
-  pub answer-few : (limit : ℕ) → length (answer i limit .listed) ≤ i .k
+  pub answer-few : (limit : ℕ) → length (answer i limit .listed) ≤ k
   unfolding Few answer report
-  answer-few limit = choose-case (λ (l : List Element). length l ≤ i .k) (settled i (run i limit .state)) (λ t. run-few limit) (λ t. omega arith)
+  answer-few limit = choose-case (λ (l : List Element). length l ≤ k) (settled i (run i limit .state)) (λ t. run-few limit) (λ t. omega arith)

@@ -6,7 +6,7 @@ use mathlib.Core.List.{List, [], _∷_, List·Memᴰ as Mem, List·Memᴰ·head 
 use mathlib.Core.Option.{Option, none, some}
 use Prim.Native.Nat.{ℕ, zero, suc, _≤_, _<_, max}
 use native.Mathlib.Omega.{arith}
-use lib.ListN.{length, getD, set, take, replicate, length-set, length-replicate}
+use lib.ListN.{length, getD, set, replicate, length-set, length-replicate}
 use lib.Seq.{getD-set-same}
 use lib.Dec.{T, T-not, not-T}
 use Rattle.book.specs.Choose.{choose}
@@ -16,15 +16,15 @@ use Rattle.tree_layout.specs.Values.{Element, Mark}
 use Rattle.search_rules.specs.Instance.{Instance, size, children, marks, leaf}
 use Rattle.search_rules.specs.Bounds.{bound, chosen, f, yardBound}
 use Rattle.search_rules.specs.Queue.{unqueued, queued, wordAt}
-use Rattle.search_rules.specs.Keeping.{keep}
-use Rattle.search_rules.specs.Held.{insert, hold, entry, ranked}
+use Rattle.search_rules.specs.Keeping.{keepBy, keep, front}
+use Rattle.search_rules.specs.Held.{entry, ranked}
 use Rattle.search_rules.specs.Step.{SearchState, left, noElement, againKey, nextPlace, nextF, queueChildren, openInner, queueNext, closeLeaf, openLeaf}
 use Rattle.search_rules.specs.Step.{takeRegion, takeYard, step, settled, startSearch}
 use Rattle.search_rules.specs.Run.{Outcome, advance, run}
 use Rattle.search_rules.specs.Facts.{Below, inside, under, Shape, WellFormed}
 use Rattle.search_rules.proofs.Bounds.{chosen-mem}
 use Rattle.search_rules.proofs.Limits.{bound-most, f-most, yardBound-most}
-use Rattle.search_rules.proofs.Held.{take-insert}
+use Rattle.search_rules.proofs.Fronts.{front-none, front-keep}
 use Rattle.search_rules.proofs.Queue.{seen, seen-key, seen-mark, key, key-word, key-small, key-range, has, has-key, no-key, key-eq, small-queued}
 use Rattle.search_rules.proofs.Queue.{set-case, key-set, key-put, key-drop, Next, no-more, one-more, next-is, Again, empty, more, again-is, Entered}
 use Rattle.search_rules.proofs.Queue.{queued-child, kept, queueChildren-is, queueChildren-length}
@@ -43,8 +43,8 @@ pub record Kept (i : Instance) (st : SearchState) : Type 0 where
   pub queued-new : (y a : ℕ) → key (st .yardKeys) y ≡ some a → Mem y (st .measured) → ⊥
   pub measured-left : (y : ℕ) → Mem y (st .measured) → T (left (st .gone) y)
   pub once : Distinct (st .measured)
-  -- the held yards are the first k measured
-  pub first-ranked : st .held ≡ take (i .k) (ranked i (st .measured))
+  -- the held yards are what the rule asks for of the measured ones
+  pub first-ranked : st .held ≡ front (i .rule) (ranked i (st .measured))
   -- what is queued or measured belongs to the tree
   pub regions-in : (r a y : ℕ) → key (st .regionKeys) r ≡ some a → Below i r y → Below i 0 y
   pub yards-in : (y a : ℕ) → key (st .yardKeys) y ≡ some a → Below i 0 y
@@ -323,7 +323,7 @@ module _ (i : Instance) (well : WellFormed i) (st : SearchState) (was : Kept i s
     taken-yard-key P v = key-drop P (st .yardKeys) y (rw (was .sizes .yards) (yard-range y at)) v
 
     pub yard-kept : Kept i (takeYard i st y)
-    unfolding takeYard keep ranked hold
+    unfolding takeYard keep ranked
     yard-kept = record {
       sizes = record {
         regions = was .sizes .regions;
@@ -358,8 +358,8 @@ module _ (i : Instance) (well : WellFormed i) (st : SearchState) (was : Kept i s
         in-tree v (inl p) = rw p (was .yards-in y b at)
         in-tree v (inr k) = was .measured-in v k
 
-        ranked-more : take (i .k) (insert (entry i y) (st .held)) ≡ take (i .k) (ranked i (y ∷ st .measured))
-        ranked-more = rw (was .first-ranked, take-insert) refl
+        ranked-more : keepBy (i .rule) (entry i y) (st .held) ≡ front (i .rule) (ranked i (y ∷ st .measured))
+        ranked-more = rw (was .first-ranked) (front-keep (i .rule) (entry i y) (ranked i (st .measured)))
 
   -- Taking a region, by cases.
   pub region-case : (P : SearchState → Type 0) (r a : ℕ) → key (st .regionKeys) r ≡ some a
@@ -443,7 +443,7 @@ module _ (i : Instance) (well : WellFormed i) where
     queued-new = λ v b e. absurd (start-yard v e);
     measured-left = λ v k. absurd (not-nil k);
     once = tt;
-    first-ranked = sym (take-none (i .k));
+    first-ranked = sym (front-none (i .rule));
     regions-in = λ v b y. start-key (λ o. o ≡ some b → Below i v y → Below i 0 y) v (λ p e below. rw p at below) (λ p e. absurd (no-key e));
     yards-in = λ v b e. absurd (start-yard v e);
     measured-in = λ v k. absurd (not-nil k);
@@ -458,10 +458,6 @@ module _ (i : Instance) (well : WellFormed i) where
     leaf-fresh = λ v e l h k t. start-left (e .yard);
   }
     where
-      take-none : (n : ℕ) → _≡_ {A = List Element} (take n []) []
-      take-none zero = refl
-      take-none (suc n) = refl
-
       opens : T (leaf i 0) → OneLeft (startSearch i .gone) (chosen i 0)
       opens l =
           let mark = chosen-mem i 0 (well .shape .marked 0 (well .shape .root)) in

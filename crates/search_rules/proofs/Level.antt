@@ -7,8 +7,7 @@ use mathlib.Core.List.{List·Memᴰ·cases-cons as cases-cons}
 use mathlib.Core.Option.{Option, none, some}
 use Prim.Native.Nat.{ℕ, zero, suc, _≤_, _<_, max}
 use native.Mathlib.Omega.{arith}
-use lib.ListN.{length, set, take, length-take}
-use lib.Seq.{take-all}
+use lib.ListN.{length, set}
 use lib.Dec.{T}
 use Rattle.book.proofs.Choosing.{choose-case}
 use Rattle.tree_layout.specs.Values.{Element, Mark}
@@ -16,12 +15,13 @@ use Rattle.search_rules.specs.Order.{yardFirst}
 use Rattle.search_rules.specs.Instance.{Instance, size, children, marks, leaf}
 use Rattle.search_rules.specs.Bounds.{bound, chosen, f, yardBound}
 use Rattle.search_rules.specs.Queue.{unqueued, wordAt}
-use Rattle.search_rules.specs.Keeping.{keep}
-use Rattle.search_rules.specs.Held.{insert, hold, greatestHeld, entry, ranked}
+use Rattle.search_rules.specs.Keeping.{keepBy, keep}
+use Rattle.search_rules.specs.Held.{entry}
 use Rattle.search_rules.specs.Step.{SearchState, left, againKey, nextF, openInner, queueNext, takeYard, step, settled, startSearch}
 use Rattle.search_rules.specs.Run.{Outcome, advance, run}
 use Rattle.search_rules.specs.Facts.{Shape, WellFormed, SoundInstance}
-use Rattle.search_rules.specs.Theorems.{KeyOf}
+use Rattle.search_rules.specs.Theorems.{NotPast, KeyOf}
+use Rattle.search_rules.proofs.Fronts.{keep-not-past, not-past-less}
 use Rattle.search_rules.proofs.Bounds.{f-le, chosen-mem}
 use Rattle.search_rules.proofs.Queue.{seen, key, key-word, key-small, word-key, key-range, key-eq, no-key, has-key, Entered, queued-child, kept, Again}
 use Rattle.search_rules.proofs.Queue.{empty, more}
@@ -31,13 +31,13 @@ use Rattle.search_rules.proofs.Kept.{leaf-yard-key, leaf-region-key, le
 use Rattle.search_rules.proofs.Low.{Low, run-low}
 use Rattle.search_rules.proofs.Found.{kept-listing}
 
--- What is known of a measured yard: its key, which no queued key is below, and which is not above the greatest held distance if k are held.
+-- What is known of a measured yard: its key, which no queued key is below, and which is not past what ends the search.
 pub record MeasuredKey (i : Instance) (st : SearchState) (y : ℕ) : Type 0 where
   pub queue-key : ℕ
   pub is : KeyOf i (st .firsts) y queue-key
   pub regions : (v b : ℕ) → key (st .regionKeys) v ≡ some b → queue-key ≤ b
   pub yards : (v b : ℕ) → key (st .yardKeys) v ≡ some b → queue-key ≤ b
-  pub held : length (st .held) ≡ i .k → queue-key ≤ greatestHeld (st .held)
+  pub held : NotPast (i .rule) (st .held) queue-key
 
 pub record Level (i : Instance) (st : SearchState) : Type 0 where
   pub queued-key : (y a : ℕ) → key (st .yardKeys) y ≡ some a → KeyOf i (st .firsts) y a
@@ -62,18 +62,6 @@ key-of-more {i} {firsts} {new} {y} {a} h k = record {
 -- a region whose first key is known is in range
 known-range : (ws : List ℕ) (v : ℕ) → wordAt ws v < unqueued → v < length ws
 known-range ws v h = key-range ws v (word-key ws v (wordAt ws v) refl h)
-
--- The first of a list with one more are that one among others, or what they were.
-insert-front : (j : ℕ) (e : Element) (l : List Element) → Mem e (take j (insert e l)) ⊎ (take j (insert e l) ≡ take j l)
-unfolding insert
-insert-front zero e l = inr refl
-insert-front (suc j) e [] = inl (head refl)
-insert-front (suc j) e (g ∷ l) = choose-case (λ s. Mem e (take (suc j) s) ⊎ (take (suc j) s
-    ≡ g ∷ take j l)) (yardFirst e g) (λ t. inl (head refl)) (λ t. go (insert-front j e l))
-  where
-    go : Mem e (take j (insert e l)) ⊎ (take j (insert e l) ≡ take j l) → Mem e (g ∷ take j (insert e l)) ⊎ (g ∷ take j (insert e l) ≡ g ∷ take j l)
-    go (inl k) = inl (tail k)
-    go (inr p) = inr (ap (λ s. g ∷ s) p)
 
 module _ (i : Instance) (well : WellFormed i) where
   module _ (st : SearchState) (was : Kept i st) (level : Level i st) where
@@ -203,7 +191,7 @@ module _ (i : Instance) (well : WellFormed i) where
     -- ---- a yard
 
     yard-level : Low i st → (y b : ℕ) → key (st .yardKeys) y ≡ some b → Due i st b → Level i (takeYard i st y)
-    unfolding takeYard keep entry hold
+    unfolding takeYard keep entry
     yard-level low y b at due = record {
       queued-key = λ v c. yard-key (λ o. o ≡ some c → KeyOf i (st .firsts) v c) v (λ p q. absurd (no-key q)) (λ p q. level .queued-key v c q);
       leaf-level = level .leaf-level;
@@ -211,7 +199,7 @@ module _ (i : Instance) (well : WellFormed i) where
     }
       where
         held′ : List Element
-        held′ = take (i .k) (insert (entry i y) (st .held))
+        held′ = keepBy (i .rule) (entry i y) (st .held)
 
         new : SearchState
         new = takeYard i st y
@@ -219,15 +207,9 @@ module _ (i : Instance) (well : WellFormed i) where
         yard-key : (P : Option ℕ → Type 0) (v : ℕ) → (v ≡ y → P none) → (v ≢ y → P (key (st .yardKeys) v)) → P (key (set (st .yardKeys) y unqueued) v)
         yard-key = taken-yard-key i well st was y b at
 
-        few : length (st .held) ≤ i .k
-        few = omega (arith, ap length (was .first-ranked), length-take (i .k) (ranked i (st .measured)))
-
-        up : length held′ ≡ i .k → b ≤ greatestHeld held′
-        up full = go (insert-front (i .k) (entry i y) (st .held))
-          where
-            go : Mem (entry i y) held′ ⊎ (held′ ≡ take (i .k) (st .held)) → b ≤ greatestHeld held′
-            go (inl k) = omega (arith, low .yard-low y b at, kept-listing i (takeYard i st y) (yard-kept i well st was y b at) .greatest (entry i y) k)
-            go (inr p) = let e : held′ ≡ st .held = p ∙ take-all (i .k) (st .held) few in rw e (due .held (sym (ap length e) ∙ full))
+        up : NotPast (i .rule) held′ b
+        up = keep-not-past (i .rule) (entry i y) (st .held) b (kept-listing i st was .allowed) (due .held)
+            (λ k. omega (arith, low .yard-low y b at, kept-listing i (takeYard i st y) (yard-kept i well st was y b at) .greatest (entry i y) k))
 
         measured : (z : ℕ) → (z ≡ y) ⊎ Mem z (st .measured) → MeasuredKey i new z
         measured z (inl p) = record {
@@ -242,7 +224,7 @@ module _ (i : Instance) (well : WellFormed i) where
           is = x .is;
           regions = x .regions;
           yards = λ v c. yard-key (λ o. o ≡ some c → x .queue-key ≤ c) v (λ p q. absurd (no-key q)) (λ p q. x .yards v c q);
-          held = λ full. omega (arith, x .yards y b at, up full);
+          held = not-past-less (i .rule) held′ (x .queue-key) b (x .yards y b at) up;
         }
 
     step-level : Low i st → T (not (settled i st)) → Level i (step i st)
@@ -290,21 +272,21 @@ module _ (i : Instance) (sound : SoundInstance i) where
   run-level (suc limit) = choose-case (λ (o : Outcome). Level i (o .state)) (settled i (run i limit .state)) (λ t. run-level limit)
       (λ t. step-level i (sound .well) (run i limit .state) (run-kept i (sound .well) limit) (run-level limit) (run-low i sound limit) t)
 
-  -- Every measured yard has a key, and if k are held it is not above the greatest held distance.
+  -- Every measured yard has a key, which is not past what ends the search.
   pub run-measured : (limit y : ℕ) → Mem y (run i limit .state .measured) → MeasuredKey i (run i limit .state) y
   run-measured limit y k = run-level limit .measured-key y k
 
-  -- The key of a measured yard, however it is found, is not above the greatest held distance if k are held.
-  pub run-within : (limit y a : ℕ) → Mem y (run i limit .state .measured) → KeyOf i (run i limit .state .firsts) y a → length (run i limit .state .held) ≡ i .k
-      → a ≤ greatestHeld (run i limit .state .held)
-  run-within limit y a k j full = let x = run-measured limit y k in
-      rw (key-of-one i (sound .well) (run i limit .state .firsts) (run-kept i (sound .well) limit .sizes .firsts) j (x .is)) (x .held full)
+  -- The key of a measured yard, however it is found, is not past it.
+  pub run-within : (limit y a : ℕ) → Mem y (run i limit .state .measured) → KeyOf i (run i limit .state .firsts) y a
+      → NotPast (i .rule) (run i limit .state .held) a
+  run-within limit y a k j = let x = run-measured limit y k in
+      rw (key-of-one i (sound .well) (run i limit .state .firsts) (run-kept i (sound .well) limit .sizes .firsts) j (x .is)) (x .held)
 
   -- Nor is the bound of a measured yard, of whatever leaf's chosen list it is an element.
   pub run-bound-within : (limit r : ℕ) (e : Element) → T (leaf i r) → r < size i → Mem e (chosen i r .list) → Mem (e .yard) (run i limit .state .measured)
-      → length (run i limit .state .held) ≡ i .k
-      → yardBound i (chosen i r) e ≤ greatestHeld (run i limit .state .held)
-  run-bound-within limit r e l h k j full = omega (arith, same-bound, x .held full, x .is .value)
+      → NotPast (i .rule) (run i limit .state .held) (yardBound i (chosen i r) e)
+  run-bound-within limit r e l h k j =
+      not-past-less (i .rule) (run i limit .state .held) (yardBound i (chosen i r) e) (x .queue-key) (omega (arith, same-bound, x .is .value)) (x .held)
     where
       well : WellFormed i
       well = sound .well

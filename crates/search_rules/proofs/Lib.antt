@@ -3,6 +3,7 @@ pub mod Bounds
 pub mod Limits
 pub mod Order
 pub mod Held
+pub mod Fronts
 pub mod Queue
 pub mod Stepping
 pub mod Kept
@@ -17,6 +18,7 @@ pub mod Few
 pub mod Theorems
 pub mod Asked
 pub mod Walks
+pub mod Agreeing
 pub mod Turns
 pub mod Equations
 pub mod Steps

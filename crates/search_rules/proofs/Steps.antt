@@ -13,8 +13,8 @@ use Rattle.tree.specs.Yards.{childrenOf}
 use Rattle.search_rules.specs.Instance.{Instance, size, children, leaf}
 use Rattle.search_rules.specs.Bounds.{bound, chosen, total, yardBound, f}
 use Rattle.search_rules.specs.Queue.{unqueued, queued, wordAt, pick}
-use Rattle.search_rules.specs.Keeping.{keep, enough}
-use Rattle.search_rules.specs.Held.{hold, greatestHeld, entry}
+use Rattle.search_rules.specs.Keeping.{keepBy, enoughBy, keep, enough}
+use Rattle.search_rules.specs.Held.{entry}
 use Rattle.search_rules.specs.Step.{SearchState, left, noElement, againKey, waiting, nextPlace, nextF, queueChildren, openInner, queueNext, closeLeaf}
 use Rattle.search_rules.specs.Step.{openLeaf}
 use Rattle.search_rules.specs.Step.{takeRegion, takeYard, nextRegion, nextYard, leastKey, step, settled, startSearch}
@@ -66,7 +66,7 @@ module _ (i : Instance) where
   least-key-is st = refl
 
   pub settled-is : (st : SearchState) → settled i st
-      ≡ (not (queued (leastKey i st)) || (eqb (length (st .held)) (i .k) && ltb (greatestHeld (st .held)) (leastKey i st)))
+      ≡ (not (queued (leastKey i st)) || enoughBy (i .rule) (st .held) (leastKey i st))
   unfolding settled enough
   settled-is st = refl
 
@@ -108,7 +108,7 @@ module _ (i : Instance) where
     yardKeys = set (st .yardKeys) y unqueued;
     firsts = st .firsts;
     gone = st .gone;
-    held = hold (i .k) (entry i y) (st .held);
+    held = keepBy (i .rule) (entry i y) (st .held);
     measured = y ∷ st .measured;
   }
   unfolding takeYard keep

@@ -4,20 +4,23 @@ use mathlib.Core.Bool.{Bool, true, false, not}
 use mathlib.Core.List.{List, [], _∷_, List·Memᴰ as Mem}
 use Prim.Native.Nat.{ℕ, zero, suc, _+_, _*_, _≤_, _<_}
 use native.Mathlib.Omega.{arith}
-use lib.ListN.{length, take}
+use lib.ListN.{length}
 use lib.Dec.{T}
 use Rattle.book.specs.Choose.{choose}
 use Rattle.book.proofs.Choosing.{choose-yes, choose-no, T-true, T-false}
 use Rattle.tree_layout.specs.Values.{Element}
 use Rattle.tree.specs.Yards.{treeYards, inners}
 use Rattle.search_rules.specs.Instance.{Instance, size, leaf}
-use Rattle.search_rules.specs.Held.{greatestHeld, ranked}
+use Rattle.search_rules.specs.Held.{ranked}
+use Rattle.search_rules.specs.Keeping.{front}
 use Rattle.search_rules.specs.Bounds.{chosen, yardBound}
 use Rattle.search_rules.specs.Step.{settled}
 use Rattle.search_rules.specs.Run.{Outcome, Answer, words, run, report, answer}
 use Rattle.search_rules.specs.Facts.{Below, WellFormed, SoundInstance}
-use Rattle.search_rules.specs.Theorems.{TreeYards, Listing, Complete, Limited, Bounded, Decided, Right}
+use Rattle.search_rules.specs.Theorems.{NotPast, TreeYards, Listing, Complete, Limited, Bounded, Decided, Right}
 use Rattle.search_rules.proofs.Bounds.{bound-le, f-le, yardBound-le}
+use Rattle.search_rules.proofs.Held.{ranked-length}
+use Rattle.search_rules.proofs.Fronts.{front-length}
 use Rattle.search_rules.proofs.Kept.{Kept, run-kept}
 use Rattle.search_rules.proofs.Found.{fewer, run-listing, run-complete}
 use Rattle.search_rules.proofs.Ends.{enough, unsettled-taken, taken-within, settled-stays}
@@ -67,8 +70,8 @@ pub right : (i : Instance) → SoundInstance i → (limit : ℕ) → T (settled 
 right i sound limit t = record {
   complete = run-complete i sound limit t;
   keyed = λ y k. (run-measured i sound limit y k .queue-key, run-measured i sound limit y k .is);
-  key-within = λ full y a k j. run-within i sound limit y a k j full;
-  bound-within = λ full r e l h k j. run-bound-within i sound limit r e l h k j full;
+  key-within = run-within i sound limit;
+  bound-within = run-bound-within i sound limit;
 }
 
 -- ---- the answer
@@ -102,9 +105,9 @@ unfolding words
 words-length [] = refl
 words-length (e ∷ es) = omega (arith, words-length es)
 
--- a settled search on a true tree lists the first k of the tree's yards, or all if fewer
+-- a settled search on a true tree lists what its rule asks for of the tree's yards
 pub answer-exact : (i : Instance) → SoundInstance i → (limit : ℕ) → T (answer i limit .settled) → (ys : List ℕ) → TreeYards i ys
-    → answer i limit .listed ≡ take (i .k) (ranked i ys)
+    → answer i limit .listed ≡ front (i .rule) (ranked i ys)
 unfolding answer report
 answer-exact i sound limit t ys tree = answer-listed i limit t ∙ run-complete i sound limit t .exact ys tree
 
@@ -112,17 +115,30 @@ answer-exact i sound limit t ys tree = answer-listed i limit t ∙ run-complete 
 pub answer-listing : (i : Instance) → WellFormed i → (limit : ℕ) → T (answer i limit .settled) → Listing i (answer i limit .listed)
 answer-listing i well limit t = rw (answer-listed i limit t) (run-listing i well limit)
 
--- and if that is k yards, none was measured whose bound is above the last listed distance
-pub answer-within : (i : Instance) → SoundInstance i → (limit : ℕ) → T (answer i limit .settled) → length (answer i limit .listed) ≡ i .k
+-- and none was measured whose bound is past what ends the search
+pub answer-within : (i : Instance) → SoundInstance i → (limit : ℕ) → T (answer i limit .settled)
     → (r : ℕ) (e : Element) → T (leaf i r) → r < size i → Mem e (chosen i r .list) → Mem (e .yard) (run i limit .state .measured)
-    → yardBound i (chosen i r) e ≤ greatestHeld (answer i limit .listed)
-answer-within i sound limit t full r e l h k j =
-    rw (answer-listed i limit t) (run-bound-within i sound limit r e l h k j (rw (answer-listed i limit t) at full))
+    → NotPast (i .rule) (answer i limit .listed) (yardBound i (chosen i r) e)
+answer-within i sound limit t r e l h k j = rw (answer-listed i limit t) (run-bound-within i sound limit r e l h k j)
 
 -- a limit of inner regions plus twice the yards settles
 pub answer-ends : (i : Instance) → WellFormed i → (limit : ℕ) → (ys : List ℕ) → TreeYards i ys → inners (i .tree) + 2 * length ys ≤ limit
     → T (answer i limit .settled)
 answer-ends i well limit ys tree h = rw (answer-settled i limit) (enough i well ys (tree .every) limit h)
+
+-- no more are listed than the tree has yards
+pub listed-few : (i : Instance) → WellFormed i → (limit : ℕ) → T (answer i limit .settled) → (ys : List ℕ) → TreeYards i ys
+    → length (answer i limit .listed) ≤ length ys
+listed-few i well limit t ys tree =
+    let d = decided i well limit in
+    omega (
+      arith,
+      ap length (answer-listed i limit t),
+      ap length (d .held),
+      front-length (i .rule) (ranked i (run i limit .state .measured)),
+      ranked-length i (run i limit .state .measured),
+      d .measured-few ys tree,
+    )
 
 -- what is listed fits in words of 32 bits
 pub listed-small : (i : Instance) → WellFormed i → (limit : ℕ) → T (answer i limit .settled) → (e : Element) → Mem e (answer i limit .listed)
@@ -138,7 +154,7 @@ module _ (i : Instance) (a : Accepted (i .tree)) (limit : ℕ) where
   pub accepted-ends : WellFormed i → inners (i .tree) + 2 * i .tree .yards ≤ limit → T (answer i limit .settled)
   accepted-ends well h = answer-ends i well limit (treeYards (i .tree)) (tree-yards i a) (rw (a .whole .yard-count) h)
 
-  pub accepted-exact : SoundInstance i → T (answer i limit .settled) → answer i limit .listed ≡ take (i .k) (ranked i (treeYards (i .tree)))
+  pub accepted-exact : SoundInstance i → T (answer i limit .settled) → answer i limit .listed ≡ front (i .rule) (ranked i (treeYards (i .tree)))
   accepted-exact sound t = answer-exact i sound limit t (treeYards (i .tree)) (tree-yards i a)
 
   pub accepted-measured : WellFormed i → answer i limit .measured ≤ i .tree .yards

@@ -8,7 +8,8 @@ use Rattle.book.specs.Choose.{choose}
 use Rattle.tree_layout.specs.Values.{Tree, leafMark, innerMark, firstDistance, lastFrom, noRegion, regionAt}
 use Rattle.tree_layout.specs.Refusal.{all}
 use Rattle.search_rules.specs.Order.{yardFirst}
-use Rattle.search_rules.specs.Keeping.{keep, enough}
+use Rattle.search_rules.specs.Rule.{nearest}
+use Rattle.search_rules.specs.Keeping.{keep, enough, keepBy, enoughBy}
 use Rattle.tree_leaf.specs.Leaf.{names, once, inRange, namedBy, firstList, agreeing, sameYards, leafOk}
 use Rattle.tree.specs.Shape.{childFits, siblings, subtree}
 use Rattle.tree.specs.Yards.{endOf, starts, childrenOf}
@@ -61,7 +62,7 @@ pub starred : row (netN 0 2 (0 ∷ 2 ∷ [])) 4 ∷ row (netN 0 2 (0 ∷ 2 ∷ [
     ∷ (1 ∷ 2 ∷ 1 ∷ 1 ∷ 3 ∷ []) ∷ (1 ∷ 2 ∷ 1 ∷ 1 ∷ 4 ∷ []) ∷ (1 ∷ 6 ∷ 3 ∷ 1 ∷ 5 ∷ 3 ∷ 13 ∷ 4 ∷ 15 ∷ [])
     ∷ (1 ∷ 2 ∷ 1 ∷ 0 ∷ 0 ∷ []) ∷ (1 ∷ 4 ∷ 2 ∷ 0 ∷ 1 ∷ []) ∷ []
 unfolding row onChain at leafOf netN oneJunction three from0 from2 twoLeaves eight choose leafMark innerMark firstDistance lastFrom noRegion regionAt all
-    yardFirst keep enough names once inRange namedBy firstList agreeing sameYards leafOk siblings subtree endOf starts childrenOf size children marks leaf
+    yardFirst keep enough keepBy enoughBy names once inRange namedBy firstList agreeing sameYards leafOk siblings subtree endOf starts childrenOf size children marks leaf
     absDiff combine aggregate greatestOf leastFrom leastOf crewBound noMark tableAt lower upper over total markBound bound weight best bestOf chosen
     listAbsDiff f yardBound queued wordAt pick insert hold greatestHeld entry left noElement againKey waiting nextPlace nextF queueChildren openInner
     queueNext closeLeaf openLeaf takeRegion takeYard nextRegion nextYard leastKey step settled startSearch words advance run report answer
@@ -71,7 +72,7 @@ starred = refl
 pub limits : row (netN 0 2 (0 ∷ 2 ∷ [])) 0 ∷ row twoLeaves 9 ∷ row twoLeaves 7 ∷ []
     ≡ (0 ∷ 0 ∷ 0 ∷ []) ∷ (1 ∷ 8 ∷ 3 ∷ 1 ∷ 12 ∷ 2 ∷ 12 ∷ []) ∷ (0 ∷ 7 ∷ 2 ∷ []) ∷ []
 unfolding row onChain at leafOf netN oneJunction three from0 from2 twoLeaves eight choose leafMark innerMark firstDistance lastFrom noRegion regionAt all
-    yardFirst keep enough names once inRange namedBy firstList agreeing sameYards leafOk siblings subtree endOf starts childrenOf size children marks leaf
+    yardFirst keep enough keepBy enoughBy names once inRange namedBy firstList agreeing sameYards leafOk siblings subtree endOf starts childrenOf size children marks leaf
     absDiff combine aggregate greatestOf leastFrom leastOf crewBound noMark tableAt lower upper over total markBound bound weight best bestOf chosen
     listAbsDiff f yardBound queued wordAt pick insert hold greatestHeld entry left noElement againKey waiting nextPlace nextF queueChildren openInner
     queueNext closeLeaf openLeaf takeRegion takeYard nextRegion nextYard leastKey step settled startSearch words advance run report answer
@@ -95,7 +96,7 @@ regions = refl
 unfoldable pub crewsAt : Instance
 crewsAt = record {
   code = 0;
-  k = 1;
+  rule = nearest 1;
   crews = 1 ∷ 1 ∷ 2 ∷ [];
   tree = record { junctions = 3; yards = 0; landmarks = 1; regions = [] };
   d = λ u v. getD (0 ∷ 5 ∷ 10 ∷ []) v 0;
@@ -113,7 +114,7 @@ both-sides = refl
 -- queued at 12 the lowest number is measured first.
 pub ties : run (three (from0 ∷ [])) 1 .state .gone ∷ run (three (from2 ∷ from0 ∷ [])) 1 .state .gone ∷ []
     ≡ (true ∷ false ∷ false ∷ []) ∷ (false ∷ false ∷ true ∷ []) ∷ []
-unfolding onChain at leafOf three from0 from2 choose leafMark innerMark firstDistance lastFrom noRegion regionAt all yardFirst keep enough names once inRange
+unfolding onChain at leafOf three from0 from2 choose leafMark innerMark firstDistance lastFrom noRegion regionAt all yardFirst keep enough keepBy enoughBy names once inRange
     namedBy firstList agreeing sameYards leafOk siblings subtree endOf starts childrenOf size children marks leaf absDiff combine aggregate greatestOf
     leastFrom leastOf crewBound noMark tableAt lower upper over total markBound bound weight best bestOf chosen listAbsDiff f yardBound queued wordAt pick
     insert hold greatestHeld entry left noElement againKey waiting nextPlace nextF queueChildren openInner queueNext closeLeaf openLeaf takeRegion takeYard
@@ -121,7 +122,7 @@ unfolding onChain at leafOf three from0 from2 choose leafMark innerMark firstDis
 ties = refl
 
 pub orders : run (three (from0 ∷ [])) 2 .state .measured ∷ run twoLeaves 6 .state .measured ∷ [] ≡ [] ∷ (1 ∷ []) ∷ []
-unfolding onChain at leafOf three from0 from2 twoLeaves eight choose leafMark innerMark firstDistance lastFrom noRegion regionAt all yardFirst keep enough
+unfolding onChain at leafOf three from0 from2 twoLeaves eight choose leafMark innerMark firstDistance lastFrom noRegion regionAt all yardFirst keep enough keepBy enoughBy
     names once inRange namedBy firstList agreeing sameYards leafOk siblings subtree endOf starts childrenOf size children marks leaf absDiff combine aggregate
     greatestOf leastFrom leastOf crewBound noMark tableAt lower upper over total markBound bound weight best bestOf chosen listAbsDiff f yardBound queued
     wordAt pick insert hold greatestHeld entry left noElement againKey waiting nextPlace nextF queueChildren openInner queueNext closeLeaf openLeaf takeRegion

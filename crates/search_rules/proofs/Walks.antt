@@ -1,8 +1,10 @@
 -- A settled search of true books lists the first yards by the walks' own definition of distance. Assumes nothing.
-use mathlib.Core.Path.{_≡_, refl, sym, _∙_}
+use mathlib.Core.Path.{_≡_, refl, sym, ap, _∙_}
+use mathlib.Core.Logic.{_⊎_, inl, inr}
 use mathlib.Core.List.{List, [], _∷_, List·Memᴰ as Mem, List·Memᴰ·head as head, List·Memᴰ·tail as tail}
-use Prim.Native.Nat.{ℕ, _<_}
+use Prim.Native.Nat.{ℕ, _≤_, _<_, min}
 use native.Mathlib.Omega.{arith}
+use lib.ListN.{length, length-take}
 use lib.Dec.{T}
 use Rattle.road_layout.specs.Road.{junctions}
 use Rattle.adjacency.specs.Arcs.{net}
@@ -11,21 +13,25 @@ use Rattle.road.proofs.Walks.{least-unique}
 use Rattle.road.proofs.Theorems.{metric}
 use Rattle.tree_layout.specs.Decode.{decode}
 use Rattle.tree.specs.Yards.{treeYards}
+use Rattle.search_rules.specs.Rule.{Rule, nearest, inDrive}
 use Rattle.search_rules.specs.Instance.{Instance}
 use Rattle.search_rules.specs.Books.{searchOf, Passed}
 use Rattle.search_rules.specs.Bounds.{aggregate, over, total}
-use Rattle.search_rules.specs.Held.{entry}
-use Rattle.search_rules.specs.Run.{run, answer}
+use Rattle.tree_layout.specs.Values.{Element}
+use Rattle.search_rules.specs.Held.{entry, ranked}
+use Rattle.search_rules.specs.Keeping.{front}
+use Rattle.search_rules.specs.Run.{answer}
 use Rattle.search_rules.specs.Facts.{Below, SoundInstance}
-use Rattle.search_rules.specs.Theorems.{TreeYards, Listing, Complete}
-use Rattle.search_rules.specs.Walks.{AggregateLeast, none, more, FirstYards}
+use Rattle.search_rules.specs.Theorems.{LeftOut, Allowed, TreeYards, Listing}
+use Rattle.search_rules.specs.Walks.{AggregateLeast, none, more, FirstYards, DriveYards}
 use Rattle.search_rules.proofs.Bounds.{below-range}
+use Rattle.search_rules.proofs.Held.{ranked-length}
 use Rattle.search_rules.proofs.Found.{run-complete}
 use Rattle.search_rules.proofs.Trees.{tree-yards}
 use Rattle.search_rules.proofs.Books.{count, accepted-of}
-use Rattle.search_rules.proofs.Theorems.{answer-settled, answer-listed, answer-listing}
+use Rattle.search_rules.proofs.Theorems.{answer-settled, answer-listed, answer-listing, answer-exact}
 
-module _ (road tree : List ℕ) (code goal : ℕ) (crews : List ℕ) (p : Passed road tree crews) where
+module _ (road tree : List ℕ) (code : ℕ) (goal : Rule) (crews : List ℕ) (p : Passed road tree crews) where
   abbrev i : Instance
   i = searchOf road tree code goal crews
 
@@ -63,22 +69,63 @@ module _ (road tree : List ℕ) (code goal : ℕ) (crews : List ℕ) (p : Passed
     unfolding searchOf
     yard-there y b = omega (arith, below-range i (sound .well .shape) b, count road tree code goal crews p)
 
-    pub first-yards : FirstYards (net road) code goal crews (treeYards (decode tree)) (answer i limit .listed)
+    ys : TreeYards i (treeYards (decode tree))
+    unfolding searchOf
+    ys = tree-yards i (accepted-of road tree code goal crews p)
+
+    l : Listing i (answer i limit .listed)
+    l = answer-listing i (sound .well) limit t
+
+    pub listed-distances : (e : Element) → Mem e (answer i limit .listed) → AggregateLeast (net road) code (e .yard) crews (e .distance)
+    listed-distances e k = rw (l .distances e k) (total-least (e .yard) (yard-there (e .yard) (l .in-tree e k)))
+
+    pub listed-yards : (e : Element) → Mem e (answer i limit .listed) → Mem (e .yard) (treeYards (decode tree))
+    listed-yards e k = ys .every (e .yard) (l .in-tree e k)
+
+    -- a yard with its aggregate is listed, or the rule leaves it out
+    pub listed-rest : (h : Element) → Mem (h .yard) (treeYards (decode tree)) → AggregateLeast (net road) code (h .yard) crews (h .distance)
+        → Mem h (answer i limit .listed) ⊎ LeftOut goal (answer i limit .listed) h
     unfolding searchOf entry
-    first-yards = record {
-      sorted = l .sorted;
-      distances = λ e k. rw (l .distances e k) (total-least (e .yard) (yard-there (e .yard) (l .in-tree e k)));
-      yards = λ e k. ys .every (e .yard) (l .in-tree e k);
-      number = rw (answer-listed i limit t) (c .number (treeYards (decode tree)) ys);
-      rest = λ h k a. let b = ys .below (h .yard) k in
-          rw (answer-listed i limit t, total-one (h .yard) (h .distance) (yard-there (h .yard) b) a) (c .rest (h .yard) b);
-    }
-      where
-        l : Listing i (answer i limit .listed)
-        l = answer-listing i (sound .well) limit t
+    listed-rest h k a = let b = ys .below (h .yard) k in
+        rw (answer-listed i limit t, total-one (h .yard) (h .distance) (yard-there (h .yard) b) a) (run-complete i sound limit (rw (answer-settled i limit) at t)
+        .rest (h .yard) b)
 
-        c : Complete i (run i limit .state .held)
-        c = run-complete i sound limit (rw (answer-settled i limit) at t)
+    pub listed-front : answer i limit .listed ≡ front goal (ranked i (treeYards (decode tree)))
+    unfolding searchOf
+    listed-front = answer-exact i sound limit t (treeYards (decode tree)) ys
 
-        ys : TreeYards i (treeYards (decode tree))
-        ys = tree-yards i (accepted-of road tree code goal crews p)
+    pub listed-allowed : Allowed goal (answer i limit .listed)
+    unfolding searchOf
+    listed-allowed = l .allowed
+
+module _ (road tree : List ℕ) (code k : ℕ) (crews : List ℕ) (p : Passed road tree crews) (sound : SoundInstance (searchOf road tree code (nearest k)
+    crews)) (limit : ℕ) (t : T (answer (searchOf road tree code (nearest k) crews) limit .settled)) where
+  -- the first k yards
+  pub first-yards : FirstYards (net road) code k crews (treeYards (decode tree)) (answer (searchOf road tree code (nearest k) crews) limit .listed)
+  unfolding front
+  first-yards = record {
+    sorted = answer-listing (searchOf road tree code (nearest k) crews) (sound .well) limit t .sorted;
+    distances = listed-distances road tree code (nearest k) crews p sound limit t;
+    yards = listed-yards road tree code (nearest k) crews p sound limit t;
+    number = ap length (listed-front road tree code (nearest k) crews p sound limit t) ∙ length-take k _ ∙ ap (min k) (ranked-length _ (treeYards (decode tree)));
+    rest = listed-rest road tree code (nearest k) crews p sound limit t;
+  }
+
+module _ (road tree : List ℕ) (code seconds : ℕ) (crews : List ℕ) (p : Passed road tree crews) (sound : SoundInstance (searchOf road tree code (inDrive seconds)
+    crews)) (limit : ℕ) (t : T (answer (searchOf road tree code (inDrive seconds) crews) limit .settled)) where
+  abbrev list : List Element
+  list = answer (searchOf road tree code (inDrive seconds) crews) limit .listed
+
+  -- the yards within the drive
+  pub drive-yards : DriveYards (net road) code seconds crews (treeYards (decode tree)) list
+  drive-yards = record {
+    sorted = answer-listing (searchOf road tree code (inDrive seconds) crews) (sound .well) limit t .sorted;
+    distances = listed-distances road tree code (inDrive seconds) crews p sound limit t;
+    yards = listed-yards road tree code (inDrive seconds) crews p sound limit t;
+    inside = listed-allowed road tree code (inDrive seconds) crews p sound limit t;
+    every = λ h k a near. found h near (listed-rest road tree code (inDrive seconds) crews p sound limit t h k a);
+  }
+    where
+      found : (h : Element) → h .distance ≤ seconds → Mem h list ⊎ (seconds < h .distance) → Mem h list
+      found h near (inl m) = m
+      found h near (inr f) = absurd (omega arith)

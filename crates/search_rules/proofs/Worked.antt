@@ -12,19 +12,19 @@ use Rattle.search_rules.specs.Bounds.{markBound, bound, weight, best, be
 use Rattle.search_rules.specs.Queue.{queued, wordAt, pick}
 use Rattle.search_rules.specs.Order.{yardFirst}
 use Rattle.search_rules.specs.Held.{insert, hold, greatestHeld, entry}
-use Rattle.search_rules.specs.Keeping.{keep, enough}
+use Rattle.search_rules.specs.Keeping.{keep, enough, keepBy, enoughBy}
 use Rattle.search_rules.specs.Step.{left, noElement, againKey, waiting, nextPlace, nextF, queueChildren, openInner, queueNext, closeLeaf, openLeaf}
 use Rattle.search_rules.specs.Step.{takeRegion, takeYard, nextRegion, nextYard, leastKey, step, settled, startSearch}
-use Rattle.search_rules.specs.Run.{advance, run}
-use Rattle.search_rules.specs.Examples.{onChain, at, leafOf, three, from0, from2, heavy, near, six}
+use Rattle.search_rules.specs.Run.{advance, run, report, answer}
+use Rattle.search_rules.specs.Examples.{onChain, at, leafOf, three, from0, from2, heavy, near, six, across, driven, counts, lists}
 use Rattle.search_rules.specs.Examples.{regionKeysAfter, yardKeysAfter, measuredAfter, Worked}
 
 pub worked : Worked
-unfolding onChain at leafOf three from0 from2 heavy near six regionKeysAfter yardKeysAfter measuredAfter choose leafMark innerMark firstDistance lastFrom
+unfolding onChain at leafOf three from0 from2 heavy near six across driven counts lists regionKeysAfter yardKeysAfter measuredAfter choose leafMark innerMark firstDistance lastFrom
     noRegion regionAt noMark all comes names once inRange namedBy firstList agreeing sameYards leafOk siblings subtree endOf starts childrenOf size children
     marks leaf absDiff combine aggregate greatestOf leastFrom leastOf crewBound tableAt lower upper over total markBound bound weight best bestOf chosen
-    listAbsDiff f yardBound queued wordAt pick yardFirst insert hold greatestHeld entry keep enough left noElement againKey waiting nextPlace nextF
-    queueChildren openInner queueNext closeLeaf openLeaf takeRegion takeYard nextRegion nextYard leastKey step settled startSearch advance run
+    listAbsDiff f yardBound queued wordAt pick yardFirst insert hold greatestHeld entry keep enough keepBy enoughBy left noElement againKey waiting nextPlace nextF
+    queueChildren openInner queueNext closeLeaf openLeaf takeRegion takeYard nextRegion nextYard leastKey step settled startSearch advance run report answer
 worked = record {
   tied-weights = refl;
   first-landmark = refl;
@@ -38,4 +38,9 @@ worked = record {
   none-measured = refl;
   step-4 = refl;
   by-next = refl;
+  drive-of-10 = refl;
+  drive-of-9 = refl;
+  stops-above = refl;
+  measured-above = refl;
+  counted-above = refl;
 }

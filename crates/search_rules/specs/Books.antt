@@ -9,11 +9,13 @@ use Rattle.road.specs.Dijkstra.{dist}
 use Rattle.road.specs.Facts.{Passing}
 use Rattle.tree_layout.specs.Decode.{decode, junctionCount}
 use Rattle.tree.specs.Shape.{treeRefusal}
+use Rattle.search_rules.specs.Rule.{Rule}
 use Rattle.search_rules.specs.Instance.{Instance}
 
 -- of the tree book's tree, with the road book's distances
-unfoldable pub searchOf : (road tree : List ℕ) → (code k : ℕ) → List ℕ → Instance
-searchOf road tree code k crews = record { code = code; k = k; crews = crews; tree = decode tree; d = dist road }
+unfoldable pub searchOf : (road tree : List ℕ) → (code : ℕ) → Rule → List ℕ → Instance
+searchOf road tree code rule crews =
+    record { code = code; rule = rule; crews = crews; tree = decode tree; d = dist road }
 
 -- what the tests give of the two books and the crews
 pub record Passed (road tree crews : List ℕ) : Type 0 where

@@ -93,7 +93,6 @@ module _ (i : Instance) where
   f m e = over (listAbsDiff m e)
 
   -- "A yard's bound takes per crew the greatest of these differences over the landmark table's landmarks and l (for l
-  -- with the
-  -- list's distance), then aggregates."
+  -- with the list's distance), then aggregates."
   unfoldable pub yardBound : Mark → Element → ℕ
   yardBound m e = over (λ q. max (lower (e .yard) q) (listAbsDiff m e q))

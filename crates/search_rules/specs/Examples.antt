@@ -5,10 +5,11 @@ use mathlib.Core.List.{List, [], _∷_, _++_}
 use Prim.Native.Nat.{ℕ}
 use lib.ListN.{length, getD}
 use Rattle.tree_layout.specs.Values.{Element, Mark, Region, leafMark, innerMark}
+use Rattle.search_rules.specs.Rule.{nearest, inDrive}
 use Rattle.search_rules.specs.Instance.{Instance}
 use Rattle.search_rules.specs.Bounds.{absDiff, bound, weight, chosen, f, yardBound}
 use Rattle.search_rules.specs.Queue.{unqueued}
-use Rattle.search_rules.specs.Run.{run}
+use Rattle.search_rules.specs.Run.{run, answer}
 
 -- ---- junctions in a chain
 
@@ -17,7 +18,7 @@ use Rattle.search_rules.specs.Run.{run}
 unfoldable pub onChain : List ℕ → (code k : ℕ) → (crews : List ℕ) → (yards : ℕ) → List Region → Instance
 onChain along code k crews yards regions = record {
   code = code;
-  k = k;
+  rule = nearest k;
   crews = crews;
   tree = record { junctions = length along; yards = yards; landmarks = 1; regions = regions };
   d = λ u v. absDiff (getD along u 0) (getD along v 0);
@@ -66,6 +67,15 @@ six = onChain (0 ∷ 2 ∷ 6 ∷ 10 ∷ 12 ∷ 20 ∷ []) 0 1 (1 ∷ []) 3
     (record { first = 0; after = 6; children = 2; yards = 3; marks = innerMark 0 10 20 ∷ [] }
     ∷ leafOf 0 5 (near ∷ []) (at 4 3 ∷ at 6 4 ∷ []) ∷ leafOf 5 6 (leafMark 5 (at 0 5 ∷ []) ∷ []) (at 0 5 ∷ []) ∷ [])
 
+-- A chain of three, seconds 1 and 1, the crew at one end and the one yard at the other, the landmark between them: the
+-- yard's bound is |1 − 1|, and its aggregate 2.
+unfoldable pub across : Instance
+across = onChain (0 ∷ 1 ∷ 2 ∷ []) 0 1 (0 ∷ []) 1 (leafOf 0 3 (leafMark 1 (at 1 2 ∷ []) ∷ []) (at 1 2 ∷ []) ∷ [])
+
+-- the search for all yards within a drive of so many seconds, of the same tree and crews
+unfoldable pub driven : (seconds : ℕ) → Instance → Instance
+driven seconds i = record { code = i .code; rule = inDrive seconds; crews = i .crews; tree = i .tree; d = i .d }
+
 -- ---- what is seen of a search after some steps
 
 -- the regions' words
@@ -79,6 +89,14 @@ yardKeysAfter i n = run i n .state .yardKeys
 -- the measured yards
 unfoldable pub measuredAfter : Instance → ℕ → List ℕ
 measuredAfter i n = run i n .state .measured
+
+-- the steps taken and the number of the measured yards, under a limit
+unfoldable pub counts : Instance → ℕ → List ℕ
+counts i n = answer i n .taken ∷ answer i n .measured ∷ []
+
+-- the listed yards, under a limit
+unfoldable pub lists : Instance → ℕ → List Element
+lists i n = answer i n .listed
 
 -- ---- the values
 
@@ -117,3 +135,13 @@ pub record Worked : Type 0 where
   -- Where the next f is the greater: on the chain of three the first key is 0, and both f are 1.
   pub by-next : regionKeysAfter (three (from0 ∷ [])) 1 ++ yardKeysAfter (three (from0 ∷ [])) 1
       ≡ (1 ∷ []) ++ 1 ∷ unqueued ∷ unqueued ∷ []
+  -- "each yard whose aggregate is at most a given number of seconds": on the chain of six yards 3, 4 and 5 are 8, 10
+  -- and 18 from the crew. Within 10: a key that equals the seconds is taken, and an aggregate that does is listed.
+  pub drive-of-10 : lists (driven 10 six) 9 ≡ at 8 3 ∷ at 10 4 ∷ []
+  -- "settled when the queue is empty or every queued key is above the seconds": within 9 after step 4, when yard 4 is
+  -- queued at 10; within 7 before the first step, the root's key being 8
+  pub drive-of-9 : lists (driven 9 six) 9 ≡ at 8 3 ∷ []
+  pub stops-above : counts (driven 9 six) 9 ++ counts (driven 7 six) 9 ≡ (4 ∷ 1 ∷ []) ++ 0 ∷ 0 ∷ []
+  -- a yard measured above the seconds is measured and not held
+  pub measured-above : lists (driven 1 across) 9 ≡ []
+  pub counted-above : counts (driven 1 across) 9 ≡ 2 ∷ 1 ∷ []

@@ -1,6 +1,5 @@
 -- What is asked of an instance: the tree's shape, the limits of its numbers, the laws of the distance, and the truth of
--- the tree's numbers.
--- The layers below provide them. Assumes nothing: these are statements.
+-- the tree's numbers. The layers below provide them. Assumes nothing: these are statements.
 use mathlib.Core.Path.{_≡_}
 use mathlib.Core.Logic.{_≢_}
 use mathlib.Core.Bool.{not}

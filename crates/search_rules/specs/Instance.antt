@@ -1,4 +1,5 @@
--- What is searched: a tree, the crews, the aggregate, k, and the distance. Assumes nothing: these are definitions.
+-- What is searched: a tree, the crews, the aggregate, the rule, and the distance. Assumes nothing: these are
+-- definitions.
 use mathlib.Core.Bool.{Bool}
 use mathlib.Core.List.{List}
 use Prim.Native.Nat.{ℕ}
@@ -6,13 +7,14 @@ use lib.ListN.{length}
 use lib.Dec.{eqb}
 use Rattle.tree_layout.specs.Values.{Mark, Tree, regionAt}
 use Rattle.tree.specs.Yards.{childrenOf}
+use Rattle.search_rules.specs.Rule.{Rule}
 
--- The aggregate's code (0 is the sum, 1 the maximum), k (how many yards are listed at most), the crews' junctions
--- (query vertices; "two crews may
--- stand at one junction and both count"), the tree, and d u v, "the least total of seconds over all walks from u to v".
+-- The aggregate's code (0 is the sum, 1 the maximum), what the search is for, the crews' junctions (query vertices;
+-- "two crews may stand at one junction and both count"), the tree, and d u v, "the least total of seconds over all
+-- walks from u to v".
 pub record Instance : Type 0 where
   pub code : ℕ
-  pub k : ℕ
+  pub rule : Rule
   pub crews : List ℕ
   pub tree : Tree
   pub d : ℕ → ℕ → ℕ

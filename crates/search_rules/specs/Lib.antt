@@ -1,3 +1,4 @@
+pub mod Rule
 pub mod Instance
 pub mod Books
 pub mod Bounds

@@ -40,8 +40,7 @@ module _ (i : Instance) where
   run (suc limit) = let o = run limit in advance o
 
   -- "Settled writes (yard, distance) words ..; spent writes nothing there. Both return taken and measured, and settled
-  -- also the number of yards
-  -- listed.": of the outcome, asked once more whether it is settled
+  -- also the number of yards listed.": of the outcome, asked once more whether it is settled
   unfoldable pub report : Outcome → Answer
   report o =
       let s = settled i (o .state) in

@@ -13,8 +13,8 @@ use Rattle.search_rules.specs.Queue.{unqueued, queued, wordAt, pick}
 use Rattle.search_rules.specs.Keeping.{keep, enough}
 
 -- For each region and for each junction its word in the queue; for each region its first key (or `unqueued` before it
--- has one); for each junction whether
--- its yard has left its leaf; the held yards; the measured yards, the last one first.
+-- has one); for each junction whether its yard has left its leaf; the held yards; the measured yards, the last one
+-- first.
 pub record SearchState : Type 0 where
   pub regionKeys : List ℕ
   pub yardKeys : List ℕ
@@ -70,8 +70,7 @@ module _ (i : Instance) where
   }
 
   -- "A leaf queues its next yard and, if any remain, itself": leaf r, its first key, its landmark and its next element.
-  -- "Its key is the greater of
-  -- its bound and the leaf's first key."
+  -- "Its key is the greater of its bound and the leaf's first key."
   unfoldable pub queueNext : SearchState → ℕ → ℕ → Mark → Element → SearchState
   queueNext st r first m e =
       let gone′ = set (st .gone) (e .yard) true in
@@ -109,7 +108,7 @@ module _ (i : Instance) where
       let opened = openInner st r a in
       choose (leaf i r) leafed opened
 
-  -- "A yard is measured by true distances; the k least so far in yard order are held."
+  -- "A yard is measured by true distances; the k least so far in yard order are held.", or what the rule keeps
   unfoldable pub takeYard : SearchState → ℕ → SearchState
   takeYard st y = record {
     regionKeys = st .regionKeys;
@@ -146,7 +145,7 @@ module _ (i : Instance) where
       choose (queued (min a b)) taken st
 
   -- "The search is settled when the queue is empty, or k are held and every queued key is above the greatest held
-  -- distance."
+  -- distance."; a drive search "when the queue is empty or every queued key is above the seconds"
   unfoldable pub settled : SearchState → Bool
   settled st = not (queued (leastKey st)) || enough i (st .held) (leastKey st)
 

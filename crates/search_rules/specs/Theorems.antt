@@ -3,17 +3,19 @@ use mathlib.Core.Path.{_≡_}
 use mathlib.Core.Logic.{_⊎_}
 use mathlib.Core.Bool.{Bool, true, false, not}
 use mathlib.Core.List.{List, [], _∷_, List·Memᴰ as Mem}
-use Prim.Native.Nat.{ℕ, _+_, _*_, _≤_, _<_, min, max}
-use lib.ListN.{length, take}
+use Prim.Native.Nat.{ℕ, _+_, _*_, _≤_, _<_, max}
+use lib.ListN.{length}
 use lib.Dec.{T}
 use Rattle.book.specs.Lists.{Distinct}
 use Rattle.tree_layout.specs.Values.{Element, Mark}
 use Rattle.tree.specs.Yards.{inners}
+use Rattle.search_rules.specs.Rule.{Rule, nearest, inDrive}
 use Rattle.search_rules.specs.Instance.{Instance, size, marks, leaf}
 use Rattle.search_rules.specs.Bounds.{lower, upper, bound, total, weight, chosen, f, yardBound}
 use Rattle.search_rules.specs.Queue.{unqueued, wordAt}
 use Rattle.search_rules.specs.Order.{YardBefore}
 use Rattle.search_rules.specs.Held.{greatestHeld, entry, ranked}
+use Rattle.search_rules.specs.Keeping.{front}
 use Rattle.search_rules.specs.Step.{SearchState, settled}
 use Rattle.search_rules.specs.Run.{run, answer}
 use Rattle.search_rules.specs.Facts.{Below}
@@ -30,6 +32,21 @@ pub record Out (k : ℕ) (first : List Element) (h : Element) : Type 0 where
   pub full : length first ≡ k
   pub after : (g : Element) → Mem g first → YardBefore g h
 
+-- a yard is left out by a rule: of the first k as above, of a drive because it is further than the seconds
+abbrev pub LeftOut : Rule → List Element → Element → Type 0
+LeftOut (nearest k) list h = Out k list h
+LeftOut (inDrive seconds) list h = seconds < h .distance
+
+-- a list has no more than a rule asks for: no more than k yards, or none further than the seconds
+abbrev pub Allowed : Rule → List Element → Type 0
+Allowed (nearest k) list = length list ≤ k
+Allowed (inDrive seconds) list = (h : Element) → Mem h list → h .distance ≤ seconds
+
+-- a number is not past what ends a search: the last distance of a full list, or the seconds
+abbrev pub NotPast : Rule → List Element → ℕ → Type 0
+NotPast (nearest k) list a = length list ≡ k → a ≤ greatestHeld list
+NotPast (inDrive seconds) list a = a ≤ seconds
+
 -- ys are the tree's yards, each once
 pub record TreeYards (i : Instance) (ys : List ℕ) : Type 0 where
   pub distinct : Distinct ys
@@ -43,18 +60,17 @@ pub record Listing (i : Instance) (list : List Element) : Type 0 where
   pub distances : (h : Element) → Mem h list → h .distance ≡ total i (h .yard)
   pub distinct : (h g : Element) → Mem h list → Mem g list → h .yard ≡ g .yard → h ≡ g
   pub in-tree : (h : Element) → Mem h list → Below i 0 (h .yard)
-  pub few : length list ≤ i .k
+  pub allowed : Allowed (i .rule) list
   -- the greatest distance is the last one's
   pub greatest : (h : Element) → Mem h list → h .distance ≤ greatestHeld list
 
--- the list has the first k of the tree's yards in yard order, or all if there are fewer
+-- the list has what the rule asks for of the tree's yards, in yard order: the first k, or all if there are fewer; or
+-- all within the seconds
 pub record Complete (i : Instance) (list : List Element) : Type 0 where
-  -- a yard of the tree is listed, or k are and it comes after every one of them
-  pub rest : (y : ℕ) → Below i 0 y → Mem (entry i y) list ⊎ Out (i .k) list (entry i y)
-  -- their number is the lesser of k and the number of the tree's yards
-  pub number : (ys : List ℕ) → TreeYards i ys → length list ≡ min (i .k) (length ys)
+  -- a yard of the tree is listed, or the rule leaves it out
+  pub rest : (y : ℕ) → Below i 0 y → Mem (entry i y) list ⊎ LeftOut (i .rule) list (entry i y)
   -- as an equation
-  pub exact : (ys : List ℕ) → TreeYards i ys → list ≡ take (i .k) (ranked i ys)
+  pub exact : (ys : List ℕ) → TreeYards i ys → list ≡ front (i .rule) (ranked i ys)
 
 -- ---- keys
 
@@ -97,9 +113,9 @@ pub record Bounded (i : Instance) : Type 0 where
 -- of any search on a tree of sound layout and shape, whatever the tree's numbers say
 pub record Decided (i : Instance) (limit : ℕ) : Type 0 where
   pub listing : Listing i (run i limit .state .held)
-  -- the held yards are the first k of the measured yards, of which none is measured twice, and each is a yard of the
-  -- tree
-  pub held : run i limit .state .held ≡ take (i .k) (ranked i (run i limit .state .measured))
+  -- the held yards are what the rule asks for of the measured yards, of which none is measured twice, and each is a
+  -- yard of the tree
+  pub held : run i limit .state .held ≡ front (i .rule) (ranked i (run i limit .state .measured))
   pub measured-once : Distinct (run i limit .state .measured)
   pub measured-in : (y : ℕ) → Mem y (run i limit .state .measured) → Below i 0 y
   pub measured-few : (ys : List ℕ) → TreeYards i ys → length (run i limit .state .measured) ≤ length ys
@@ -117,11 +133,11 @@ pub record Decided (i : Instance) (limit : ℕ) : Type 0 where
 -- of a settled search on a true tree
 pub record Right (i : Instance) (limit : ℕ) : Type 0 where
   pub complete : Complete i (run i limit .state .held)
-  -- every measured yard was queued with a key, and if k are held, neither its key nor its bound is above the last held
-  -- distance
+  -- every measured yard was queued with a key, and neither its key nor its bound is past what ends the search: if k are
+  -- held, the last held distance; of a drive the seconds
   pub keyed : (y : ℕ) → Mem y (run i limit .state .measured) → (a : ℕ) × KeyOf i (run i limit .state .firsts) y a
-  pub key-within : length (run i limit .state .held) ≡ i .k → (y a : ℕ) → Mem y (run i limit .state .measured)
-      → KeyOf i (run i limit .state .firsts) y a → a ≤ greatestHeld (run i limit .state .held)
-  pub bound-within : length (run i limit .state .held) ≡ i .k → (r : ℕ) (e : Element) → T (leaf i r) → r < size i
+  pub key-within : (y a : ℕ) → Mem y (run i limit .state .measured)
+      → KeyOf i (run i limit .state .firsts) y a → NotPast (i .rule) (run i limit .state .held) a
+  pub bound-within : (r : ℕ) (e : Element) → T (leaf i r) → r < size i
       → Mem e (chosen i r .list) → Mem (e .yard) (run i limit .state .measured)
-      → yardBound i (chosen i r) e ≤ greatestHeld (run i limit .state .held)
+      → NotPast (i .rule) (run i limit .state .held) (yardBound i (chosen i r) e)

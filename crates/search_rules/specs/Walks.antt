@@ -3,7 +3,7 @@
 use mathlib.Core.Path.{_≡_}
 use mathlib.Core.Logic.{_⊎_}
 use mathlib.Core.List.{List, [], _∷_, List·Memᴰ as Mem}
-use Prim.Native.Nat.{ℕ, min}
+use Prim.Native.Nat.{ℕ, min, _≤_}
 use lib.ListN.{length}
 use Rattle.adjacency.specs.Arcs.{Arc}
 use Rattle.road.specs.Walk.{Least}
@@ -28,3 +28,13 @@ pub record FirstYards (arcs : List Arc) (code k : ℕ) (crews ys : List ℕ) (li
   -- every one of them
   pub rest : (h : Element) → Mem (h .yard) ys → AggregateLeast arcs code (h .yard) crews (h .distance)
       → Mem h list ⊎ Out k list h
+
+-- "exactly the tree's yards within the drive", each once, in yard order, each with its distance
+pub record DriveYards (arcs : List Arc) (code seconds : ℕ) (crews ys : List ℕ) (list : List Element) : Type 0 where
+  pub sorted : Sorted list
+  pub distances : (e : Element) → Mem e list → AggregateLeast arcs code (e .yard) crews (e .distance)
+  pub yards : (e : Element) → Mem e list → Mem (e .yard) ys
+  pub inside : (e : Element) → Mem e list → e .distance ≤ seconds
+  -- a yard with its aggregate, if that is at most the seconds, is listed
+  pub every : (h : Element) → Mem (h .yard) ys → AggregateLeast arcs code (h .yard) crews (h .distance)
+      → h .distance ≤ seconds → Mem h list

@@ -10,6 +10,7 @@ use lib.Seq.{length-take-le}
 use lib.Dec.{T}
 use Rattle.book.proofs.Choosing.{true-T, false-T}
 use Rattle.tree_layout.specs.Decode.{junctionCount}
+use Rattle.search_rules.specs.Rule.{Rule}
 use Rattle.search_rules.specs.Instance.{Instance}
 use Rattle.search_rules.specs.Books.{searchOf}
 use Rattle.search_rules.specs.Queue.{pick}
@@ -18,6 +19,7 @@ use Rattle.search_rules.specs.Run.{Outcome as Ended, run, answer}
 use Rattle.search_rules.proofs.Equations.{search-of}
 use Rattle.search_rules.proofs.Theorems.{decided}
 use Rattle.search_rules.proofs.Turns.{run-on}
+use Rattle.search_held.specs.code.Rules.{heldBy, countBy, Fits}
 use Rattle.search_state.specs.code.State.{wordCount, picksIn, fsIn, boundsIn, stateOf, settledBy}
 use Rattle.search_state.proofs.Cells.{part-all}
 use Rattle.search_state.proofs.Choosing.{picked-word}
@@ -38,14 +40,16 @@ pub record Runs (i : Instance) (r n : ℕ) (words : List ℕ) (st : SearchState)
   pub counts : taken ≡ run i taken .taken
 
 -- what the steps change: of the search by every road book beside which it is ready, and within the limit and the room
-pub record Steps (tree : List ℕ) (code goal : ℕ) (crews drives places table : List ℕ) (limit room : ℕ) (words measured : List ℕ)
+pub record Steps (tree : List ℕ) (code : ℕ) (goal : Rule) (crews drives places table : List ℕ) (limit room : ℕ) (words list measured : List ℕ)
     (progress : Progress) (taken : ℕ) : Type 0 where
   pub size : length words ≡ wordCount (length places) (junctionCount tree)
   pub same : length measured ≡ room
+  pub list-size : length list ≡ 512
   pub runs : (road : List ℕ) → Ready road tree code goal crews drives places table
       → Runs (searchOf road tree code goal crews) (length places) (junctionCount tree) words
-      (stateOf (length places) (junctionCount tree) words (progress .held) measured (progress .measured)) taken
-  pub few : progress .held .count ≤ goal
+      (stateOf (length places) (junctionCount tree) words (heldBy goal (progress .kept) list) measured (progress .measured)) taken
+  pub few : Fits goal (progress .kept)
+  pub low : countBy goal (progress .kept) ≤ progress .measured
   pub most : progress .measured ≤ 256
   pub within : taken ≤ limit
 
@@ -57,9 +61,9 @@ pub least-of : (r n : ℕ) (ws : List ℕ) (queue p : ℕ) → queue ≡ r + n �
     → p ≡ pick (take queue ws) (length (take queue ws)) → FirstLeast r n ws p
 least-of r n ws queue p e s h = h ∙ (ap (pick (take queue ws)) (length-take-le queue ws (omega arith) ∙ e) ∙ rw (e, part-all ws (r + n)) refl)
 
-module _ {tree : List ℕ} {code goal : ℕ} {crews drives places table : List ℕ} {limit room : ℕ} {words measured : List ℕ} {progress : Progress} {taken : ℕ}
-    (steps : Steps tree code goal crews drives places table limit room words measured progress taken)
-    (p : ℕ) (e : FirstLeast (length places) (junctionCount tree) words p) (b : Bool) (q : b ≡ settledBy goal (getD words p 0) (progress .held)) where
+module _ {tree : List ℕ} {code : ℕ} {goal : Rule} {crews drives places table : List ℕ} {limit room : ℕ} {words list measured : List ℕ} {progress : Progress} {taken : ℕ}
+    (steps : Steps tree code goal crews drives places table limit room words list measured progress taken)
+    (p : ℕ) (e : FirstLeast (length places) (junctionCount tree) words p) (b : Bool) (q : b ≡ settledBy goal (getD words p 0) (heldBy goal (progress .kept) list)) where
   abbrev r : ℕ
   r = length places
 
@@ -67,7 +71,7 @@ module _ {tree : List ℕ} {code goal : ℕ} {crews drives places table : List �
   n = junctionCount tree
 
   abbrev st : SearchState
-  st = stateOf r n words (progress .held) measured (progress .measured)
+  st = stateOf r n words (heldBy goal (progress .kept) list) measured (progress .measured)
 
   module _ (road : List ℕ) (ready : Ready road tree code goal crews drives places table) where
     abbrev i : Instance
@@ -79,20 +83,20 @@ module _ {tree : List ℕ} {code goal : ℕ} {crews drives places table : List �
     -- what the test says
     settled-is : b ≡ settled i st
     settled-is =
-        q ∙ (ap (λ (w : ℕ). settledBy goal w (progress .held))
+        q ∙ (ap (λ (w : ℕ). settledBy goal w (heldBy goal (progress .kept) list))
         (picked-word r n words (steps .size) (some-region ready) (some-junction ready) i (regions-of ready) (junctions-are ready)
-        (progress .held) measured (progress .measured) p e)
-        ∙ (ap (λ (k : ℕ). settledBy k (leastKey i st) (progress .held)) (sym (ap (λ (z : Instance). z .k) (search-of road tree code goal crews)))
-        ∙ settled-of i r n words (progress .held) measured (progress .measured)))
+        (heldBy goal (progress .kept) list) measured (progress .measured) p e)
+        ∙ (ap (λ (k : Rule). settledBy k (leastKey i st) (heldBy goal (progress .kept) list)) (sym (ap (λ (z : Instance). z .rule) (search-of road tree code goal crews)))
+        ∙ settled-of i r n words (heldBy goal (progress .kept) list) measured (progress .measured)))
 
     -- one step more is taken
     pub going : b ≡ false → Going i r n words st
     going z = record { cached = s .cached; unsettled = record { steps = taken; is = s .is; unsettled = false-T (sym settled-is ∙ z) } }
 
-    goes-on : b ≡ false → (words′ measured′ : List ℕ) (progress′ : Progress) → Cached i (picksIn r n words′) (fsIn r n words′) (boundsIn r n words′)
-        → stateOf r n words′ (progress′ .held) measured′ (progress′ .measured) ≡ step i st
-        → Runs i r n words′ (stateOf r n words′ (progress′ .held) measured′ (progress′ .measured)) (taken + 1)
-    goes-on z words′ measured′ progress′ c t =
+    goes-on : b ≡ false → (words′ list′ measured′ : List ℕ) (progress′ : Progress) → Cached i (picksIn r n words′) (fsIn r n words′) (boundsIn r n words′)
+        → stateOf r n words′ (heldBy goal (progress′ .kept) list′) measured′ (progress′ .measured) ≡ step i st
+        → Runs i r n words′ (stateOf r n words′ (heldBy goal (progress′ .kept) list′) measured′ (progress′ .measured)) (taken + 1)
+    goes-on z words′ list′ measured′ progress′ c t =
         let o = run-on i taken (rw (s .is) at (going z .unsettled .unsettled)) in
         rw add-one (record {
           cached = c;
@@ -102,36 +106,39 @@ module _ {tree : List ℕ} {code goal : ℕ} {crews drives places table : List �
 
     -- it is settled before the limit
     pub ends-settled : b ≡ true
-        → answerOf (record { held = progress .held; measured = progress .measured; taken = taken; settled = true }) ≡ answer i limit
+        → answerOf goal list (record { kept = progress .kept; measured = progress .measured; taken = taken; settled = true }) ≡ answer i limit
     ends-settled z =
         let t : T (settled i (run i taken .state)) = rw (s .is) at (true-T (sym settled-is ∙ z)) in
         let l : taken + (limit - taken) ≡ limit = omega (arith, steps .within) in
         let o : run i limit ≡ run i taken = rw l at (decided i (well road tree code goal crews drives places table ready) taken .stays t (limit - taken)) in
-        answer-is i limit r n words measured (record { held = progress .held; measured = progress .measured; taken = taken; settled = true })
+        answer-is i limit r n words list measured goal (record { kept = progress .kept; measured = progress .measured; taken = taken; settled = true })
         (s .is ∙ sym (ap (λ (x : Ended). x .state) o))
         (s .counts ∙ sym (ap (λ (x : Ended). x .taken) o))
         (rw (o, ← s .is) (sym z ∙ settled-is))
 
     -- the limit's number of steps was taken
     pub ends-limit : b ≡ false → taken ≡ limit
-        → answerOf (record { held = progress .held; measured = progress .measured; taken = taken; settled = false }) ≡ answer i limit
-    ends-limit z l = rw (← l) (answer-is i taken r n words measured
-        (record { held = progress .held; measured = progress .measured; taken = taken; settled = false })
+        → answerOf goal list (record { kept = progress .kept; measured = progress .measured; taken = taken; settled = false }) ≡ answer i limit
+    ends-limit z l = rw (← l) (answer-is i taken r n words list measured goal
+        (record { kept = progress .kept; measured = progress .measured; taken = taken; settled = false })
         (s .is) (s .counts) (rw (← s .is) (sym z ∙ settled-is)))
 
-  pub steps-on : b ≡ false → taken < limit → (words′ measured′ : List ℕ) (progress′ : Progress) → length words′ ≡ length words
+  pub steps-on : b ≡ false → taken < limit → (words′ list′ measured′ : List ℕ) (progress′ : Progress) → length words′ ≡ length words
+      → length list′ ≡ length list
       → length measured′ ≡ length measured
       → ((road : List ℕ) → Ready road tree code goal crews drives places table
       → Cached (searchOf road tree code goal crews) (picksIn r n words′) (fsIn r n words′) (boundsIn r n words′))
       → ((road : List ℕ) → Ready road tree code goal crews drives places table
-      → stateOf r n words′ (progress′ .held) measured′ (progress′ .measured) ≡ step (searchOf road tree code goal crews) st)
-      → (progress′ .held .count ≤ goal) × (progress′ .measured ≤ 256)
-      → Steps tree code goal crews drives places table limit room words′ measured′ progress′ (taken + 1)
-  steps-on z l words′ measured′ progress′ sw sm c t f = record {
+      → stateOf r n words′ (heldBy goal (progress′ .kept) list′) measured′ (progress′ .measured) ≡ step (searchOf road tree code goal crews) st)
+      → Fits goal (progress′ .kept) × (countBy goal (progress′ .kept) ≤ progress′ .measured) × (progress′ .measured ≤ 256)
+      → Steps tree code goal crews drives places table limit room words′ list′ measured′ progress′ (taken + 1)
+  steps-on z l words′ list′ measured′ progress′ sw sh sm c t f = record {
     size = sw ∙ steps .size;
     same = sm ∙ steps .same;
-    runs = λ road ready. goes-on road ready z words′ measured′ progress′ (c road ready) (t road ready);
+    list-size = sh ∙ steps .list-size;
+    runs = λ road ready. goes-on road ready z words′ list′ measured′ progress′ (c road ready) (t road ready);
     few = f .0;
-    most = f .1;
+    low = f .1;
+    most = f .2;
     within = omega arith;
   }

@@ -1,7 +1,7 @@
 -- The words before the first step are the definition's start. Assumes nothing.
 use mathlib.Core.Path.{_≡_, refl, sym, ap, _∙_}
 use mathlib.Core.Bool.{false}
-use mathlib.Core.List.{List, []}
+use mathlib.Core.List.{List}
 use Prim.Native.Nat.{ℕ, _+_, _*_, _≤_, _<_}
 use native.Mathlib.Omega.{arith}
 use lib.ListN.{length, getD, take, set, replicate, length-set, length-replicate, getD-replicate}
@@ -13,14 +13,16 @@ use Rattle.tree_layout.specs.declared.Header.{Header}
 use Rattle.tree_layout.proofs.Reading.{header-junctions}
 use Rattle.tree.specs.Arrays.{Laid}
 use Rattle.tree.proofs.Fielding.{laid-few}
+use Rattle.search_rules.specs.Rule.{Rule, nearest, inDrive}
 use Rattle.search_rules.specs.Instance.{Instance, size}
 use Rattle.search_rules.specs.Books.{searchOf}
 use Rattle.search_rules.specs.Queue.{unqueued}
 use Rattle.search_rules.specs.Run.{Outcome as Ended, run}
 use Rattle.search_rules.proofs.Steps.{start-is}
 use Rattle.search_rules.proofs.Turns.{run-start}
-use Rattle.search_held.specs.declared.Held.{Held}
-use Rattle.search_held.specs.code.Pairs.{heldOf}
+use Rattle.search_held.specs.declared.Kept.{Kept}
+use Rattle.search_held.specs.code.Rules.{heldBy, countBy, Fits, Small}
+use Rattle.search_held.proofs.Ruling.{none-held}
 use Rattle.search_state.specs.code.State.{wordCount, firstsAt, stateOf}
 use Rattle.search_state.proofs.Cells.{Parts, parts-replicate, store-key, store-first, state-by, part-replicate, part-all}
 use Rattle.search_state.proofs.Newest.{newest-none}
@@ -45,8 +47,8 @@ cached-none i r n er en = record {
     marked : (v : ℕ) → v < size i → getD (replicate r unqueued) v 0 ≡ unopened
     marked v k = getD-replicate r v unqueued 0 (omega arith)
 
-module _ {road tree : List ℕ} {code goal : ℕ} {crews drives places table : List ℕ} (ready : Ready road tree code goal crews drives places table)
-    (words : List ℕ) (held : Held) (measured : List ℕ) where
+module _ {road tree : List ℕ} {code : ℕ} {goal : Rule} {crews drives places table : List ℕ} (ready : Ready road tree code goal crews drives places table)
+    (words list measured : List ℕ) (kept : Kept) (none : (kept .held .count ≡ 0) × (kept .listed ≡ 0)) where
   abbrev i : Instance
   i = searchOf road tree code goal crews
 
@@ -59,18 +61,18 @@ module _ {road tree : List ℕ} {code goal : ℕ} {crews drives places table : L
   abbrev key : ℕ
   key = rowsBound table (landmarkCount tree) code crews (regionAt (decode tree .regions) 0 .marks)
 
-  module _ (e : words ≡ putRoot r n key (replicate (wordCount r n) unqueued)) (none : heldOf held ≡ []) where
+  module _ (e : words ≡ putRoot r n key (replicate (wordCount r n) unqueued)) where
     start-parts : Parts r n words (set (replicate r unqueued) 0 key) (replicate n unqueued) (set (replicate r unqueued) 0 key)
         (replicate r unqueued) (replicate n unqueued) (replicate n unqueued) (replicate n false)
     unfolding putRoot
     start-parts = rw e (store-first (store-key (parts-replicate r n unqueued (λ z. absurd (omega arith))) 0 key 0 refl (some-region ready))
         (firstsAt r n) key 0 (omega arith) (some-region ready))
 
-    start-state : stateOf r n words held measured 0 ≡ run i 0 .state
+    start-state : stateOf r n words (heldBy goal kept list) measured 0 ≡ run i 0 .state
     start-state =
-        state-by start-parts held measured 0
+        state-by start-parts (heldBy goal kept list) measured 0
         ∙ (rw (
-          none,
+          none-held goal kept list none,
           newest-none measured,
           bound-of road tree code goal crews (ready .passed) (landmarkCount tree) table (ready .tableed) 0 key refl,
           ← regions-of ready,
@@ -78,25 +80,36 @@ module _ {road tree : List ℕ} {code goal : ℕ} {crews drives places table : L
         ) refl
         ∙ sym (ap (λ (o : Ended). o .state) (run-start i) ∙ start-is i))
 
-    starts : Runs i r n words (stateOf r n words held measured 0) 0
+    starts : Runs i r n words (stateOf r n words (heldBy goal kept list) measured 0) 0
     starts = record {
       cached = cached-by start-parts (cached-none i r n (regions-of ready) (junctions-are ready));
       is = start-state;
       counts = sym (ap (λ (o : Ended). o .taken) (run-start i));
     }
 
-pub steps-start : (tree : List ℕ) (code goal : ℕ) (crews drives places table : List ℕ) (limit : ℕ) (words₀ words : List ℕ) (held : Held) (measured : List ℕ)
+-- none is no more than a rule lets
+none-fits : (rule : Rule) (kept : Kept) → (kept .held .count ≡ 0) × (kept .listed ≡ 0) → Small rule → Fits rule kept
+none-fits (nearest k) kept z s = (omega (arith, z .0), s)
+none-fits (inDrive seconds) kept z s = tt
+
+none-low : (rule : Rule) (kept : Kept) → (kept .held .count ≡ 0) × (kept .listed ≡ 0) → countBy rule kept ≤ 0
+none-low (nearest k) kept z = omega (arith, z .0)
+none-low (inDrive seconds) kept z = omega (arith, z .1)
+
+pub steps-start : (tree : List ℕ) (code : ℕ) (goal : Rule) (crews drives places table : List ℕ) (limit : ℕ) (words₀ words list measured : List ℕ) (kept : Kept)
     → words₀ ≡ replicate (wordCount (length places) (junctionCount tree)) unqueued
     → words ≡ putRoot (length places) (junctionCount tree)
     (rowsBound table (landmarkCount tree) code crews (regionAt (decode tree .regions) 0 .marks)) words₀
-    → (heldOf held ≡ []) × (held .count ≡ 0)
-    → Steps tree code goal crews drives places table limit (length measured) words measured (record { held = held; measured = 0 }) 0
+    → length list ≡ 512 → Small goal → (kept .held .count ≡ 0) × (kept .listed ≡ 0)
+    → Steps tree code goal crews drives places table limit (length measured) words list measured (record { kept = kept; measured = 0 }) 0
 unfolding putRoot
-steps-start tree code goal crews drives places table limit words₀ words held measured z e h = record {
+steps-start tree code goal crews drives places table limit words₀ words list measured kept z e h small none = record {
   size = long;
   same = refl;
-  runs = λ road ready. starts ready words held measured (rw z at e) (h .0);
-  few = omega (arith, h .1);
+  list-size = h;
+  runs = λ road ready. starts ready words list measured kept none (rw z at e);
+  few = none-fits goal kept none small;
+  low = none-low goal kept none;
   most = omega arith;
   within = omega arith;
 }

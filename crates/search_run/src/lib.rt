@@ -1,7 +1,7 @@
 // A search: its steps up to a limit.
-use query::Query;
 use search_bounds::regions;
-use search_held::Held;
+use search_held::Asked;
+use search_held::Kept;
 use search_step::Progress;
 use tree_layout::Region;
 use tree_layout::records;
@@ -15,6 +15,7 @@ ghost use Rattle.tree.specs.Arrays.{Laid};
 ghost use Rattle.search_rules.specs.Books.{searchOf};
 ghost use Rattle.search_rules.specs.Queue.{unqueued};
 ghost use Rattle.search_rules.specs.Run.{answer};
+ghost use Rattle.search_held.specs.code.Rules.{ruleOf, countBy, Fits, Small};
 ghost use Rattle.search_bounds.specs.code.Rows.{Rows};
 ghost use Rattle.search_bounds.specs.code.Bounds.{rowsBound, Crews};
 ghost use Rattle.search_state.specs.code.State.{wordCount};
@@ -28,9 +29,9 @@ const MOST_WORDS: usize = 5629;
 // The most yards that a search measures.
 const MOST_YARDS: usize = 256;
 
-// What a search comes to: the held yards, the number of the measured ones, the steps taken, and whether it is settled.
+// What a search comes to: what it keeps, the number of the measured yards, the steps taken, and whether it is settled.
 pub struct Outcome {
-    pub held: Held,
+    pub kept: Kept,
     pub measured: usize,
     pub taken: u32,
     pub settled: bool,
@@ -68,35 +69,40 @@ fn steps(
     table: &[u32],
     drives: &[u32],
     crews: &[u16],
-    asked: Query,
+    asked: Asked,
     words: &mut [u64],
+    list: &mut [u32],
     measured: &mut [u16],
 ) -> Outcome
-    requires { ⌜ Readied (now tree) (asked .aggregate) (asked .k) (now crews) (now drives) (now places) (now table)
-        × Ended (now tree) (now ends) × (asked .k ≤ 64) × (256 ≤ length (now measured))
+    requires { ⌜ Readied (now tree) (asked .aggregate) (ruleOf (asked .rule))
+        (now crews) (now drives) (now places) (now table)
+        × Ended (now tree) (now ends) × (length (now list) ≡ 512) × (256 ≤ length (now measured))
+        × Small (ruleOf (asked .rule))
         × (now words ≡ replicate (wordCount (length (now places)) (junctionCount (now tree))) unqueued) ⌝ }
     ensures answer { λ o. ⌜ ((road : List ℕ)
-        → Ready road (now (tree .entry)) (asked .aggregate) (asked .k)
+        → Ready road (now (tree .entry)) (asked .aggregate) (ruleOf (asked .rule))
         (now (crews .entry)) (now (drives .entry)) (now (places .entry)) (now (table .entry))
-        → answerOf o
-        ≡ answer (searchOf road (now (tree .entry)) (asked .aggregate) (asked .k) (now (crews .entry)))
+        → answerOf (ruleOf (asked .rule)) (now (list .exit)) o
+        ≡ answer (searchOf road (now (tree .entry)) (asked .aggregate) (ruleOf (asked .rule)) (now (crews .entry)))
         (asked .limit)) ⌝ }
-    ensures room { λ o. ⌜ (o .held .count ≤ asked .k) × (o .measured ≤ 256) ⌝ }
+    ensures room { λ o. ⌜ Fits (ruleOf (asked .rule)) (o .kept)
+        × (countBy (ruleOf (asked .rule)) (o .kept) ≤ o .measured) × (o .measured ≤ 256) ⌝ }
 {
     queue_root(tree, places, table, crews, asked.aggregate, words);
     let h = records::header(tree);
     let queue = places.len() + h.junctions as usize;
     let mut progress = Progress {
-        held: search_held::none(),
+        kept: search_held::none(),
         measured: 0,
     };
     let mut taken: u32 = 0;
     loop {
         let p = search_queue::pick(&words[..queue]);
-        let held = progress.held;
-        if search_state::settled(words[p], held, asked.k as usize) {
+        let rule = asked.rule;
+        let kept = progress.kept;
+        if search_state::settled(words[p], kept, rule) {
             return Outcome {
-                held,
+                kept,
                 measured: progress.measured,
                 taken,
                 settled: true,
@@ -104,7 +110,7 @@ fn steps(
         }
         if taken == asked.limit {
             return Outcome {
-                held,
+                kept,
                 measured: progress.measured,
                 taken,
                 settled: false,
@@ -119,6 +125,7 @@ fn steps(
             crews,
             asked,
             words,
+            list,
             measured,
             progress,
             p,
@@ -127,7 +134,7 @@ fn steps(
     }
 }
 
-// Searches for what a query asks.
+// Searches for what is asked. The words of the yards within a drive stand in a lent array.
 pub fn run(
     tree: &[u8],
     places: &[usize],
@@ -135,17 +142,20 @@ pub fn run(
     table: &[u32],
     drives: &[u32],
     crews: &[u16],
-    asked: Query,
+    asked: Asked,
+    list: &mut [u32],
 ) -> Outcome
-    requires { ⌜ Readied (now tree) (asked .aggregate) (asked .k) (now crews) (now drives) (now places) (now table)
-        × Ended (now tree) (now ends) × (asked .k ≤ 64) ⌝ }
+    requires { ⌜ Readied (now tree) (asked .aggregate) (ruleOf (asked .rule))
+        (now crews) (now drives) (now places) (now table)
+        × Ended (now tree) (now ends) × (length (now list) ≡ 512) × Small (ruleOf (asked .rule)) ⌝ }
     ensures answer { λ o. ⌜ ((road : List ℕ)
-        → Ready road (now (tree .entry)) (asked .aggregate) (asked .k)
+        → Ready road (now (tree .entry)) (asked .aggregate) (ruleOf (asked .rule))
         (now (crews .entry)) (now (drives .entry)) (now (places .entry)) (now (table .entry))
-        → answerOf o
-        ≡ answer (searchOf road (now (tree .entry)) (asked .aggregate) (asked .k) (now (crews .entry)))
+        → answerOf (ruleOf (asked .rule)) (now (list .exit)) o
+        ≡ answer (searchOf road (now (tree .entry)) (asked .aggregate) (ruleOf (asked .rule)) (now (crews .entry)))
         (asked .limit)) ⌝ }
-    ensures room { λ o. ⌜ (o .held .count ≤ asked .k) × (o .measured ≤ 256) ⌝ }
+    ensures room { λ o. ⌜ Fits (ruleOf (asked .rule)) (o .kept)
+        × (countBy (ruleOf (asked .rule)) (o .kept) ≤ o .measured) × (o .measured ≤ 256) ⌝ }
 {
     let mut words = [search_queue::UNQUEUED; MOST_WORDS];
     let mut measured = [0u16; MOST_YARDS];
@@ -160,6 +170,7 @@ pub fn run(
         crews,
         asked,
         &mut words[..count],
+        list,
         &mut measured,
     )
 }

@@ -7,12 +7,13 @@ use native.Mathlib.Omega.{arith}
 use lib.ListN.{length, set}
 use lib.Dec.{T, eqb}
 use Rattle.book.proofs.Lists.{eq→eqb, ne→neqb}
-use Rattle.tree_layout.specs.Values.{regionAt}
+use Rattle.tree_layout.specs.Values.{Element, regionAt}
 use Rattle.tree_layout.specs.Decode.{decode, junctionCount, landmarkCount}
 use Rattle.tree.specs.Arrays.{fieldsOf}
 use Rattle.tree_layout.specs.declared.Fields.{Fields}
 use Rattle.tree.specs.Yards.{childrenOf}
 use Rattle.tree.proofs.Recursing.{children-is}
+use Rattle.search_rules.specs.Rule.{Rule}
 use Rattle.search_rules.specs.Instance.{Instance, size, children, leaf}
 use Rattle.search_rules.specs.Books.{searchOf}
 use Rattle.search_rules.specs.Bounds.{bound}
@@ -23,7 +24,6 @@ use Rattle.search_rules.proofs.Steps.{leaf-is, take-leaf, take-inner, open-inne
 use Rattle.search_rules.proofs.Steps.{children-is as children-of}
 use Rattle.search_bounds.specs.code.Bounds.{rowsBound}
 use Rattle.search_bounds.proofs.Searching.{bound-of}
-use Rattle.search_held.specs.declared.Held.{Held}
 use Rattle.search_state.specs.code.State.{regionKeysIn, yardKeysIn, firstsIn, picksIn, fsIn, boundsIn, goneIn, stateOf}
 use Rattle.search_state.proofs.Cells.{Parts, parts-of, store-key, state-by, counts-of}
 use Rattle.search_step.specs.code.Children.{keyOf, putKeys, Slots}
@@ -38,7 +38,7 @@ pub cached-by : {i : Instance} {r n : ℕ} {words keys yards firsts picks fs bou
     → Cached i picks fs bounds → Cached i (picksIn r n words) (fsIn r n words) (boundsIn r n words)
 cached-by p c = rw (p .picks-are, p .fs-are, p .bounds-are) c
 
-module _ {road tree : List ℕ} {code goal : ℕ} {crews drives places table : List ℕ} (ready : Ready road tree code goal crews drives places table) where
+module _ {road tree : List ℕ} {code : ℕ} {goal : Rule} {crews drives places table : List ℕ} (ready : Ready road tree code goal crews drives places table) where
   abbrev i : Instance
   i = searchOf road tree code goal crews
 
@@ -119,7 +119,7 @@ module _ {road tree : List ℕ} {code goal : ℕ} {crews drives places table : L
         pub inner-cached : Cached i (picksIn r n words′) (fsIn r n words′) (boundsIn r n words′)
         inner-cached = cached-by inner-parts (q .cached)
 
-        pub inner-is-taken : T (not (leaf i v)) → (held : Held) (measured : List ℕ) (count : ℕ)
+        pub inner-is-taken : T (not (leaf i v)) → (held : List Element) (measured : List ℕ) (count : ℕ)
             → stateOf r n words′ held measured count ≡ takeRegion i (stateOf r n words held measured count) v a
         inner-is-taken t held measured count =
             state-by inner-parts held measured count

@@ -10,10 +10,12 @@ use Rattle.tree_layout.specs.Decode.{junctionCount}
 use Rattle.tree_layout.specs.Reading.{element}
 use Rattle.tree.specs.Yards.{treeYards}
 use Rattle.tree.proofs.Fielding.{laid-few}
+use Rattle.search_rules.specs.Rule.{Rule}
 use Rattle.search_rules.specs.Instance.{Instance}
 use Rattle.search_rules.specs.Books.{searchOf}
 use Rattle.search_rules.specs.Queue.{unqueued, wordAt}
-use Rattle.search_rules.specs.Held.{hold, entry}
+use Rattle.search_rules.specs.Held.{entry}
+use Rattle.search_rules.specs.Keeping.{keepBy}
 use Rattle.search_rules.specs.Step.{SearchState, nextRegion, nextYard, leastKey, takeRegion, takeYard, step}
 use Rattle.search_rules.specs.Facts.{WellFormed}
 use Rattle.search_rules.proofs.Books.{accepted-of}
@@ -21,8 +23,6 @@ use Rattle.search_rules.proofs.Equations.{search-of}
 use Rattle.search_rules.proofs.Steps.{least-key-is, step-yard, step-region, take-yard-is, entry-is}
 use Rattle.search_rules.proofs.Taking.{unsettled-key, leaf-waits, measured-room}
 use Rattle.search_rules.proofs.Trees.{Accepted, tree-yards}
-use Rattle.search_held.specs.declared.Held.{Held}
-use Rattle.search_held.specs.code.Pairs.{heldOf}
 use Rattle.search_state.specs.code.State.{wordCount, regionKeysIn, yardKeysIn, firstsIn, picksIn, fsIn, boundsIn, goneIn, newest, stateOf, Unsettled}
 use Rattle.search_state.proofs.Cells.{Parts, parts-of, store-yard, state-by}
 use Rattle.search_state.proofs.Choosing.{picked-inside, picked-word, picked-region, picked-most, picked-yard, picked-less, region-low}
@@ -35,12 +35,12 @@ use Rattle.search_step.specs.code.Regions.{RegionQueued, Going, FirstLea
 use Rattle.search_step.proofs.Opening.{cached-by, regions-of, junctions-are}
 
 -- what is held after one more yard, by its distance
-pub held-by : (k d t y : ℕ) (l r : List Element) → d ≡ t → r ≡ hold k (element d y) l → r ≡ hold k (element t y) l
-held-by k d t y l r e h = rw (← e) h
+pub held-by : (rule : Rule) (d t y : ℕ) (l r : List Element) → d ≡ t → r ≡ keepBy rule (element d y) l → r ≡ keepBy rule (element t y) l
+held-by rule d t y l r e h = rw (← e) h
 
 -- ---- the numbers
 
-module _ {road tree : List ℕ} {code goal : ℕ} {crews drives places table : List ℕ} (ready : Ready road tree code goal crews drives places table) where
+module _ {road tree : List ℕ} {code : ℕ} {goal : Rule} {crews drives places table : List ℕ} (ready : Ready road tree code goal crews drives places table) where
   pub some-region : 0 < length places
   some-region = omega (arith, ready .laid .layout .regions .0, ready .laid .count)
 
@@ -60,7 +60,7 @@ pub record Picked (tree places words : List ℕ) (p : ℕ) : Type 0 where
   pub below : p < length places + junctionCount tree
   pub small : p < 1535
 
-module _ {tree : List ℕ} {code goal : ℕ} {crews drives places table : List ℕ} (readied : Readied tree code goal crews drives places table) where
+module _ {tree : List ℕ} {code : ℕ} {goal : Rule} {crews drives places table : List ℕ} (readied : Readied tree code goal crews drives places table) where
   abbrev rd : Ready (readied .road) tree code goal crews drives places table
   rd = readied .ready
 
@@ -86,8 +86,8 @@ module _ {tree : List ℕ} {code goal : ℕ} {crews drives places table : List �
 
 -- ---- what the step does
 
-module _ {road tree : List ℕ} {code goal : ℕ} {crews drives places table : List ℕ} (ready : Ready road tree code goal crews drives places table)
-    (words : List ℕ) (held : Held) (measured : List ℕ) (count : ℕ) where
+module _ {road tree : List ℕ} {code : ℕ} {goal : Rule} {crews drives places table : List ℕ} (ready : Ready road tree code goal crews drives places table)
+    (words : List ℕ) (held : List Element) (measured : List ℕ) (count : ℕ) where
   abbrev i : Instance
   i = searchOf road tree code goal crews
 
@@ -135,7 +135,7 @@ module _ {road tree : List ℕ} {code goal : ℕ} {crews drives places table : L
       }
 
       pub region-is-taken : (words′ : List ℕ)
-          → ((x : Held) (m : List ℕ) (c : ℕ) → stateOf r n words′ x m c ≡ takeRegion i (stateOf r n words x m c) p (getD words p 0))
+          → ((x : List Element) (m : List ℕ) (c : ℕ) → stateOf r n words′ x m c ≡ takeRegion i (stateOf r n words x m c) p (getD words p 0))
           → stateOf r n words′ held measured count ≡ step i st
       region-is-taken words′ t = t held measured count ∙ sym (step-region i st p (nextYard i st) (getD words p 0) (wordAt (st .yardKeys) (nextYard i st))
           next-region refl key refl (omega (arith, most, key, ap (wordAt (st .regionKeys)) next-region)) low)
@@ -183,9 +183,9 @@ module _ {road tree : List ℕ} {code goal : ℕ} {crews drives places table : L
       pub yard-cached : Cached i (picksIn r n (set words p unqueued)) (fsIn r n (set words p unqueued)) (boundsIn r n (set words p unqueued))
       yard-cached = cached-by yard-parts (g .cached)
 
-      pub yard-is-taken : (measured′ : List ℕ) (held′ : Held) (count′ : ℕ) → count′ ≡ count + 1
+      pub yard-is-taken : (measured′ : List ℕ) (held′ : List Element) (count′ : ℕ) → count′ ≡ count + 1
           → newest measured′ (count + 1) ≡ (p - r) ∷ newest measured count
-          → heldOf held′ ≡ hold goal (element (totalOf road code crews (p - r)) (p - r)) (heldOf held)
+          → held′ ≡ keepBy goal (element (totalOf road code crews (p - r)) (p - r)) held
           → stateOf r n (set words p unqueued) held′ measured′ count′ ≡ step i st
       unfolding y
       yard-is-taken measured′ held′ count′ c q t =
@@ -193,8 +193,8 @@ module _ {road tree : List ℕ} {code goal : ℕ} {crews drives places table : L
           ∙ (rw (c, q, holds) refl
           ∙ sym (yard-step ∙ (ap (λ (x : SearchState). takeYard i x y) (state-by (parts-of r n words) held measured count) ∙ take-yard-is i _ y)))
         where
-          holds : heldOf held′ ≡ hold (i .k) (entry i y) (heldOf held)
+          holds : held′ ≡ keepBy (i .rule) (entry i y) held
           holds =
-              t ∙ (ap (λ (d : ℕ). hold goal (element d y) (heldOf held)) (total-of road tree code goal crews y)
-              ∙ (ap (λ (x : Element). hold goal x (heldOf held)) (sym (entry-is i y))
-              ∙ ap (λ (k : ℕ). hold k (entry i y) (heldOf held)) (sym (ap (λ (z : Instance). z .k) (search-of road tree code goal crews)))))
+              t ∙ (ap (λ (d : ℕ). keepBy goal (element d y) held) (total-of road tree code goal crews y)
+              ∙ (ap (λ (x : Element). keepBy goal x held) (sym (entry-is i y))
+              ∙ ap (λ (k : Rule). keepBy k (entry i y) held) (sym (ap (λ (z : Instance). z .rule) (search-of road tree code goal crews)))))

@@ -4,8 +4,8 @@ mod measuring; // measuring.rt: a yard is taken
 mod regions; // regions.rt: a region is taken
 
 use book::Junction;
-use query::Query;
-use search_held::Held;
+use search_held::Asked;
+use search_held::Kept;
 use tree_layout::Region;
 ghost use mathlib.Core.Path.{_≡_};
 ghost use mathlib.Core.List.{List};
@@ -14,14 +14,15 @@ ghost use lib.ListN.{length};
 ghost use Rattle.tree_layout.specs.Decode.{junctionCount};
 ghost use Rattle.search_rules.specs.Books.{searchOf};
 ghost use Rattle.search_rules.specs.Step.{step};
+ghost use Rattle.search_held.specs.code.Rules.{ruleOf, heldBy, countBy, Fits};
 ghost use Rattle.search_state.specs.code.State.{wordCount, picksIn, fsIn, boundsIn, stateOf};
 ghost use Rattle.search_step.specs.code.Children.{Ended};
 ghost use Rattle.search_leaf.specs.code.Ready.{Ready, Readied, Cached};
 ghost use Rattle.search_step.specs.code.Regions.{Going, FirstLeast};
 
-// What a search has come to beside its words: the held yards, and the number of the measured ones.
+// What a search has come to beside its words: what it keeps, and the number of the measured yards.
 pub struct Progress {
-    pub held: Held,
+    pub kept: Kept,
     pub measured: usize,
 }
 
@@ -33,40 +34,46 @@ pub fn step(
     table: &[u32],
     drives: &[u32],
     crews: &[u16],
-    asked: Query,
+    asked: Asked,
     words: &mut [u64],
+    list: &mut [u32],
     measured: &mut [u16],
     progress: Progress,
     p: usize,
 ) -> Progress
-    requires { ⌜ Readied (now tree) (asked .aggregate) (asked .k) (now crews) (now drives) (now places) (now table)
+    requires { ⌜ Readied (now tree) (asked .aggregate) (ruleOf (asked .rule))
+        (now crews) (now drives) (now places) (now table)
         × Ended (now tree) (now ends)
         × ((road : List ℕ)
-        → Ready road (now tree) (asked .aggregate) (asked .k) (now crews) (now drives) (now places) (now table)
-        → Going (searchOf road (now tree) (asked .aggregate) (asked .k) (now crews))
+        → Ready road (now tree) (asked .aggregate) (ruleOf (asked .rule))
+        (now crews) (now drives) (now places) (now table)
+        → Going (searchOf road (now tree) (asked .aggregate) (ruleOf (asked .rule)) (now crews))
         (length (now places)) (junctionCount (now tree)) (now words)
         (stateOf (length (now places)) (junctionCount (now tree)) (now words)
-        (progress .held) (now measured) (progress .measured)))
+        (heldBy (ruleOf (asked .rule)) (progress .kept) (now list)) (now measured) (progress .measured)))
         × (length (now words) ≡ wordCount (length (now places)) (junctionCount (now tree)))
         × FirstLeast (length (now places)) (junctionCount (now tree)) (now words) p
         × (256 ≤ length (now measured)) × (progress .measured ≤ 256)
-        × (progress .held .count ≤ asked .k) × (asked .k ≤ 64) ⌝ }
+        × Fits (ruleOf (asked .rule)) (progress .kept)
+        × (countBy (ruleOf (asked .rule)) (progress .kept) ≤ progress .measured) × (length (now list) ≡ 512) ⌝ }
     ensures cached { λ _. ⌜ ((road : List ℕ)
-        → Ready road (now (tree .entry)) (asked .aggregate) (asked .k)
+        → Ready road (now (tree .entry)) (asked .aggregate) (ruleOf (asked .rule))
         (now (crews .entry)) (now (drives .entry)) (now (places .entry)) (now (table .entry))
-        → Cached (searchOf road (now (tree .entry)) (asked .aggregate) (asked .k) (now (crews .entry)))
+        → Cached (searchOf road (now (tree .entry)) (asked .aggregate) (ruleOf (asked .rule)) (now (crews .entry)))
         (picksIn (length (now (places .entry))) (junctionCount (now (tree .entry))) (now (words .exit)))
         (fsIn (length (now (places .entry))) (junctionCount (now (tree .entry))) (now (words .exit)))
         (boundsIn (length (now (places .entry))) (junctionCount (now (tree .entry))) (now (words .exit)))) ⌝ }
     ensures state { λ o. ⌜ ((road : List ℕ)
-        → Ready road (now (tree .entry)) (asked .aggregate) (asked .k)
+        → Ready road (now (tree .entry)) (asked .aggregate) (ruleOf (asked .rule))
         (now (crews .entry)) (now (drives .entry)) (now (places .entry)) (now (table .entry))
         → stateOf (length (now (places .entry))) (junctionCount (now (tree .entry))) (now (words .exit))
-        (o .held) (now (measured .exit)) (o .measured)
-        ≡ step (searchOf road (now (tree .entry)) (asked .aggregate) (asked .k) (now (crews .entry)))
+        (heldBy (ruleOf (asked .rule)) (o .kept) (now (list .exit))) (now (measured .exit)) (o .measured)
+        ≡ step (searchOf road (now (tree .entry)) (asked .aggregate) (ruleOf (asked .rule)) (now (crews .entry)))
         (stateOf (length (now (places .entry))) (junctionCount (now (tree .entry))) (now (words .entry))
-        (progress .held) (now (measured .entry)) (progress .measured))) ⌝ }
-    ensures room { λ o. ⌜ (o .held .count ≤ asked .k) × (o .measured ≤ 256) ⌝ }
+        (heldBy (ruleOf (asked .rule)) (progress .kept) (now (list .entry)))
+        (now (measured .entry)) (progress .measured))) ⌝ }
+    ensures room { λ o. ⌜ Fits (ruleOf (asked .rule)) (o .kept)
+        × (countBy (ruleOf (asked .rule)) (o .kept) ≤ o .measured) × (o .measured ≤ 256) ⌝ }
 {
     let r = places.len();
     if p < r {
@@ -90,5 +97,5 @@ pub fn step(
     let yard = Junction {
         number: (p - r) as u16,
     };
-    measuring::take(drives, crews, asked, measured, progress, yard)
+    measuring::take(drives, crews, asked, list, measured, progress, yard)
 }

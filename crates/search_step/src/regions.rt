@@ -1,6 +1,6 @@
 // A region is taken: a leaf queues its next yard and itself, an inner region its children.
 use crate::inner;
-use query::Query;
+use search_held::Asked;
 use tree_layout::Region;
 ghost use mathlib.Core.Path.{_≡_};
 ghost use mathlib.Core.List.{List};
@@ -9,7 +9,8 @@ ghost use lib.ListN.{length};
 ghost use Rattle.tree_layout.specs.Decode.{junctionCount};
 ghost use Rattle.search_rules.specs.Books.{searchOf};
 ghost use Rattle.search_rules.specs.Step.{takeRegion};
-ghost use Rattle.search_held.specs.declared.Held.{Held};
+ghost use Rattle.tree_layout.specs.Values.{Element};
+ghost use Rattle.search_held.specs.code.Rules.{ruleOf};
 ghost use Rattle.search_state.specs.code.State.{picksIn, fsIn, boundsIn, stateOf};
 ghost use Rattle.search_step.specs.code.Children.{Ended};
 ghost use Rattle.search_leaf.specs.code.Ready.{Ready, Readied, Cached};
@@ -23,31 +24,33 @@ pub fn take(
     table: &[u32],
     drives: &[u32],
     crews: &[u16],
-    asked: Query,
+    asked: Asked,
     words: &mut [u64],
     r: Region,
     a: u64,
 )
-    requires { ⌜ Readied (now tree) (asked .aggregate) (asked .k) (now crews) (now drives) (now places) (now table)
+    requires { ⌜ Readied (now tree) (asked .aggregate) (ruleOf (asked .rule))
+        (now crews) (now drives) (now places) (now table)
         × Ended (now tree) (now ends)
         × ((road : List ℕ)
-        → Ready road (now tree) (asked .aggregate) (asked .k) (now crews) (now drives) (now places) (now table)
-        → RegionQueued (searchOf road (now tree) (asked .aggregate) (asked .k) (now crews))
+        → Ready road (now tree) (asked .aggregate) (ruleOf (asked .rule))
+        (now crews) (now drives) (now places) (now table)
+        → RegionQueued (searchOf road (now tree) (asked .aggregate) (ruleOf (asked .rule)) (now crews))
         (length (now places)) (junctionCount (now tree)) (now words) (r .number)) ⌝ }
     ensures cached { λ _. ⌜ ((road : List ℕ)
-        → Ready road (now (tree .entry)) (asked .aggregate) (asked .k)
+        → Ready road (now (tree .entry)) (asked .aggregate) (ruleOf (asked .rule))
         (now (crews .entry)) (now (drives .entry)) (now (places .entry)) (now (table .entry))
-        → Cached (searchOf road (now (tree .entry)) (asked .aggregate) (asked .k) (now (crews .entry)))
+        → Cached (searchOf road (now (tree .entry)) (asked .aggregate) (ruleOf (asked .rule)) (now (crews .entry)))
         (picksIn (length (now (places .entry))) (junctionCount (now (tree .entry))) (now (words .exit)))
         (fsIn (length (now (places .entry))) (junctionCount (now (tree .entry))) (now (words .exit)))
         (boundsIn (length (now (places .entry))) (junctionCount (now (tree .entry))) (now (words .exit)))) ⌝ }
     ensures state { λ _. ⌜ ((road : List ℕ)
-        → Ready road (now (tree .entry)) (asked .aggregate) (asked .k)
+        → Ready road (now (tree .entry)) (asked .aggregate) (ruleOf (asked .rule))
         (now (crews .entry)) (now (drives .entry)) (now (places .entry)) (now (table .entry))
-        → (held : Held) (measured : List ℕ) (count : ℕ)
+        → (held : List Element) (measured : List ℕ) (count : ℕ)
         → stateOf (length (now (places .entry))) (junctionCount (now (tree .entry))) (now (words .exit))
         held measured count
-        ≡ takeRegion (searchOf road (now (tree .entry)) (asked .aggregate) (asked .k) (now (crews .entry)))
+        ≡ takeRegion (searchOf road (now (tree .entry)) (asked .aggregate) (ruleOf (asked .rule)) (now (crews .entry)))
         (stateOf (length (now (places .entry))) (junctionCount (now (tree .entry))) (now (words .entry))
         held measured count) (r .number) a) ⌝ }
 {

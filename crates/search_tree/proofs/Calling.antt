@@ -3,6 +3,7 @@ use mathlib.Core.Path.{_≡_, sym, ap, _∙_}
 use mathlib.Core.Logic.{_⊎_, inl, inr}
 use mathlib.Core.Bool.{not}
 use mathlib.Core.List.{List}
+use mathlib.Core.Option.{Option}
 use Prim.Native.Nat.{ℕ}
 use native.Mathlib.Omega.{arith}
 use lib.ListN.{length}
@@ -12,21 +13,27 @@ use Rattle.work_area.specs.Work.{workWords, zeroed, workAfter}
 use Rattle.work_area.proofs.Zeroing.{accepted-zeroed, refused-kept}
 use Rattle.adjacency.specs.Adjacency.{countIn}
 use Rattle.road_layout.specs.Road.{junctions}
-use Rattle.query.specs.Query.{queryRefusal, queryOf, queryBook, queryNumber}
+use Rattle.query.specs.Query.{kOf, queryRefusal, queryOf, queryBook, queryNumber}
 use Rattle.query.specs.declared.Query.{Query}
 use Rattle.query.specs.declared.QueryBook.{QueryBook}
 use Rattle.query.specs.declared.QueryBook.the-variants.{Asked, Refused}
 use Rattle.query.proofs.Reading.{read-asked, read-refused, number-is, its-k}
-use Rattle.search_call.specs.Call.{Found, refused, accepted, treeRefusalIn, areasRefusal, searchRefusal, searchAnswer, searchFound, resultsAfter}
-use Rattle.search_call.specs.code.Accepted.{AcceptedSearch}
+use Rattle.tree_layout.specs.Decode.{treeYardCount}
+use Rattle.tree_layout.specs.Reading.{headerOf}
+use Rattle.tree_layout.specs.declared.Header.{Header}
+use Rattle.tree_layout.proofs.Accessing.{its-yards}
+use Rattle.search_rules.specs.Rule.{Rule}
+use Rattle.search_rules.specs.Run.{Answer}
+use Rattle.search_call.specs.Call.{ruleBy, mostBy, Found, refused, accepted, treeRefusalIn, areasRefusal, searchRefusal, searchAnswer, searchFound, resultsAfter}
 use Rattle.search_call.proofs.Refusing.{counts-agree, by-query, by-areas}
 use Rattle.search_call.proofs.Calls.{tests, found-accepted, found-refused, settled-writes, spent-keeps, refused-keeps}
 use Rattle.search_tree.specs.code.District.{District}
+use Rattle.search_tree.specs.code.Asking.{AcceptedBy, answerBy}
 use Rattle.search_tree.specs.Found.{writtenBy}
 
 -- ---- a query's tests over a district
 
-module _ {road tree adj places ends : List ℕ} (d : District road tree adj places ends) (query : List ℕ) (work results : ℕ) (n : ℕ) (count : n ≡ countIn adj)
+module _ {road tree adj places ends : List ℕ} (d : District road tree adj places ends) (query : List ℕ) (drive : Option ℕ) (work results : ℕ) (n : ℕ) (count : n ≡ countIn adj)
     (b : QueryBook) (e : b ≡ queryBook (queryRefusal query n) (queryOf query)) where
   n-is : n ≡ junctions road
   n-is = count ∙ d .adjacent .count
@@ -38,12 +45,12 @@ module _ {road tree adj places ends : List ℕ} (d : District road tree adj plac
   on-query = e ∙ ap (λ (x : ℕ). queryBook (queryRefusal query x) (queryOf query)) n-is
 
   -- its own turn it back
-  pub query-back : (why s : ℕ) → b ≡ Refused why → s ≡ queryNumber b → (s ≡ searchRefusal road tree query work results) × (s ≡ 0 → ⊥)
+  pub query-back : (why s : ℕ) → b ≡ Refused why → s ≡ queryNumber b → (s ≡ searchRefusal road tree query drive work results) × (s ≡ 0 → ⊥)
   query-back why s p h =
       let x = read-refused (queryRefusal query (junctions road)) (queryOf query) why (sym on-query ∙ p) in
       let q : s ≡ queryRefusal query (junctions road) =
       h ∙ ap queryNumber on-query ∙ number-is (queryRefusal query (junctions road)) (queryOf query) in
-      (q ∙ sym (by-query road tree query work results (d .roads) tree-none (omega (arith, x .0, x .1))), λ z. omega (arith, q, x .0, x .1))
+      (q ∙ sym (by-query road tree query drive work results (d .roads) tree-none (omega (arith, x .0, x .1))), λ z. omega (arith, q, x .0, x .1))
 
   module _ (asked : Query) (p : b ≡ Asked asked) where
     found : (queryRefusal query (junctions road) ≡ 0) × (queryOf query ≡ asked)
@@ -53,47 +60,63 @@ module _ {road tree adj places ends : List ℕ} (d : District road tree adj plac
     asked-of = sym (found .1)
 
     -- the areas' are left
-    pub areas-last : (s : ℕ) → s ≡ areasRefusal (asked .k) work results → s ≡ searchRefusal road tree query work results
-    areas-last s h =
-        h ∙ ap (λ (k : ℕ). areasRefusal k work results) (its-k query asked asked-of)
-        ∙ sym (by-areas road tree query work results (d .roads) tree-none (found .0))
+    pub areas-last : (m s : ℕ) → m ≡ mostBy (asked .k) (treeYardCount tree) drive → s ≡ areasRefusal m work results → s ≡ searchRefusal road tree query drive work results
+    areas-last m s l h =
+        h ∙ ap (λ (x : ℕ). areasRefusal x work results) (l ∙ ap (λ (k : ℕ). mostBy k (treeYardCount tree) drive) (its-k query asked asked-of))
+        ∙ sym (by-areas road tree query drive work results (d .roads) tree-none (found .0))
+
+-- how many yards the result area must hold, by the tree book's header
+pub most-of : (tree : List ℕ) (h : Header) (k m : ℕ) (drive : Option ℕ) → h ≡ headerOf tree → m ≡ mostBy k (h .yards) drive
+    → m ≡ mostBy k (treeYardCount tree) drive
+most-of tree h k m drive e l = l ∙ ap (λ (y : ℕ). mostBy k y drive) (its-yards tree h e)
 
 -- ---- the call
 
-module _ (road tree query : List ℕ) (work results : List ℕ) (why : ℕ) where
+module _ (road tree query : List ℕ) (drive : Option ℕ) (work results : List ℕ) (why : ℕ) where
   -- that is turned back
-  module _ (b : (why ≡ searchRefusal road tree query (length work) (length results)) × (why ≡ 0 → ⊥)) where
-    turned : searchRefusal road tree query (length work) (length results) ≡ 0 → ⊥
+  module _ (b : (why ≡ searchRefusal road tree query drive (length work) (length results)) × (why ≡ 0 → ⊥)) where
+    turned : searchRefusal road tree query drive (length work) (length results) ≡ 0 → ⊥
     turned z = b .1 (b .0 ∙ z)
 
-    pub turned-found : (f : Found) → f ≡ refused why → f ≡ searchFound road tree query (length work) (length results)
-    turned-found f g = g ∙ ap refused (b .0) ∙ sym (found-refused road tree query (length work) (length results) turned)
+    pub turned-found : (f : Found) → f ≡ refused why → f ≡ searchFound road tree query drive (length work) (length results)
+    turned-found f g = g ∙ ap refused (b .0) ∙ sym (found-refused road tree query drive (length work) (length results) turned)
 
-    pub turned-work : work ≡ workAfter (searchRefusal road tree query (length work) (length results)) work
-    turned-work = sym (refused-kept (searchRefusal road tree query (length work) (length results)) work turned)
+    pub turned-work : work ≡ workAfter (searchRefusal road tree query drive (length work) (length results)) work
+    turned-work = sym (refused-kept (searchRefusal road tree query drive (length work) (length results)) work turned)
 
-    pub turned-results : results ≡ resultsAfter road tree query (length work) results
-    turned-results = sym (refused-keeps road tree query (length work) results turned)
+    pub turned-results : results ≡ resultsAfter road tree query drive (length work) results
+    turned-results = sym (refused-keeps road tree query drive (length work) results turned)
 
   -- that is accepted
-  module _ (e : why ≡ searchRefusal road tree query (length work) (length results)) (z : why ≡ 0) where
-    none : searchRefusal road tree query (length work) (length results) ≡ 0
+  module _ (e : why ≡ searchRefusal road tree query drive (length work) (length results)) (z : why ≡ 0) where
+    none : searchRefusal road tree query drive (length work) (length results) ≡ 0
     none = sym e ∙ z
 
-    pub taken-facts : AcceptedSearch road tree query (length work) (length results)
-    taken-facts = tests road tree query (length work) (length results) none
+    pub taken-facts : (k : ℕ) (rule : Rule) → k ≡ kOf query → rule ≡ ruleBy k drive → AcceptedBy road tree query rule (length work) (length results)
+    taken-facts k rule l r = record {
+      drive = drive;
+      is = r ∙ ap (λ (x : ℕ). ruleBy x drive) l;
+      accepted = tests road tree query drive (length work) (length results) none;
+    }
 
-    pub taken-found : (f : Found) → f ≡ accepted (searchAnswer road tree query) → f ≡ searchFound road tree query (length work) (length results)
-    taken-found f g = g ∙ sym (found-accepted road tree query (length work) (length results) none)
+    -- the rule's answer is the call's
+    rule-answer : (k : ℕ) (rule : Rule) → k ≡ kOf query → rule ≡ ruleBy k drive → answerBy road tree query rule ≡ searchAnswer road tree query drive
+    rule-answer k rule l r = ap (λ (x : Rule). answerBy road tree query x) (r ∙ ap (λ (x : ℕ). ruleBy x drive) l)
 
-    pub taken-work : (out : List ℕ) → out ≡ zeroed workWords work → out ≡ workAfter (searchRefusal road tree query (length work) (length results)) work
-    taken-work out g = g ∙ sym (accepted-zeroed (searchRefusal road tree query (length work) (length results)) work none)
+    pub taken-found : (k : ℕ) (rule : Rule) → k ≡ kOf query → rule ≡ ruleBy k drive → (f : Found) → f ≡ accepted (answerBy road tree query rule) → f ≡ searchFound road tree query drive (length work) (length results)
+    taken-found k rule l r f g = g ∙ ap accepted (rule-answer k rule l r) ∙ sym (found-accepted road tree query drive (length work) (length results) none)
 
-    pub taken-results : (out : List ℕ) → out ≡ writtenBy (searchAnswer road tree query) results → out ≡ resultsAfter road tree query (length work) results
+    pub taken-work : (out : List ℕ) → out ≡ zeroed workWords work → out ≡ workAfter (searchRefusal road tree query drive (length work) (length results)) work
+    taken-work out g = g ∙ sym (accepted-zeroed (searchRefusal road tree query drive (length work) (length results)) work none)
+
+    pub taken-results : (k : ℕ) (rule : Rule) → k ≡ kOf query → rule ≡ ruleBy k drive → (out : List ℕ) → out ≡ writtenBy (answerBy road tree query rule) results → out ≡ resultsAfter road tree query drive (length work) results
     unfolding writtenBy
-    taken-results out g = go (T-split (searchAnswer road tree query .settled))
+    taken-results k rule l r out f = go (T-split (searchAnswer road tree query drive .settled))
       where
-        go : T (searchAnswer road tree query .settled) ⊎ T (not (searchAnswer road tree query .settled))
-            → out ≡ resultsAfter road tree query (length work) results
-        go (inl t) = g ∙ choose-yes (searchAnswer road tree query .settled) _ results t ∙ sym (settled-writes road tree query (length work) results none t)
-        go (inr t) = g ∙ choose-no (searchAnswer road tree query .settled) _ results t ∙ sym (spent-keeps road tree query (length work) results none t)
+        g : out ≡ writtenBy (searchAnswer road tree query drive) results
+        g = f ∙ ap (λ (x : Answer). writtenBy x results) (rule-answer k rule l r)
+
+        go : T (searchAnswer road tree query drive .settled) ⊎ T (not (searchAnswer road tree query drive .settled))
+            → out ≡ resultsAfter road tree query drive (length work) results
+        go (inl t) = g ∙ choose-yes (searchAnswer road tree query drive .settled) _ results t ∙ sym (settled-writes road tree query drive (length work) results none t)
+        go (inr t) = g ∙ choose-no (searchAnswer road tree query drive .settled) _ results t ∙ sym (spent-keeps road tree query drive (length work) results none t)

@@ -9,8 +9,9 @@ use Rattle.book.specs.Writing.{write}
 use Rattle.book.proofs.Choosing.{choose-yes, choose-no, true-T, false-T}
 use Rattle.tree_layout.specs.Values.{Element}
 use Rattle.search_rules.specs.Run.{Answer, words}
-use Rattle.search_held.specs.code.Pairs.{heldOf}
-use Rattle.search_held.proofs.Pairing.{held-length}
+use Rattle.search_rules.specs.Rule.{Rule}
+use Rattle.search_held.specs.code.Rules.{heldBy, countBy}
+use Rattle.search_held.proofs.Ruling.{count-length}
 use Rattle.search_run.specs.declared.Outcome.{Outcome}
 use Rattle.search_run.specs.code.Answers.{answerOf}
 use Rattle.search_call.specs.Call.{Found, accepted}
@@ -24,33 +25,37 @@ same-found s l t m s′ l′ t′ m′ e f g h = rw (e, f, g, h) refl
 
 -- ---- of an outcome
 
-module _ (o : Outcome) where
+module _ (rule : Rule) (list : List ℕ) (o : Outcome) where
+  pub measured-of : answerOf rule list o .measured ≡ o .measured
+  unfolding answerOf
+  measured-of = refl
+
   pub spent-found : (m : ℕ) → o .settled ≡ false → m ≡ o .measured
-      → foundOf (record { refusal = 0; settled = 0; listed = 0; taken = o .taken; measured = m }) ≡ accepted (answerOf o)
+      → foundOf (record { refusal = 0; settled = 0; listed = 0; taken = o .taken; measured = m }) ≡ accepted (answerOf rule list o)
   unfolding foundOf answerOf
   spent-found m z e =
       let t : T (not (o .settled)) = false-T z in
-      same-found 0 0 (o .taken) m _ _ _ _ (sym (choose-no (o .settled) 1 0 t)) (sym (ap length (choose-no (o .settled) (heldOf (o .held)) [] t))) refl e
-      ∙ sym (accepted-is (answerOf o))
+      same-found 0 0 (o .taken) m _ _ _ _ (sym (choose-no (o .settled) 1 0 t)) (sym (ap length (choose-no (o .settled) (heldBy rule (o .kept) list) [] t))) refl e
+      ∙ sym (accepted-is (answerOf rule list o))
 
-  pub settled-found : (n m : ℕ) → o .settled ≡ true → n ≡ o .held .count → m ≡ o .measured
-      → foundOf (record { refusal = 0; settled = 1; listed = n; taken = o .taken; measured = m }) ≡ accepted (answerOf o)
+  pub settled-found : (n m : ℕ) → o .settled ≡ true → n ≡ countBy rule (o .kept) → m ≡ o .measured
+      → foundOf (record { refusal = 0; settled = 1; listed = n; taken = o .taken; measured = m }) ≡ accepted (answerOf rule list o)
   unfolding foundOf answerOf
   settled-found n m z f e =
       let t : T (o .settled) = true-T z in
       same-found 1 n (o .taken) m _ _ _ _ (sym (choose-yes (o .settled) 1 0 t))
-      (f ∙ sym (ap length (choose-yes (o .settled) (heldOf (o .held)) [] t) ∙ held-length (o .held))) refl e
-      ∙ sym (accepted-is (answerOf o))
+      (f ∙ sym (ap length (choose-yes (o .settled) (heldBy rule (o .kept) list) [] t) ∙ count-length rule (o .kept) list)) refl e
+      ∙ sym (accepted-is (answerOf rule list o))
 
-  pub spent-written : (results : List ℕ) → o .settled ≡ false → results ≡ writtenBy (answerOf o) results
+  pub spent-written : (results : List ℕ) → o .settled ≡ false → results ≡ writtenBy (answerOf rule list o) results
   unfolding writtenBy answerOf
   spent-written results z = sym (choose-no (o .settled) _ results (false-T z))
 
-  pub settled-written : (results out : List ℕ) → o .settled ≡ true → out ≡ write results 0 (words (heldOf (o .held))) → out ≡ writtenBy (answerOf o) results
+  pub settled-written : (results out : List ℕ) → o .settled ≡ true → out ≡ write results 0 (words (heldBy rule (o .kept) list)) → out ≡ writtenBy (answerOf rule list o) results
   unfolding writtenBy answerOf
   settled-written results out z e =
       let t : T (o .settled) = true-T z in
-      e ∙ ap (λ (l : List Element). write results 0 (words l)) (sym (choose-yes (o .settled) (heldOf (o .held)) [] t))
+      e ∙ ap (λ (l : List Element). write results 0 (words l)) (sym (choose-yes (o .settled) (heldBy rule (o .kept) list) [] t))
       ∙ sym (choose-yes (o .settled) _ results t)
 
 -- what is reported of them

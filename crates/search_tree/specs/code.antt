@@ -1,1 +1,2 @@
 pub mod District
+pub mod Asking

@@ -2,6 +2,8 @@
 use crate::Found;
 use query::Query;
 use search_bounds::table;
+use search_held::Asked;
+use search_held::Rule;
 use search_run::Outcome;
 ghost use mathlib.Core.Path.{_≡_};
 ghost use mathlib.Core.List.{List};
@@ -10,8 +12,9 @@ ghost use lib.ListN.{length};
 ghost use Rattle.work_area.specs.Work.{workWords, zeroed};
 ghost use Rattle.query.specs.Query.{queryOf};
 ghost use Rattle.search_run.specs.code.Answers.{answerOf};
-ghost use Rattle.search_call.specs.Call.{accepted, searchAnswer};
-ghost use Rattle.search_call.specs.code.Accepted.{AcceptedSearch};
+ghost use Rattle.search_held.specs.code.Rules.{ruleOf, countBy, Fits};
+ghost use Rattle.search_call.specs.Call.{accepted};
+ghost use Rattle.search_tree.specs.code.Asking.{AcceptedBy, answerBy};
 ghost use Rattle.search_tree.specs.code.District.{District, IsDistrict};
 ghost use Rattle.search_tree.specs.Found.{foundOf, writtenBy};
 
@@ -19,10 +22,12 @@ ghost use Rattle.search_tree.specs.Found.{foundOf, writtenBy};
 const CREWS: usize = 16;
 
 // "Settled writes (yard, distance) words into the result area and nothing after them; spent writes nothing there."
-fn report(o: Outcome, results: &mut [u32]) -> Found
-    requires { ⌜ (o .held .count ≤ 64) × (2 * o .held .count ≤ length (now results)) × (o .measured ≤ 256) ⌝ }
-    ensures found { λ r. ⌜ foundOf r ≡ accepted (answerOf o) ⌝ }
-    ensures results { λ _. ⌜ now (results .exit) ≡ writtenBy (answerOf o) (now (results .entry)) ⌝ }
+fn report(list: &[u32], rule: Rule, o: Outcome, results: &mut [u32]) -> Found
+    requires { ⌜ Fits (ruleOf rule) (o .kept) × (countBy (ruleOf rule) (o .kept) ≤ 256) × (length (now list) ≡ 512)
+        × (2 * countBy (ruleOf rule) (o .kept) ≤ length (now results)) × (o .measured ≤ 256) ⌝ }
+    ensures found { λ r. ⌜ foundOf r ≡ accepted (answerOf (ruleOf rule) (now (list .entry)) o) ⌝ }
+    ensures results { λ _. ⌜ now (results .exit)
+        ≡ writtenBy (answerOf (ruleOf rule) (now (list .entry)) o) (now (results .entry)) ⌝ }
 {
     let measured = o.measured as u32;
     let settled = o.settled;
@@ -35,12 +40,13 @@ fn report(o: Outcome, results: &mut [u32]) -> Found
             measured,
         };
     }
-    let held = o.held;
-    search_held::write_words(held, results);
+    let kept = o.kept;
+    search_held::write_words(kept, list, rule, results);
+    let listed = search_held::count(kept, rule) as u32;
     Found {
         refusal: 0,
         settled: 1,
-        listed: held.count as u32,
+        listed,
         taken: o.taken,
         measured,
     }
@@ -54,20 +60,22 @@ pub fn search(
     ends: &[usize],
     query: &[u8],
     asked: Query,
+    rule: Rule,
     work: &mut [u32],
     results: &mut [u32],
 ) -> Found
     requires { ⌜ IsDistrict (now tree) (now adj) (now places) (now ends) × (asked ≡ queryOf (now query))
         × ((road : List ℕ) → District road (now tree) (now adj) (now places) (now ends)
-        → AcceptedSearch road (now tree) (now query) (length (now work)) (length (now results))) ⌝ }
+        → AcceptedBy road (now tree) (now query) (ruleOf rule) (length (now work)) (length (now results))) ⌝ }
     ensures found { λ r. ⌜ ((road : List ℕ)
         → District road (now (tree .entry)) (now (adj .entry)) (now (places .entry)) (now (ends .entry))
-        → foundOf r ≡ accepted (searchAnswer road (now (tree .entry)) (now (query .entry)))) ⌝ }
+        → foundOf r ≡ accepted (answerBy road (now (tree .entry)) (now (query .entry)) (ruleOf rule))) ⌝ }
     ensures work { λ _. ⌜ now (work .exit) ≡ zeroed workWords (now (work .entry)) ⌝ }
     ensures results { λ _. ⌜ ((road : List ℕ)
         → District road (now (tree .entry)) (now (adj .entry)) (now (places .entry)) (now (ends .entry))
         → now (results .exit)
-        ≡ writtenBy (searchAnswer road (now (tree .entry)) (now (query .entry))) (now (results .entry))) ⌝ }
+        ≡ writtenBy (answerBy road (now (tree .entry)) (now (query .entry)) (ruleOf rule))
+        (now (results .entry))) ⌝ }
 {
     let mut crews = [0u16; CREWS];
     query::crews(query, &mut crews);
@@ -80,6 +88,7 @@ pub fn search(
         &mut table,
         &mut work[..work_area::WORDS],
     );
+    let mut list = [0u32; search_held::WORDS];
     let o = search_run::run(
         tree,
         places,
@@ -87,8 +96,13 @@ pub fn search(
         &table,
         &work[..work_area::WORDS],
         &crews[..q],
-        asked,
+        Asked {
+            aggregate: asked.aggregate,
+            limit: asked.limit,
+            rule,
+        },
+        &mut list,
     );
     work_area::zero_words(work);
-    report(o, results)
+    report(&list, rule, o, results)
 }

@@ -8,7 +8,13 @@ ghost use mathlib.Core.Path.{_≡_};
 ghost use lib.ListN.{length};
 ghost use Rattle.work_area.specs.Work.{workAfter};
 ghost use Rattle.search_call.specs.Call.{refused, searchRefusal, searchFound, resultsAfter};
-ghost use Rattle.search_tree.specs.Found.{foundOf};
+ghost use Rattle.search_tree.specs.Found.{foundOf, driveOf};
+
+// What a search is for: the first k yards of its query, or those within so many seconds.
+pub enum Goal {
+    Nearest,
+    InDrive(u32),
+}
 
 // What a search returns; settled is 1 or 0.
 #[repr(C)]
@@ -33,23 +39,24 @@ fn refused(why: u8) -> Found
     }
 }
 
-// Searches a tree beside a road book for what a query asks. An accepted call zeroes the first 16,384 work words; one
-// that is turned back changes nothing.
+// Searches a tree beside a road book for what a query and a goal ask. An accepted call zeroes the first 16,384 work
+// words; one that is turned back changes nothing.
 pub fn search(
     road: &[u8],
     tree: &[u8],
     query: &[u8],
+    goal: Goal,
     work: &mut [u32],
     results: &mut [u32],
 ) -> Found
     ensures found { λ r. ⌜ foundOf r ≡ searchFound (now (road .entry)) (now (tree .entry)) (now (query .entry))
-        (length (now (work .entry))) (length (now (results .entry))) ⌝ }
+        (driveOf goal) (length (now (work .entry))) (length (now (results .entry))) ⌝ }
     ensures work { λ _. ⌜ now (work .exit) ≡ workAfter (searchRefusal (now (road .entry)) (now (tree .entry)) (now
-        (query .entry))
+        (query .entry)) (driveOf goal)
         (length (now (work .entry))) (length (now (results .entry)))) (now (work .entry)) ⌝ }
     ensures results { λ _. ⌜ now (results .exit)
         ≡ resultsAfter (now (road .entry)) (now (tree .entry)) (now (query .entry))
-        (length (now (work .entry))) (now (results .entry)) ⌝ }
+        (driveOf goal) (length (now (work .entry))) (now (results .entry)) ⌝ }
 {
     let mut adj = [0u16; adjacency::WORDS];
     let mut places = [0usize; tree::REGIONS];
@@ -60,5 +67,14 @@ pub fn search(
     }
     let header = records::header(tree);
     let r = header.regions as usize;
-    answering::answer(&adj, tree, &places[..r], &ends[..r], query, work, results)
+    answering::answer(
+        &adj,
+        tree,
+        &places[..r],
+        &ends[..r],
+        query,
+        goal,
+        work,
+        results,
+    )
 }

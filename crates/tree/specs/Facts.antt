@@ -7,9 +7,8 @@ use Rattle.tree_layout.specs.Values.{Region, Tree, regionAt}
 use Rattle.tree_leaf.specs.Facts.{LeafLists}
 
 -- Subtrees side by side, in preorder: they begin at a region number, their roots are the numbers of a list, a number is
--- the next after all
--- of their regions, and they have no more levels than a number. After a root come its children's subtrees, as many as
--- its record says.
+-- the next after all of their regions, and they have no more levels than a number. After a root come its children's
+-- subtrees, as many as its record says.
 pub data Preorder (rs : List Region) : (levels : ℕ) → (start : ℕ) → (roots : List ℕ) → (next : ℕ) → Type 0 where
   none : {levels i : ℕ} → Preorder rs levels i [] i
   tree : {levels i m next : ℕ} {children roots : List ℕ} → i < length rs → length children ≡ regionAt rs i .children

@@ -10,7 +10,7 @@ use std::time::Duration;
 use compare::build::AREA_BYTES;
 use compare::generate::{standard, Numbers};
 use compare::refusal::WORK_WORDS;
-use compare::{query, road, yard, Found};
+use compare::{query, road, yard, Asked, Found};
 use proved::turns::{shortest, Call};
 
 /// How long the calls of a row take turns.
@@ -26,6 +26,9 @@ const LEAF_LIMIT: u32 = 16;
 const FULL_LIMIT: u32 = 1;
 const CREWS: [usize; 4] = [2, 4, 8, 16];
 const KS: [u8; 3] = [1, 10, 64];
+/// Of the drive searches: the crews, and how many of the yards are within the drive.
+const DRIVE_CREWS: [usize; 2] = [2, 16];
+const WITHIN: [usize; 3] = [YARDS as usize / 100, YARDS as usize / 10, YARDS as usize];
 const AGGREGATES: [&str; 2] = ["sum", "maximum"];
 /// The ratio that is wanted of each call.
 const WANTED: f64 = 1.0;
@@ -34,6 +37,44 @@ const WANTED: f64 = 1.0;
 struct District {
     road: Vec<u8>,
     yard: Vec<u8>,
+}
+
+/// What a search's row asks for.
+struct Row {
+    call: &'static str,
+    asked: Asked,
+    /// How many yards are listed.
+    listed: usize,
+    aggregate: usize,
+    query: Vec<u8>,
+}
+
+impl Row {
+    /// The first k yards for so many crews.
+    fn first_k(crews: usize, k: u8, aggregate: usize) -> Self {
+        Row {
+            call: "search",
+            asked: Asked::FirstK,
+            listed: k.into(),
+            aggregate,
+            query: some_query(crews, k, aggregate),
+        }
+    }
+
+    /// The drive that so many of the yards are within, with those that are as far as the last of them.
+    fn within(district: &District, crews: usize, yards: usize, aggregate: usize) -> Self {
+        let query = some_query(crews, 1, aggregate);
+        let books: [&[u8]; 3] = [&district.road, &district.yard, &query];
+        let ranked = ranked(Asked::Within(u32::MAX), books).expect("sound books");
+        let seconds = ranked[yards - 1].0;
+        Row {
+            call: "within",
+            asked: Asked::Within(seconds as u32),
+            listed: ranked.iter().filter(|yard| yard.0 <= seconds).count(),
+            aggregate,
+            query,
+        }
+    }
 }
 
 /// Prints a row for each call: the proved call's time, the plain one's, and the ratio. The argument, if any, is the LEMON peer.
@@ -47,19 +88,32 @@ fn main() {
     for leaf_limit in LEAF_LIMITS {
         build_row(&district, leaf_limit);
     }
-    println!("search crews  k aggregate   proved ms   plain ms   ratio   wanted   brute force ms   ratio   LEMON ms   ratio");
-    let tree = built(&district, LEAF_LIMIT);
-    for crews in CREWS {
-        for k in KS {
-            for aggregate in 0..AGGREGATES.len() {
-                search_row(&district, &tree, (crews, k, aggregate), peer.as_deref());
-            }
-        }
-    }
+    search_rows(&district, peer.as_deref());
     full_rows(peer.as_deref());
 }
 
-/// Full books of each kind of district: 256 yards, every yard a leaf, 16 crews and k 64.
+/// Searches for the first k yards, and drive searches.
+fn search_rows(district: &District, peer: Option<&str>) {
+    println!("search crews yards aggregate   proved ms   plain ms   ratio   wanted   brute force ms   ratio   LEMON ms   ratio");
+    let tree = built(district, LEAF_LIMIT);
+    for crews in CREWS {
+        for k in KS {
+            for aggregate in 0..AGGREGATES.len() {
+                search_row(district, &tree, &Row::first_k(crews, k, aggregate), peer);
+            }
+        }
+    }
+    for crews in DRIVE_CREWS {
+        for yards in WITHIN {
+            for aggregate in 0..AGGREGATES.len() {
+                let row = Row::within(district, crews, yards, aggregate);
+                search_row(district, &tree, &row, peer);
+            }
+        }
+    }
+}
+
+/// Full books of each kind of district: 256 yards, every yard a leaf, 16 crews, and k 64 or all yards within the drive.
 fn full_rows(peer: Option<&str>) {
     for kind in standard::KINDS {
         println!("full books: {kind}, 256 yards, leaf limit {FULL_LIMIT}");
@@ -68,8 +122,10 @@ fn full_rows(peer: Option<&str>) {
         build_row(&district, FULL_LIMIT);
         let tree = built(&district, FULL_LIMIT);
         for aggregate in 0..AGGREGATES.len() {
-            search_row(&district, &tree, (16, 64, aggregate), peer);
+            search_row(&district, &tree, &Row::first_k(16, 64, aggregate), peer);
         }
+        let all = Row::within(&district, 16, YARDS as usize, 0);
+        search_row(&district, &tree, &all, peer);
     }
 }
 
@@ -117,44 +173,46 @@ fn row(call: &str, leaf_limit: u32, ours: Call, theirs: Call) {
 }
 
 /// One search's row, also beside brute force. All must give the same list.
-fn search_row(district: &District, tree: &[u8], asked: (usize, u8, usize), peer: Option<&str>) {
-    let (crews, k, aggregate) = asked;
-    let query = some_query(crews, k, aggregate);
-    let District { road, yard } = district;
-    let mut lists = [[0; 128]; 3];
+fn search_row(District { road, yard }: &District, tree: &[u8], row: &Row, peer: Option<&str>) {
+    let books: [&[u8]; 3] = [road, tree, &row.query];
+    let without_tree: [&[u8]; 3] = [road, yard, &row.query];
+    let mut lists = [[0; 2 * YARDS as usize]; 3];
     let [one, other, third] = &mut lists;
-    let ours: Call = &mut |work| settled(proved::search(road, tree, &query, work, one));
-    let theirs: Call = &mut |work| settled(compare::search(road, tree, &query, work, other));
-    let brute: Call = &mut |_| brute_force([road, yard, &query], third).map_or_else(|r| r, |()| 0);
+    let ours: Call = &mut |work| settled(proved::ask(row.asked, books, work, one));
+    let theirs: Call = &mut |work| settled(compare::ask(row.asked, books, work, other));
+    let brute: Call = &mut |_| brute_force(row.asked, without_tree, third);
     let [best, plain, brute] = shortest(SEARCH_TURNS, [ours, theirs, brute]);
     assert!(lists[0] == lists[1] && lists[1] == lists[2]);
-    let (aggregate, ratio, gain) = (AGGREGATES[aggregate], best / plain, best / brute);
+    let (call, crews, listed) = (row.call, row.query[11], row.listed);
+    let (aggregate, ratio, gain) = (AGGREGATES[row.aggregate], best / plain, best / brute);
     print!(
-        "search {crews:>5} {k:>2} {aggregate:<9} {best:>11.3} {plain:>10.3} {ratio:>7.2} {WANTED:>8.1} {brute:>16.3} {gain:>7.2}"
+        "{call} {crews:>5} {listed:>5} {aggregate:<9} {best:>11.3} {plain:>10.3} {ratio:>7.2} {WANTED:>8.1} {brute:>16.3} {gain:>7.2}"
     );
     if let Some(peer) = peer {
-        let lemon = by_peer(
-            Path::new(peer),
-            [road, yard, &query],
-            &lists[0][..2 * usize::from(k)],
-        );
+        let list = &lists[0][..2 * listed];
+        let lemon = by_peer(Path::new(peer), row.asked, without_tree, list);
         print!(" {lemon:>10.3} {:>7.2}", best / lemon);
     }
     println!();
 }
 
 /// The shortest time of brute force by the LEMON peer, which must give the same list.
-fn by_peer(peer: &Path, books: [&[u8]; 3], list: &[u32]) -> f64 {
+fn by_peer(peer: &Path, asked: Asked, books: [&[u8]; 3], list: &[u32]) -> f64 {
     let names = ["road", "yard", "query"]
         .map(|name| std::env::temp_dir().join(format!("calls-{}-{name}", std::process::id())));
     for (name, book) in names.iter().zip(books) {
         fs::write(name, book).expect("there is a folder for temporary files");
     }
     let seconds = (SEARCH_TURNS / 4).as_secs_f64().to_string();
+    let drive = match asked {
+        Asked::FirstK => None,
+        Asked::Within(drive) => Some(drive.to_string()),
+    };
     let output = Command::new(peer)
         .arg("search")
         .args(&names)
         .arg(seconds)
+        .args(drive)
         .output()
         .expect("the peer runs");
     for name in &names {
@@ -186,8 +244,20 @@ fn settled(found: Found) -> u32 {
     found.refusal
 }
 
-/// The first k yards without a tree: each crew's distances by Dijkstra, all yards sorted. The same words are written.
-fn brute_force([road, yard, query]: [&[u8]; 3], results: &mut [u32]) -> Result<(), u32> {
+/// What a search lists, without a tree: the same words are written. The answer is the refusal.
+fn brute_force(asked: Asked, books: [&[u8]; 3], results: &mut [u32]) -> u32 {
+    let ranked = match ranked(asked, books) {
+        Ok(ranked) => ranked,
+        Err(refusal) => return refusal,
+    };
+    for (words, (distance, yard)) in results.chunks_mut(2).zip(ranked) {
+        words.copy_from_slice(&[u32::from(yard), distance as u32]);
+    }
+    0
+}
+
+/// The yards asked for of all, sorted; each crew's distances by Dijkstra.
+fn ranked(asked: Asked, [road, yard, query]: [&[u8]; 3]) -> Result<Vec<(u64, u16)>, u32> {
     let road = road::read(road)?;
     let yards = yard::read(yard, road.junctions)?;
     let query = query::read(query, road.junctions)?;
@@ -198,9 +268,12 @@ fn brute_force([road, yard, query]: [&[u8]; 3], results: &mut [u32]) -> Result<(
         (query.aggregate.over(to_crews), yard)
     };
     let mut ranked: Vec<(u64, u16)> = yards.iter().map(ranked).collect();
-    ranked.sort_unstable();
-    for (words, (distance, yard)) in results.chunks_mut(2).zip(ranked).take(query.k) {
-        words.copy_from_slice(&[u32::from(yard), distance as u32]);
+    if let Asked::Within(seconds) = asked {
+        ranked.retain(|&(distance, _)| distance <= u64::from(seconds));
     }
-    Ok(())
+    ranked.sort_unstable();
+    if asked == Asked::FirstK {
+        ranked.truncate(query.k);
+    }
+    Ok(ranked)
 }

@@ -4,7 +4,7 @@ use std::collections::BTreeSet;
 
 use compare::refusal::WORK_WORDS;
 use compare::search::state::{true_distance, Item, State};
-use compare::search::{found, run_seen, tested, Outcome, Search};
+use compare::search::{found, run_seen, tested, Asked, Outcome, Search};
 use compare::{brute, road};
 
 use super::answer::Answer;
@@ -56,9 +56,8 @@ impl Trace {
     pub fn new(answer: &Answer) -> Result<Self, Fault> {
         let books = &answer.books;
         let search = tested(
-            &books.road,
-            &books.tree,
-            &books.query,
+            Asked::FirstK,
+            [&books.road, &books.tree, &books.query],
             WORK_WORDS,
             RESULT_WORDS,
         )

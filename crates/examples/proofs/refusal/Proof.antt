@@ -18,7 +18,7 @@ search-requires c κs = search needs
 returns : tie.Need-returns
 returns c =
     let s = c .before .before .search in
-    ap (λ (f : Found). f .refusal) (sym (returned (s .result)) ∙ s .ensures .0) ∙ found-number _ _ _ _ _
+    ap (λ (f : Found). f .refusal) (sym (returned (s .result)) ∙ s .ensures .0) ∙ found-number _ _ _ _ _ _
 
 pub refusal-spec : {M : Type 1} → statement M
 refusal-spec =

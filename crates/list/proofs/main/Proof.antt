@@ -33,18 +33,18 @@ array-share-prefix-input c =
     let at7 = at5 .before .before in
     omega (arith, ap bytesIn (c .before .before .n .given .1), at5 .read-input .ensures, at5 .read-input .kept .0, at7 .large-buffer .ensures)
 
-slice-aggregate-listing : tie.Need-slice-aggregate-listing
-slice-aggregate-listing c =
+slice-aggregate-text-of : tie.Need-slice-aggregate-text-of
+slice-aggregate-text-of c =
     let at3 = c .before .before .before in
     let at6 = at3 .before .before .before in
     let at8 = at6 .before .before in
     simp length-take (omega (arith, ap bytesIn (at3 .n .given .1), at6 .read-input .ensures, at6 .read-input .kept .0, at8 .large-buffer .ensures))
 
-slice-aggregate-listing-2 : tie.Need-slice-aggregate-listing-2
-slice-aggregate-listing-2 c = search needs
+slice-aggregate-text-of-2 : tie.Need-slice-aggregate-text-of-2
+slice-aggregate-text-of-2 c = search needs
 
-listing-requires : tie.Need-listing-requires
-listing-requires c κs = search needs
+text-of-requires : tie.Need-text-of-requires
+text-of-requires c κs = search needs
 
 array-share-prefix-out : tie.Need-array-share-prefix-out
 array-share-prefix-out c = search needs
@@ -52,7 +52,7 @@ array-share-prefix-out c = search needs
 slice-aggregate-write-output : tie.Need-slice-aggregate-write-output
 slice-aggregate-write-output c =
     let at5 = c .before .before .before .before .before in
-    simp length-take (omega (arith, c .before .before .listing .ensures .1, c .before .before .listing .kept .1 .0, at5 .large-buffer2 .ensures))
+    simp length-take (omega (arith, c .before .before .text-of .ensures .1, c .before .before .text-of .kept .1 .0, at5 .large-buffer2 .ensures))
 
 write-output-requires : tie.Need-write-output-requires
 write-output-requires c κs = search needs
@@ -72,9 +72,9 @@ main-spec =
     returns
     large-buffer-requires-2
     array-share-prefix-input
-    slice-aggregate-listing
-    slice-aggregate-listing-2
-    listing-requires
+    slice-aggregate-text-of
+    slice-aggregate-text-of-2
+    text-of-requires
     array-share-prefix-out
     slice-aggregate-write-output
     write-output-requires

@@ -10,6 +10,7 @@ use lib.Dec.{T}
 use Rattle.road.specs.code.Rows.{Rowed}
 use Rattle.tree_layout.specs.Decode.{landmarkCount}
 use Rattle.tree.specs.Arrays.{Laid}
+use Rattle.search_rules.specs.Rule.{Rule}
 use Rattle.search_rules.specs.Instance.{Instance, size, marks, leaf}
 use Rattle.search_rules.specs.Books.{searchOf, Passed}
 use Rattle.search_rules.specs.Bounds.{chosen}
@@ -28,16 +29,16 @@ pub record IsPick (i : Instance) (r p : ℕ) : Type 0 where
 
 -- the books and the crews are accepted, each crew has its row of distances, the places are the tree book's, and the
 -- landmark table is filled
-pub record Ready (road tree : List ℕ) (code k : ℕ) (crews drives places table : List ℕ) : Type 0 where
+pub record Ready (road tree : List ℕ) (code : ℕ) (rule : Rule) (crews drives places table : List ℕ) : Type 0 where
   pub passed : Passed road tree crews
   pub driven : Rowed road crews drives
   pub laid : Laid tree places
-  pub tableed : LandmarkTable (searchOf road tree code k crews) (landmarkCount tree) table
+  pub tableed : LandmarkTable (searchOf road tree code rule crews) (landmarkCount tree) table
 
 -- beside some road book
-pub record Readied (tree : List ℕ) (code k : ℕ) (crews drives places table : List ℕ) : Type 0 where
+pub record Readied (tree : List ℕ) (code : ℕ) (rule : Rule) (crews drives places table : List ℕ) : Type 0 where
   pub road : List ℕ
-  pub ready : Ready road tree code k crews drives places table
+  pub ready : Ready road tree code rule crews drives places table
 
 -- the mark of a leaf that was never taken
 abbrev pub unopened : ℕ

@@ -7,10 +7,10 @@ use Rattle.search_run.proofs.run.Statement.{statement}
 use Rattle.search_run.proofs.run.Tie as tie
 
 header-requires : tie.Need-header-requires
-header-requires c κs = laid-header _ _ (c .before .before .before .before .before .before .pre .0 .ready .laid)
+header-requires c κs = laid-header _ _ (c .before .before .before .before .before .before .before .pre .0 .ready .laid)
 
 mul-count : tie.Need-mul-count
-mul-count c = record { fits = omega (arith, laid-few _ _ (c .before .before .before .before .before .before .before .pre .0 .ready .laid)) }
+mul-count c = record { fits = omega (arith, laid-few _ _ (c .before .before .before .before .before .before .before .before .pre .0 .ready .laid)) }
 
 cast-count : tie.Need-cast-count
 cast-count c = search needs
@@ -19,37 +19,35 @@ mul-count-2 : tie.Need-mul-count-2
 mul-count-2 c = search needs
 
 add-count : tie.Need-add-count
-add-count c =
-    let start = c .before .before .before .before .before .before .before .before in
-    record { fits = omega (arith, laid-few _ _ (start .pre .0 .ready .laid), c .struct-known) }
+add-count c = record { fits = omega (arith, laid-few _ _ (c .before .before .before .before .before .before .before .before .before .pre .0 .ready .laid), c .struct-known) }
 
 array-borrow-prefix-words : tie.Need-array-borrow-prefix-words
-array-borrow-prefix-words c =
-    let start = c .before .before .before .before .before .before .before .before in
-    most-words _ _ _ _ (start .pre .0 .ready .laid) (c .before .header .ensures) refl
+array-borrow-prefix-words c = most-words _ _ _ _ (c .before .before .before .before .before .before .before .before .before .pre .0 .ready .laid) (c .before .header .ensures) refl
 
 slice-aggregate-steps : tie.Need-slice-aggregate-steps
-slice-aggregate-steps c =
-    let start = c .before .before .before .before .before .before .before .before .before in
-    count-part 5629 _ (most-words _ _ _ _ (start .pre .0 .ready .laid) (c .before .before .header .ensures) refl)
+slice-aggregate-steps c = count-part 5629 _ (most-words _ _ _ _ (c .before .before .before .before .before .before .before .before .before .before .pre .0 .ready .laid) (c .before .before .header .ensures) refl)
 
 slice-aggregate-steps-2 : tie.Need-slice-aggregate-steps-2
 slice-aggregate-steps-2 c = search needs
 
 steps-requires : tie.Need-steps-requires
 steps-requires c κs =
-    let start = c .before .before .before .before .before .before .before .before .before .before in
+    let start = c .before .before .before .before .before .before .before .before .before .before .before .before in
     let s = start .pre in
-    let h = c .before .before .before .header .ensures in (
+    let h = c .before .before .before .before .header .ensures in (
       s .0,
       s .1,
       s .2,
       search needs,
+      s .3,
       first-words (start .args .tree .now) (start .args .places .now) _ 5629 _ h refl (most-words _ _ _ _ (s .0 .ready .laid) h refl),
     )
 
+same-length : tie.Need-same-length
+same-length c = search needs
+
 returns : tie.Need-returns
-returns c = c .before .before .steps .ensures
+returns c = c .before .before .before .before .steps .ensures
 
 pub run-spec : {M : Type 1} → statement M
 run-spec =
@@ -64,4 +62,5 @@ run-spec =
     slice-aggregate-steps
     slice-aggregate-steps-2
     steps-requires
+    same-length
     returns)

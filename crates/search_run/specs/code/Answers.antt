@@ -4,7 +4,8 @@ use Prim.Native.Nat.{ℕ}
 use lib.ListN.{set}
 use Rattle.book.specs.Choose.{choose}
 use Rattle.search_rules.specs.Run.{Answer}
-use Rattle.search_held.specs.code.Pairs.{heldOf}
+use Rattle.search_rules.specs.Rule.{Rule}
+use Rattle.search_held.specs.code.Rules.{heldBy}
 use Rattle.search_state.specs.code.State.{firstsAt}
 use Rattle.search_run.specs.declared.Outcome.{Outcome}
 
@@ -13,10 +14,10 @@ unfoldable pub putRoot : (r n key : ℕ) → List ℕ → List ℕ
 putRoot r n key ws = set (set ws 0 key) (firstsAt r n) key
 
 -- "Both return taken and measured, and settled also the number of yards listed."
-unfoldable pub answerOf : Outcome → Answer
-answerOf o = record {
+unfoldable pub answerOf : Rule → (list : List ℕ) → Outcome → Answer
+answerOf rule list o = record {
   settled = o .settled;
-  listed = choose (o .settled) (heldOf (o .held)) [];
+  listed = choose (o .settled) (heldBy rule (o .kept) list) [];
   taken = o .taken;
   measured = o .measured;
 }

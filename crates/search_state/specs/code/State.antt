@@ -7,11 +7,11 @@ use lib.ListN.{length, getD, take, drop}
 use lib.Dec.{T, ltb, eqb}
 use Rattle.search_rules.specs.Instance.{Instance}
 use Rattle.search_rules.specs.Queue.{queued}
-use Rattle.search_rules.specs.Held.{greatestHeld}
+use Rattle.search_rules.specs.Rule.{Rule}
+use Rattle.search_rules.specs.Keeping.{enoughBy}
 use Rattle.search_rules.specs.Step.{SearchState, settled}
 use Rattle.search_rules.specs.Run.{run}
-use Rattle.search_held.specs.declared.Held.{Held}
-use Rattle.search_held.specs.code.Pairs.{heldOf}
+use Rattle.tree_layout.specs.Values.{Element}
 
 -- The words of a search of r regions and n junctions, each part one word for each of them, one part after the other:
 -- regions' keys, yards' keys, regions' first keys, the landmarks that leaves picked, yards' f, yards' bounds, and which
@@ -76,20 +76,19 @@ newest l (suc n) = getD l n 0 ∷ newest l n
 
 -- the state of a search of r regions and n junctions: its words, the held yards, and the measured yards with their
 -- number
-unfoldable pub stateOf : (r n : ℕ) → (ws : List ℕ) → Held → (measured : List ℕ) → ℕ → SearchState
+unfoldable pub stateOf : (r n : ℕ) → (ws : List ℕ) → (held : List Element) → (measured : List ℕ) → ℕ → SearchState
 stateOf r n ws held measured count = record {
   regionKeys = regionKeysIn r n ws;
   yardKeys = yardKeysIn r n ws;
   firsts = firstsIn r n ws;
   gone = goneIn r n ws;
-  held = heldOf held;
+  held = held;
   measured = newest measured count;
 }
 
--- "The search is settled when the queue is empty, or k are held and every queued key is above the greatest held
--- distance.": by the least key
-unfoldable pub settledBy : (k least : ℕ) → Held → Bool
-settledBy k least held = not (queued least) || (eqb (held .count) k && ltb (greatestHeld (heldOf held)) least)
+-- "The search is settled when the queue is empty, or", by its rule, what is held is enough: by the least key
+unfoldable pub settledBy : Rule → (least : ℕ) → List Element → Bool
+settledBy rule least held = not (queued least) || enoughBy rule held least
 
 -- a search has come to a state by a number of steps, and isn't settled
 pub record Unsettled (i : Instance) (st : SearchState) : Type 0 where

@@ -5,24 +5,24 @@ use Rattle.search_step.proofs.Taking.{picked, yard-driven, near, region
 use Rattle.search_step.proofs.step.Statement.{statement}
 use Rattle.search_step.proofs.step.Tie as tie
 
-cast-t17 : tie.Need-cast-t17
-cast-t17 c =
-    let s = c .before .before .before .before .before .before .before .before .before .pre in
+cast-t18 : tie.Need-cast-t18
+cast-t18 c =
+    let s = c .before .before .before .before .before .before .before .before .before .before .pre in
     record { fits = omega (arith, picked (s .0) (s .3) (s .4) .small) }
 
 mul-a : tie.Need-mul-a
 mul-a c =
-    let s = c .before .before .before .before .before .before .before .before .before .pre in
+    let s = c .before .before .before .before .before .before .before .before .before .before .pre in
     record { fits = omega (arith, picked (s .0) (s .3) (s .4) .small) }
 
 slice-read-a : tie.Need-slice-read-a
 slice-read-a c =
-    let s = c .before .before .before .before .before .before .before .before .before .before .pre in
+    let s = c .before .before .before .before .before .before .before .before .before .before .before .pre in
     picked (s .0) (s .3) (s .4) .inside
 
 take-requires : tie.Need-take-requires
 take-requires c κs =
-    let s = c .before .before .before .before .before .before .before .before .before .before .before .pre in
+    let s = c .before .before .before .before .before .before .before .before .before .before .before .before .pre in
     (s .0, s .1, λ road ready. region-queued ready _ _ _ _ (s .3) (s .2 road ready) _ (s .4) (c .before .before .if1 .taken))
 
 same-length : tie.Need-same-length
@@ -30,35 +30,36 @@ same-length c = search needs
 
 returns : tie.Need-returns
 returns c =
-    let s = c .before .before .before .before .before .before .before .before .before .before .before .before .before .before .pre in
+    let s = c .before .before .before .before .before .before .before .before .before .before .before .before .before .before .before .pre in
     let o = c .before .before .take .ensures in
     let h = c .before .before .before .before .before .if1 .taken in
-    (o .0, (λ road ready. region-is-taken ready _ _ _ _ (s .3) (s .2 road ready) _ (s .4) h _ (o .1 road ready), (s .7, s .6)))
+    (o .0, (λ road ready. region-is-taken ready _ _ _ _ (s .3) (s .2 road ready) _ (s .4) h _ (o .1 road ready), (s .7, s .8, s .6)))
 
 mul-words : tie.Need-mul-words
 mul-words c =
-    let s = c .before .before .before .before .before .before .before .before .before .pre in
+    let s = c .before .before .before .before .before .before .before .before .before .before .pre in
     record { fits = omega (arith, picked (s .0) (s .3) (s .4) .small) }
 
 slice-write-words : tie.Need-slice-write-words
 slice-write-words c =
-    let s = c .before .before .before .before .before .before .before .before .before .pre in
+    let s = c .before .before .before .before .before .before .before .before .before .before .pre in
     picked (s .0) (s .3) (s .4) .inside
 
-cast-t26 : tie.Need-cast-t26
-cast-t26 c =
-    let s = c .before .before .before .before .before .before .before .before .before .pre in
+cast-t27 : tie.Need-cast-t27
+cast-t27 c =
+    let s = c .before .before .before .before .before .before .before .before .before .before .pre in
     record { fits = omega (arith, picked (s .0) (s .3) (s .4) .small) }
 
 take-requires-2 : tie.Need-take-requires-2
 take-requires-2 c κs =
-    let s = c .before .before .before .before .before .before .before .before .before .before .pre in
-    let h = c .before .if1 .left in (
+    let s = c .before .before .before .before .before .before .before .before .before .before .before .before .pre in
+    let h = c .before .before .if1 .left in (
       yard-driven (s .0) _ (omega (arith, picked (s .0) (s .3) (s .4) .below)),
-      yard-room (s .0 .ready) _ _ _ _ (s .3) (s .2 (s .0 .road) (s .0 .ready)) _ (s .4) h (λ j. omega (arith, c .before .before .before .slice-known .given j)),
+      yard-room (s .0 .ready) _ _ _ _ (s .3) (s .2 (s .0 .road) (s .0 .ready)) _ (s .4) h (λ j. omega (arith, c .before .before .before .before .before .slice-known .given j)),
       s .5,
       s .7,
       s .8,
+      s .9,
     )
 
 same-length-2 : tie.Need-same-length-2
@@ -67,18 +68,22 @@ same-length-2 c = search needs
 same-length-3 : tie.Need-same-length-3
 same-length-3 c = search needs
 
+same-length-4 : tie.Need-same-length-4
+same-length-4 c = search needs
+
 returns-2 : tie.Need-returns-2
 returns-2 c =
-    let s = c .before .before .before .before .before .before .before .before .before .before .before .before .before .pre in
-    let h = c .before .before .before .before .if1 .left in
-    let o = c .before .before .take2 .ensures in
-    let known = c .before .before .before .before .before .before .slice-known .given in (
+    let s = c .before .before .before .before .before .before .before .before .before .before .before .before .before .before .before .before .before .pre in
+    let h = c .before .before .before .before .before .before .before .if1 .left in
+    let o = c .before .before .before .before .take2 .ensures in
+    let known = c .before .before .before .before .before .before .before .before .before .before .slice-known .given in (
       λ road ready. yard-cached ready _ _ _ _ (s .3) (s .2 road ready) _ (s .4) h (λ j. omega (arith, known j)),
       (
         λ road ready. yard-is-taken ready _ _ _ _ (s .3) (s .2 road ready) _ (s .4) h (λ j. omega (arith, known j)) _ _ _ (o .0) (o .1 .0)
             (o .1 .1 .0 road (driven-of _ _ _ _ _ _ _ _ ready) (near ready _ (picked (s .0) (s .3) (s .4) .below) h)),
         (
-          o .1 .1 .1,
+          o .1 .1 .1 .0,
+          o .1 .1 .1 .1,
           omega (
             arith,
             o .0,
@@ -92,7 +97,7 @@ pub step-spec : {M : Type 1} → statement M
 step-spec =
     tie.close
     (tie.spec
-    cast-t17
+    cast-t18
     mul-a
     slice-read-a
     take-requires
@@ -100,8 +105,9 @@ step-spec =
     returns
     mul-words
     slice-write-words
-    cast-t26
+    cast-t27
     take-requires-2
     same-length-2
     same-length-3
+    same-length-4
     returns-2)

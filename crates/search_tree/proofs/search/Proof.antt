@@ -26,9 +26,9 @@ returns c =
     let found = tested .before .before .before .before in
     let start = found .before .before .before .before .before .before .before .before .before in
     let s = start .args in
-    let b = district-back _ _ _ _ _ _ (found .read .ensures .0) (tested .if1 .taken) in (
-      turned-found _ _ _ (s .work .now) (s .results .now) _ b _ (c .refused .ensures),
-      (turned-work _ _ _ (s .work .now) (s .results .now) _ b, turned-results _ _ _ (s .work .now) (s .results .now) _ b),
+    let b = district-back _ _ _ _ _ _ _ (found .read .ensures .0) (tested .if1 .taken) in (
+      turned-found _ _ _ _ (s .work .now) (s .results .now) _ b _ (c .refused .ensures),
+      (turned-work _ _ _ _ (s .work .now) (s .results .now) _ b, turned-results _ _ _ _ (s .work .now) (s .results .now) _ b),
     )
 
 header-requires : tie.Need-header-requires

@@ -4,11 +4,12 @@ use Prim.Native.Nat.{ℕ}
 use native.Mathlib.Omega.{arith}
 use Rattle.book.specs.Bytes.{Bytes}
 use Rattle.search_run.specs.code.Answers.{answerOf}
-use Rattle.search_call.specs.Call.{searchAnswer}
+use Rattle.search_held.specs.code.Rules.{ruleOf}
 use Rattle.search_tree.specs.code.District.{District}
-use Rattle.search_tree.proofs.Reporting.{found-so, written-so}
+use Rattle.search_tree.specs.code.Asking.{answerBy}
+use Rattle.search_tree.proofs.Reporting.{measured-of, found-so, written-so}
 use Rattle.search_tree.proofs.Preparing.{bytes-all, part-room, part-of, lent-size, back-full, back-part, back-taken, back-zeroed}
-use Rattle.search_tree.proofs.Preparing.{crews-needs, few-crews, few-k, results-room, rows-need, ready, answered}
+use Rattle.search_tree.proofs.Preparing.{crews-needs, rule-small, few-crews, results-room, rows-need, ready, answered}
 use borrow.Author.Needs.{needs}
 use Rattle.search_tree.proofs.accepted.search.Statement.{statement}
 use Rattle.search_tree.proofs.accepted.search.Tie as tie
@@ -50,14 +51,14 @@ slice-relend-prefix-prepare c =
     let s = c .before .before .before .before .before .before .before .before .before .before .before .before .before in
     let d = s .pre .0 .district in
     let a = s .pre .2 (s .pre .0 .road) d in
-    a .work-full
+    a .accepted .work-full
 
 slice-aggregate-prepare-3 : tie.Need-slice-aggregate-prepare-3
 slice-aggregate-prepare-3 c =
     let s = c .before .before .before .before .before .before .before .before .before .before .before .before .before .before in
     let d = s .pre .0 .district in
     let a = s .pre .2 (s .pre .0 .road) d in
-    sym (lent-size (s .args .work .now) (a .work-full))
+    sym (lent-size (s .args .work .now) (a .accepted .work-full))
 
 prepare-requires : tie.Need-prepare-requires
 prepare-requires c κs =
@@ -68,7 +69,7 @@ prepare-requires c κs =
     let a = s .pre .2 (s .pre .0 .road) d in
     let tree = s .args .tree .now in
     let bytes : Bytes tree = bytes-all tree (λ i. omega (arith, known .shared-slice-known2 .given i)) in
-    let lent = lent-size (s .args .work .now) (a .work-full) in
+    let lent = lent-size (s .args .work .now) (a .accepted .work-full) in
     rows-need d a _ (s .pre .1) _ refl _ (copied .crews2 .ensures) bytes _ _ refl lent
 
 slice-aggregate-run : tie.Need-slice-aggregate-run
@@ -81,7 +82,7 @@ slice-reshare-prefix-run c =
     let d = s .pre .0 .district in
     let a = s .pre .2 (s .pre .0 .road) d in
     back-full (s .args .work .now) (prepared .prepare .last .1 .1 .1 .1 .0)
-    (prepared .prepare .kept .1 .1 .1 .1 .0 ∙ lent-size (s .args .work .now) (a .work-full))
+    (prepared .prepare .kept .1 .1 .1 .1 .0 ∙ lent-size (s .args .work .now) (a .accepted .work-full))
 
 slice-aggregate-run-2 : tie.Need-slice-aggregate-run-2
 slice-aggregate-run-2 c =
@@ -90,7 +91,7 @@ slice-aggregate-run-2 c =
     let d = s .pre .0 .district in
     let a = s .pre .2 (s .pre .0 .road) d in
     back-part (s .args .work .now) (prepared .prepare .last .1 .1 .1 .1 .0)
-    (prepared .prepare .kept .1 .1 .1 .1 .0 ∙ lent-size (s .args .work .now) (a .work-full))
+    (prepared .prepare .kept .1 .1 .1 .1 .0 ∙ lent-size (s .args .work .now) (a .accepted .work-full))
 
 array-share-prefix-crews-2 : tie.Need-array-share-prefix-crews-2
 array-share-prefix-crews-2 c =
@@ -108,9 +109,12 @@ slice-aggregate-run-3 c =
     let a = s .pre .2 (s .pre .0 .road) d in
     part-of _ 16 _ (few-crews d a _ (s .pre .1)) (copied .crews2 .kept .1 .0)
 
+slice-aggregate-run-4 : tie.Need-slice-aggregate-run-4
+slice-aggregate-run-4 c = search needs
+
 run-requires : tie.Need-run-requires
 run-requires c κs =
-    let prepared = c .before .before .before .before .before .before in
+    let prepared = c .before .before .before .before .before .before .before in
     let copied = prepared .before .before .before .before .before .before in
     let known = copied .before .before .before .before .before .before .before in
     let s = known .before .before in
@@ -119,7 +123,7 @@ run-requires c κs =
     let tree = s .args .tree .now in
     let bytes : Bytes tree = bytes-all tree (λ i. omega (arith, known .shared-slice-known2 .given i)) in
     let p = prepared .prepare in
-    let size = prepared .prepare .kept .1 .1 .1 .1 .0 ∙ lent-size (s .args .work .now) (a .work-full) in (
+    let size = prepared .prepare .kept .1 .1 .1 .1 .0 ∙ lent-size (s .args .work .now) (a .accepted .work-full) in (
       record {
         road = s .pre .0 .road;
         ready = ready d a _ (s .pre .1) _ refl _ (copied .crews2 .ensures) bytes _ _ _
@@ -127,27 +131,45 @@ run-requires c κs =
             (p .ensures .1 _ (d .adjacent)) (p .kept .1 .1 .1 .0) (p .ensures .0 _ (d .adjacent));
       },
       d .ended,
-      few-k d a _ (s .pre .1),
+      refl,
+      rule-small d a,
     )
 
 zero-words-requires : tie.Need-zero-words-requires
 zero-words-requires c κs =
-    let prepared = c .before .before .before .before .before .before .before .before in
+    let prepared = c .before .before .before .before .before .before .before .before .before .before in
     let s = prepared .before .before .before .before .before .before .before .before .before .before .before .before .before .before .before in
     let d = s .pre .0 .district in
     let a = s .pre .2 (s .pre .0 .road) d in
     back-full (s .args .work .now) (prepared .prepare .last .1 .1 .1 .1 .0)
-    (prepared .prepare .kept .1 .1 .1 .1 .0 ∙ lent-size (s .args .work .now) (a .work-full))
+    (prepared .prepare .kept .1 .1 .1 .1 .0 ∙ lent-size (s .args .work .now) (a .accepted .work-full))
+
+slice-aggregate-report : tie.Need-slice-aggregate-report
+slice-aggregate-report c = search needs
 
 report-requires : tie.Need-report-requires
 report-requires c κs =
-    let ran = c .before .before .before .before .before in
-    let copied = ran .before .before .before .before .before .before .before .before .before .before .before .before .before in
-    let s = copied .before .before .before .before .before .before .before .before .before in
+    let ran = c .before .before .before .before .before .before .before in
+    let prepared = c .before .before .before .before .before .before .before .before .before .before .before .before .before .before .before in
+    let copied = c .before .before .before .before .before .before .before .before .before .before .before .before .before .before .before .before .before .before .before .before .before in
+    let known = c .before .before .before .before .before .before .before .before .before .before .before .before .before .before .before .before .before .before .before .before .before .before .before .before .before .before .before .before in
+    let s = c .before .before .before .before .before .before .before .before .before .before .before .before .before .before .before .before .before .before .before .before .before .before .before .before .before .before .before .before .before .before in
     let d = s .pre .0 .district in
     let a = s .pre .2 (s .pre .0 .road) d in
-    let room = ran .run .ensures .1 in
-    (omega (arith, room .0, few-k d a _ (s .pre .1)), results-room d a _ (s .pre .1) _ (room .0), room .1)
+    let tree = s .args .tree .now in
+    let bytes : Bytes tree = bytes-all tree (λ i. omega (arith, known .shared-slice-known2 .given i)) in
+    let p = prepared .prepare in
+    let size = prepared .prepare .kept .1 .1 .1 .1 .0 ∙ lent-size (s .args .work .now) (a .accepted .work-full) in
+    let e = answered d a _ (s .pre .1) _ refl _ (copied .crews2 .ensures) bytes _ _ _
+    (back-taken (s .args .work .now) (p .last .1 .1 .1 .1 .0) size) (p .ensures .1 _ (d .adjacent)) (p .kept .1 .1 .1 .0)
+    (p .ensures .0 _ (d .adjacent)) _ (ran .run .ensures .0 (s .pre .0 .road)) in
+    let room = ran .run .ensures .1 in (
+      room .0,
+      omega (arith, room .1, room .2),
+      ran .run .kept .1 .1 .1 .1 .1 .1 .1 .0,
+      results-room d a _ (s .pre .1) _ refl _ (copied .crews2 .ensures) bytes _ _ e (room .0) (rw (measured-of _ _ (ran .run .result)) (room .1)),
+      room .2,
+    )
 
 same-length : tie.Need-same-length
 same-length c = search needs
@@ -158,20 +180,21 @@ same-length-2 c = search needs
 returns : tie.Need-returns
 returns c =
     let reported = c .before .before in
-    let cleared = reported .before .before .before .before in
-    let ran = cleared .before .before in
-    let prepared = ran .before .before .before .before .before .before .before in
-    let copied = prepared .before .before .before .before .before .before in
-    let known = copied .before .before .before .before .before .before .before in
-    let s = known .before .before in
+    let cleared = c .before .before .before .before .before .before .before in
+    let ran = c .before .before .before .before .before .before .before .before .before .before in
+    let prepared = c .before .before .before .before .before .before .before .before .before .before .before .before .before .before .before .before .before .before in
+    let copied = c .before .before .before .before .before .before .before .before .before .before .before .before .before .before .before .before .before .before .before .before .before .before .before .before in
+    let known = c .before .before .before .before .before .before .before .before .before .before .before .before .before .before .before .before .before .before .before .before .before .before .before .before .before .before .before .before .before .before .before in
+    let s = c .before .before .before .before .before .before .before .before .before .before .before .before .before .before .before .before .before .before .before .before .before .before .before .before .before .before .before .before .before .before .before .before .before in
     let d = s .pre .0 .district in
     let a = s .pre .2 (s .pre .0 .road) d in
     let tree = s .args .tree .now in
     let bytes : Bytes tree = bytes-all tree (λ i. omega (arith, known .shared-slice-known2 .given i)) in
     let p = prepared .prepare in
-    let size = prepared .prepare .kept .1 .1 .1 .1 .0 ∙ lent-size (s .args .work .now) (a .work-full) in
+    let size = prepared .prepare .kept .1 .1 .1 .1 .0 ∙ lent-size (s .args .work .now) (a .accepted .work-full) in
     let so : (road : List ℕ) → District road (s .args .tree .now) (s .args .adj .now) (s .args .places .now) (s .args .ends .now)
-    → answerOf (ran .run .result) ≡ searchAnswer road (s .args .tree .now) (s .args .query .now)
+    → answerOf (ruleOf (s .args .rule)) (ran .run .last .1 .1 .1 .1 .1 .1 .1 .0) (ran .run .result)
+    ≡ answerBy road (s .args .tree .now) (s .args .query .now) (ruleOf (s .args .rule))
     = λ road e. answered e (s .pre .2 road e) _ (s .pre .1) _ refl _ (copied .crews2 .ensures) bytes _ _ _
     (back-taken (s .args .work .now) (p .last .1 .1 .1 .1 .0) size) (p .ensures .1 road (e .adjacent)) (p .kept .1 .1 .1 .0)
     (p .ensures .0 road (e .adjacent)) _ (ran .run .ensures .0 road) in (
@@ -200,8 +223,10 @@ search-spec =
     slice-aggregate-run-2
     array-share-prefix-crews-2
     slice-aggregate-run-3
+    slice-aggregate-run-4
     run-requires
     zero-words-requires
+    slice-aggregate-report
     report-requires
     same-length
     same-length-2

@@ -1,6 +1,10 @@
-use Rattle.search_tree.proofs.Calling.{query-back, asked-of, areas-last, turned-found, turned-work, turned-results}
+use Rattle.query.proofs.Reading.{its-k}
+use Rattle.tree.proofs.Fielding.{laid-header}
+use Rattle.search_tree.specs.Found.{driveOf}
+use Rattle.search_tree.proofs.Calling.{query-back, asked-of, areas-last, most-of, turned-found, turned-work, turned-results}
 use Rattle.search_tree.proofs.Calling.{taken-facts, taken-found, taken-work, taken-results}
 use borrow.Author.Needs.{needs}
+use mathlib.Core.Option.{none}
 use Rattle.search_tree.proofs.answering.answer.Statement.{statement}
 use Rattle.search_tree.proofs.answering.answer.Tie as tie
 
@@ -29,12 +33,21 @@ returns c =
     let e = c .before .before .before .before .read .ensures in
     let k = c .before .before .enum-told .given .1 in
     let h = c .before .number .ensures in (
-      λ road d. turned-found _ _ _ (s .work .now) (s .results .now) _ (query-back d _ _ _ _ n _ e _ _ k h) _ (c .refused .ensures),
+      λ road d. turned-found _ _ _ _ (s .work .now) (s .results .now) _ (query-back d _ _ _ _ _ n _ e _ _ k h) _ (c .refused .ensures),
       (
-        λ road d. turned-work _ _ _ (s .work .now) (s .results .now) _ (query-back d _ _ _ _ n _ e _ _ k h),
-        λ road d. turned-results _ _ _ (s .work .now) (s .results .now) _ (query-back d _ _ _ _ n _ e _ _ k h),
+        λ road d. turned-work _ _ _ _ (s .work .now) (s .results .now) _ (query-back d _ _ _ _ _ n _ e _ _ k h),
+        λ road d. turned-results _ _ _ _ (s .work .now) (s .results .now) _ (query-back d _ _ _ _ _ n _ e _ _ k h),
       ),
     )
+
+header-requires : tie.Need-header-requires
+header-requires c κs = laid-header _ _ (c .before .before .before .before .before .before .before .before .before .before .before .before .pre .district .laid)
+
+cast-most-yards : tie.Need-cast-most-yards
+cast-most-yards c = search needs
+
+most-yards-requires : tie.Need-most-yards-requires
+most-yards-requires c κs = search needs
 
 areas-refusal-requires : tie.Need-areas-refusal-requires
 areas-refusal-requires c κs = search needs
@@ -44,30 +57,37 @@ refused-requires-2 c κs = search needs
 
 returns-2 : tie.Need-returns-2
 returns-2 c =
-    let s = c .before .before .before .before .before .before .before .before .before .before .before .before .before .before .before .args in
-    let n = c .before .before .before .before .before .before .before .junctions .ensures in
-    let e = c .before .before .before .before .before .before .read .ensures in
-    let p = c .before .before .before .before .q .given .1 in
+    let s = c .before .before .before .before .before .before .before .before .before .before .before .before .before .before .before .before .before .before .args in
+    let n = c .before .before .before .before .before .before .before .before .before .before .junctions .ensures in
+    let e = c .before .before .before .before .before .before .before .before .before .read .ensures in
+    let p = c .before .before .before .before .before .before .before .q .given .1 in
+    let l = most-of _ _ (c .before .before .before .before .before .before .before .q .given .0 .0 .k) _ (driveOf (s .goal)) (c .before .before .before .before .before .header .ensures) (c .before .before .before .most-yards .ensures) in
     let a = c .before .before .areas-refusal .ensures in
     let t = c .before .if1 .taken in (
-      λ road d. turned-found _ _ _ (s .work .now) (s .results .now) _ (areas-last d _ _ _ _ n _ e _ p _ a, t) _ (c .refused2 .ensures),
+      λ road d. turned-found _ _ _ _ (s .work .now) (s .results .now) _ (areas-last d _ (driveOf (s .goal)) _ _ _ n _ e _ p _ _ l a, t) _ (c .refused2 .ensures),
       (
-        λ road d. turned-work _ _ _ (s .work .now) (s .results .now) _ (areas-last d _ _ _ _ n _ e _ p _ a, t),
-        λ road d. turned-results _ _ _ (s .work .now) (s .results .now) _ (areas-last d _ _ _ _ n _ e _ p _ a, t),
+        λ road d. turned-work _ _ _ _ (s .work .now) (s .results .now) _ (areas-last d _ (driveOf (s .goal)) _ _ _ n _ e _ p _ _ l a, t),
+        λ road d. turned-results _ _ _ _ (s .work .now) (s .results .now) _ (areas-last d _ (driveOf (s .goal)) _ _ _ n _ e _ p _ _ l a, t),
       ),
     )
 
+rule-of-requires : tie.Need-rule-of-requires
+rule-of-requires c κs = search needs
+
 search-requires : tie.Need-search-requires
 search-requires c κs =
-    let s = c .before .before .before .before .before .before .before .before .before .before .before .before .before .before .before .before in
-    let n = c .before .before .before .before .before .before .before .before .junctions .ensures in
-    let e = c .before .before .before .before .before .before .before .read .ensures in
-    let p = c .before .before .before .before .before .q .given .1 in
-    let a = c .before .before .before .areas-refusal .ensures in
-    let z = c .before .before .if1 .left in (
+    let s = c .before .before .before .before .before .before .before .before .before .before .before .before .before .before .before .before .before .before .before .before in
+    let n = c .before .before .before .before .before .before .before .before .before .before .before .before .junctions .ensures in
+    let e = c .before .before .before .before .before .before .before .before .before .before .before .read .ensures in
+    let p = c .before .before .before .before .before .before .before .before .before .q .given .1 in
+    let l = most-of _ _ (c .before .before .before .before .before .before .before .before .before .q .given .0 .0 .k) _ (driveOf (s .args .goal)) (c .before .before .before .before .before .before .before .header .ensures) (c .before .before .before .before .before .most-yards .ensures) in
+    let a = c .before .before .before .before .areas-refusal .ensures in
+    let z = c .before .before .before .if1 .left in
+    let o = asked-of (s .pre .district) _ none 0 0 _ n _ e _ p in (
       s .pre,
-      asked-of (s .pre .district) _ 0 0 _ n _ e _ p,
-      λ road d. taken-facts _ _ _ (s .args .work .now) (s .args .results .now) _ (areas-last d _ _ _ _ n _ e _ p _ a) z,
+      o,
+      λ road d. taken-facts _ _ _ (driveOf (s .args .goal)) (s .args .work .now) (s .args .results .now) _ (areas-last d _ (driveOf (s .args .goal)) _ _ _ n _ e _ p _ _ l a) z _ _ (its-k _ _ o)
+          (c .before .before .rule-of .ensures),
     )
 
 same-length : tie.Need-same-length
@@ -78,18 +98,21 @@ same-length-2 c = search needs
 
 returns-3 : tie.Need-returns-3
 returns-3 c =
-    let far = c .before .before .before .before .before .before .before .before .before .before .before .before .before in
-    let s = far .before .before .before .before .before .before .before .before .args in
-    let n = far .junctions .ensures in
-    let e = c .before .before .before .before .before .before .before .before .before .before .before .before .read .ensures in
-    let p = c .before .before .before .before .before .before .before .before .before .before .q .given .1 in
-    let a = c .before .before .before .before .before .before .before .before .areas-refusal .ensures in
-    let z = c .before .before .before .before .before .before .before .if1 .left in
-    let f = c .before .before .before .before .search .ensures in (
-      λ road d. taken-found _ _ _ (s .work .now) (s .results .now) _ (areas-last d _ _ _ _ n _ e _ p _ a) z _ (f .0 road d),
+    let start = c .before .before .before .before .before .before .before .before .before .before .before .before .before .before .before .before .before .before .before .before .before .before .before .before .before in
+    let s = start .args in
+    let n = c .before .before .before .before .before .before .before .before .before .before .before .before .before .before .before .before .before .junctions .ensures in
+    let e = c .before .before .before .before .before .before .before .before .before .before .before .before .before .before .before .before .read .ensures in
+    let p = c .before .before .before .before .before .before .before .before .before .before .before .before .before .before .q .given .1 in
+    let l = most-of _ _ (c .before .before .before .before .before .before .before .before .before .before .before .before .before .before .q .given .0 .0 .k) _ (driveOf (s .goal)) (c .before .before .before .before .before .before .before .before .before .before .before .before .header .ensures) (c .before .before .before .before .before .before .before .before .before .before .most-yards .ensures) in
+    let a = c .before .before .before .before .before .before .before .before .before .areas-refusal .ensures in
+    let z = c .before .before .before .before .before .before .before .before .if1 .left in
+    let r = c .before .before .before .before .before .before .before .rule-of .ensures in
+    let f = c .before .before .before .before .search .ensures in
+    let k = its-k _ _ (asked-of (start .pre .district) _ none 0 0 _ n _ e _ p) in (
+      λ road d. taken-found _ _ _ (driveOf (s .goal)) (s .work .now) (s .results .now) _ (areas-last d _ (driveOf (s .goal)) _ _ _ n _ e _ p _ _ l a) z _ _ k r _ (f .0 road d),
       (
-        λ road d. taken-work _ _ _ (s .work .now) (s .results .now) _ (areas-last d _ _ _ _ n _ e _ p _ a) z _ (f .1 .0),
-        λ road d. taken-results _ _ _ (s .work .now) (s .results .now) _ (areas-last d _ _ _ _ n _ e _ p _ a) z _ (f .1 .1 road d),
+        λ road d. taken-work _ _ _ (driveOf (s .goal)) (s .work .now) (s .results .now) _ (areas-last d _ (driveOf (s .goal)) _ _ _ n _ e _ p _ _ l a) z _ (f .1 .0),
+        λ road d. taken-results _ _ _ (driveOf (s .goal)) (s .work .now) (s .results .now) _ (areas-last d _ (driveOf (s .goal)) _ _ _ n _ e _ p _ _ l a) z _ _ k r _ (f .1 .1 road d),
       ),
     )
 
@@ -104,9 +127,13 @@ answer-spec =
     number-requires
     refused-requires
     returns
+    header-requires
+    cast-most-yards
+    most-yards-requires
     areas-refusal-requires
     refused-requires-2
     returns-2
+    rule-of-requires
     search-requires
     same-length
     same-length-2

@@ -14,12 +14,12 @@ mul-if2 c = search needs
 returns-2 : tie.Need-returns-2
 returns-2 c =
     let a = c .before .before .args in
-    sym (short-results (a .k) (a .work) (a .results) (c .before .if1 .left) (omega (arith, c .if2 .taken)))
+    sym (short-results (a .yards) (a .work) (a .results) (c .before .if1 .left) (omega (arith, c .if2 .taken)))
 
 returns-3 : tie.Need-returns-3
 returns-3 c =
     let a = c .before .before .args in
-    sym (long-enough (a .k) (a .work) (a .results) (c .before .if1 .left) (omega (arith, c .if2 .left)))
+    sym (long-enough (a .yards) (a .work) (a .results) (c .before .if1 .left) (omega (arith, c .if2 .left)))
 
 pub areas-refusal-spec : {M : Type 1} → statement M
 areas-refusal-spec = tie.close (tie.spec returns mul-if2 returns-2 returns-3)

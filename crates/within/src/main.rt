@@ -1,0 +1,36 @@
+// Reads decimal seconds and a line end, then a road book, a tree book and a query book from standard input, and writes
+// the yards within those seconds, or that the search is spent, or that it is refused. The whole text is made first, and
+// then written.
+mod line; // line.rt: the seconds in the first line
+
+use line::Seconds;
+use search_tree::Goal;
+use streams::Read;
+ghost use mathlib.Core.Path.{_≡_};
+ghost use Prim.Native.Nat.{_≤_};
+ghost use lib.ListN.{length, take};
+ghost use Rattle.within.specs.Output.{withinText};
+
+// Makes the text that the input leads to, at the start of an array, and answers its length.
+fn text_of(input: &[u8], out: &mut [u8]) -> usize
+    requires { ⌜ 65536 ≤ length (now out) ⌝ }
+    ensures text { λ r. ⌜ take r (now (out .exit)) ≡ withinText (now (input .entry)) ⌝ }
+    ensures fits { λ r. ⌜ r ≤ 65536 ⌝ }
+{
+    let Seconds::Given(seconds) = line::seconds_in(input) else {
+        return text::put_refused(out, 0, 1);
+    };
+    let start = line::line_length(input) + 1;
+    let mut results = [0u32; 512];
+    listing::put(&input[start..], Goal::InDrive(seconds), &mut results, out)
+}
+
+fn main() {
+    let mut input = io::large_buffer();
+    let Read::Bytes(n) = streams::read_input(&mut input) else {
+        return;
+    };
+    let mut out = io::large_buffer();
+    let end = text_of(&input[..n], &mut out);
+    streams::write_output(&out[..end]);
+}
