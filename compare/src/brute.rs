@@ -2,6 +2,7 @@
 
 use crate::query::{Aggregate, Query};
 use crate::road::RoadBook;
+use crate::search::Asked;
 use crate::tree::{Region, Tree};
 
 /// "the least total of seconds over all walks": roads are relaxed until nothing changes.
@@ -69,9 +70,18 @@ pub fn within(all: &[Vec<u64>], yards: &[u16], query: &Query, seconds: u32) -> V
     ranked
 }
 
-/// The list of a search for k yards on a tree that passes.
-pub fn list(road: &RoadBook, tree: &Tree, query: &Query) -> Vec<(u64, u16)> {
-    first_k(&crew_distances(road, query), &tree.yards_of(0), query)
+/// The first k yards or those within the drive, as is asked.
+pub fn listed(asked: Asked, all: &[Vec<u64>], yards: &[u16], query: &Query) -> Vec<(u64, u16)> {
+    match asked {
+        Asked::FirstK => first_k(all, yards, query),
+        Asked::Within(seconds) => within(all, yards, query, seconds),
+    }
+}
+
+/// The list of a search on a tree that passes.
+pub fn list(asked: Asked, road: &RoadBook, tree: &Tree, query: &Query) -> Vec<(u64, u16)> {
+    let all = crew_distances(road, query);
+    listed(asked, &all, &tree.yards_of(0), query)
 }
 
 /// The crews' distances, each at its junction's place; the others are left out.

@@ -113,16 +113,8 @@ fn assert_search(books: &Books, found: &Found, list: &[(u64, u16)]) {
     }
     match (found.settled, passes) {
         (0, _) => assert!(list.is_empty()),
-        (_, true) => assert_eq!(list, expected(books.asked, &all, &yards, &query)),
+        (_, true) => assert_eq!(list, brute::listed(books.asked, &all, &yards, &query)),
         (_, false) => assert_true_list(books.asked, &all, &yards, &query, list),
-    }
-}
-
-/// "exactly the first k of the tree's yards (or all if fewer)"; "exactly the tree's yards within the drive".
-fn expected(asked: Asked, all: &[Vec<u64>], yards: &[u16], query: &Query) -> Vec<(u64, u16)> {
-    match asked {
-        Asked::FirstK => brute::first_k(all, yards, query),
-        Asked::Within(seconds) => brute::within(all, yards, query, seconds),
     }
 }
 
@@ -206,7 +198,7 @@ fn full_size_by_brute_force() {
         for asked in drives.chain([Asked::FirstK]) {
             let mut results = [0; 512];
             let found = ask(asked, books.all(), &mut [0; WORK_WORDS], &mut results);
-            let expected = expected(asked, &all, &tree.yards_of(0), &query);
+            let expected = brute::listed(asked, &all, &tree.yards_of(0), &query);
             assert_eq!(listed(&found, &results), expected, "{kind} {asked:?}");
         }
     }

@@ -2,8 +2,7 @@
 
 use std::collections::BTreeMap;
 
-use compare::query;
-use compare::yard;
+use compare::{query, Asked};
 
 use super::books::Books;
 use super::calls::{self, Searched};
@@ -11,12 +10,10 @@ use super::district::{District, SETTLING_LIMIT};
 use super::fault::Fault;
 use super::refusal;
 
-/// The greatest k.
-const MOST_LISTED: usize = 64;
-
-/// The books, and what the proved search answers.
+/// The books, what is asked of them, and what the proved search answers.
 pub struct Answer {
     pub books: Books,
+    pub asked: Asked,
     pub searched: Searched,
 }
 
@@ -24,16 +21,21 @@ impl Answer {
     /// Builds, checks and searches.
     pub fn new(district: &District) -> Result<Self, Fault> {
         let books = Books::new(district)?;
-        let searched = calls::search(&books.road, &books.tree, &books.query).map_err(refused)?;
-        Ok(Answer { books, searched })
+        let asked = district.settings.wanted.asked();
+        let searched = calls::search(asked, books.searched()).map_err(refused)?;
+        Ok(Answer {
+            books,
+            asked,
+            searched,
+        })
     }
 
-    /// Each crew's seconds to some yards; the aggregate of a listed yard's has to be what the list says.
-    pub fn seconds(&self, district: &District, yards: &[u16]) -> Result<Seconds, Fault> {
-        let seconds = seconds(district, &self.books.road, yards)?;
+    /// Each crew's seconds to every yard; the aggregate of a listed yard's has to be what the list says.
+    pub fn seconds(&self, district: &District) -> Result<Seconds, Fault> {
+        let seconds = seconds(district, &self.books)?;
         let differs = |&&(yard, listed): &&(u16, u32)| {
             let crews = seconds.get(&yard);
-            crews.is_some_and(|crews| aggregate(district, crews) != u64::from(listed))
+            crews.is_none_or(|crews| aggregate(district, crews) != u64::from(listed))
         };
         match self.searched.list.iter().find(differs) {
             None => Ok(seconds),
@@ -54,20 +56,15 @@ pub fn aggregate(district: &District, seconds: &[u32]) -> u64 {
     district.settings.aggregate.over(values)
 }
 
-/// Each crew's seconds to some yards: proved searches for one crew at a time, in a tree of these yards, list them all.
-fn seconds(district: &District, road: &[u8], yards: &[u16]) -> Result<Seconds, Fault> {
+/// Each crew's seconds to every yard: proved searches for one crew at a time, within any drive, list them all.
+fn seconds(district: &District, books: &Books) -> Result<Seconds, Fault> {
     let mut all = Seconds::new();
-    for yards in yards.chunks(MOST_LISTED) {
-        let mut yards = yards.to_vec();
-        yards.sort_unstable();
-        let tree =
-            calls::build(road, &yard::write(&yards), 1, MOST_LISTED as u32).map_err(refused)?;
-        for &crew in &district.crews {
-            let query = query::write(0, MOST_LISTED as u8, SETTLING_LIMIT, &[crew]);
-            let searched = calls::search(road, &tree, &query).map_err(refused)?;
-            for (yard, seconds) in searched.list {
-                all.entry(yard).or_default().push(seconds);
-            }
+    for &crew in &district.crews {
+        let query = query::write(0, 1, SETTLING_LIMIT, &[crew]);
+        let alone = [&books.road[..], &books.tree, &query];
+        let searched = calls::search(Asked::Within(u32::MAX), alone).map_err(refused)?;
+        for (yard, seconds) in searched.list {
+            all.entry(yard).or_default().push(seconds);
         }
     }
     Ok(all)

@@ -5,7 +5,7 @@ use std::path::Path;
 use compare::book::u16_at;
 
 use super::books::{query_book, road_book, yard_and_tree};
-use super::district::{counted, District};
+use super::district::{counted, told_seconds, District, Wanted};
 use super::fault::Fault;
 use super::output::Output;
 use super::table::{table, Side};
@@ -64,10 +64,19 @@ fn told(district: &District, name: &str, book: &[u8]) -> String {
                 settings.leaf
             )
         }
-        _ => format!(
-            "{}, at most {}",
-            district.asked(),
-            counted(settings.limit as usize, "step")
+        _ => told_query(district),
+    }
+}
+
+/// What the query book holds; a drive's seconds are not in it.
+fn told_query(district: &District) -> String {
+    let limit = counted(district.settings.limit as usize, "step");
+    match district.settings.wanted {
+        Wanted::First(_) => format!("{}, at most {limit}", district.asked()),
+        Wanted::Within(seconds) => format!(
+            "{}, at most {limit}; without the {}, which finder_within takes",
+            district.over(),
+            told_seconds(seconds)
         ),
     }
 }

@@ -30,6 +30,11 @@ impl Books {
             query,
         })
     }
+
+    /// The books that a search reads.
+    pub fn searched(&self) -> [&[u8]; 3] {
+        [&self.road, &self.tree, &self.query]
+    }
 }
 
 /// A file that has not what a search needs.
@@ -73,6 +78,7 @@ pub fn query_book(district: &District) -> Option<Vec<u8>> {
         Aggregate::Sum => 0,
         Aggregate::Maximum => 1,
     };
-    let book = || query::write(code, settings.first, settings.limit, &district.crews);
+    let k = settings.wanted.k();
+    let book = || query::write(code, k, settings.limit, &district.crews);
     (!district.crews.is_empty()).then(book)
 }

@@ -2,10 +2,10 @@
 
 use compare::build::AREA_BYTES;
 use compare::refusal::WORK_WORDS;
-use compare::{yard, Found};
+use compare::{yard, Asked, Found};
 
-/// The words of a result area for the greatest k.
-pub const RESULT_WORDS: usize = 128;
+/// The words of a result area for any list, `FINDER_WITHIN_WORDS` of the header.
+pub const RESULT_WORDS: usize = 512;
 
 /// A settled or spent search; the list has a yard and its seconds, and is empty if spent.
 #[derive(Clone, Debug, PartialEq, Eq)]
@@ -33,11 +33,11 @@ pub fn build(road: &[u8], yard: &[u8], landmarks: u32, leaf: u32) -> Result<Vec<
     Ok(tree)
 }
 
-/// The proved search.
-pub fn search(road: &[u8], tree: &[u8], query: &[u8]) -> Result<Searched, u32> {
+/// The proved search of a road, a tree and a query book.
+pub fn search(asked: Asked, books: [&[u8]; 3]) -> Result<Searched, u32> {
     let mut work = vec![0; WORK_WORDS];
     let mut results = vec![0; RESULT_WORDS];
-    let found = crate::search(road, tree, query, &mut work, &mut results);
+    let found = crate::ask(asked, books, &mut work, &mut results);
     accepted(found.refusal)?;
     let listed = results.chunks_exact(2).take(found.listed as usize);
     let list = listed.map(|words| (words[0] as u16, words[1])).collect();

@@ -14,8 +14,8 @@ use super::{bookfiles, draw, list, text, why};
 
 /// How the program is called.
 pub const USAGE: &str = "\
-usage: dispatch list FILE           the yards with the least drive, each crew's seconds beside them
-       dispatch why FILE [YARD]     each step of the search, and who beat the yards that were left out
+usage: dispatch list FILE           the yards with the least drive or within one, each crew's seconds beside them
+       dispatch why FILE [YARD]     each step of the search, and why yards were left out
        dispatch draw FILE           the district for Graphviz
        dispatch books FILE FOLDER   writes road.book, yard.book, tree.book and query.book
        dispatch text ROAD [YARD]    books as text

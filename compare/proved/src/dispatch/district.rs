@@ -2,6 +2,7 @@
 
 use compare::query::Aggregate;
 use compare::road::Road;
+use compare::Asked;
 
 use super::junctions::Junctions;
 
@@ -22,7 +23,7 @@ pub struct District {
 #[derive(Clone, Copy, Debug, PartialEq, Eq)]
 pub struct Settings {
     pub aggregate: Aggregate,
-    pub first: u8,
+    pub wanted: Wanted,
     pub limit: u32,
     pub landmarks: u32,
     pub leaf: u32,
@@ -33,10 +34,45 @@ impl Default for Settings {
     fn default() -> Self {
         Settings {
             aggregate: Aggregate::Sum,
-            first: 1,
+            wanted: Wanted::First(1),
             limit: SETTLING_LIMIT,
             landmarks: 4,
             leaf: 16,
+        }
+    }
+}
+
+/// Which yards are wanted.
+#[derive(Clone, Copy, Debug, PartialEq, Eq)]
+pub enum Wanted {
+    /// The first so many.
+    First(u8),
+    /// All within so many seconds.
+    Within(u32),
+}
+
+impl Wanted {
+    /// The search that lists them.
+    pub fn asked(self) -> Asked {
+        match self {
+            Wanted::First(_) => Asked::FirstK,
+            Wanted::Within(seconds) => Asked::Within(seconds),
+        }
+    }
+
+    /// The query book's k, which a drive search does not use.
+    pub fn k(self) -> u8 {
+        match self {
+            Wanted::First(k) => k,
+            Wanted::Within(_) => 1,
+        }
+    }
+
+    /// What holds of a wanted yard, in words.
+    pub fn told(self) -> String {
+        match self {
+            Wanted::First(count) => format!("among the first {count}"),
+            Wanted::Within(seconds) => format!("within {}", told_seconds(seconds)),
         }
     }
 }
@@ -48,21 +84,28 @@ impl District {
         junctions.iter().map(label).collect()
     }
 
-    /// The query in words.
-    pub fn asked(&self) -> String {
+    /// The aggregate and the crews in words.
+    pub fn over(&self) -> String {
         let aggregate = match self.settings.aggregate {
             Aggregate::Sum => "sum",
             Aggregate::Maximum => "maximum",
         };
-        let (crews, yards) = (
-            counted(self.crews.len(), "crew"),
-            counted(self.yards.len(), "yard"),
-        );
-        format!(
-            "{aggregate} over {crews}, first {} of {yards}",
-            self.settings.first
-        )
+        format!("{aggregate} over {}", counted(self.crews.len(), "crew"))
     }
+
+    /// All that is asked in words.
+    pub fn asked(&self) -> String {
+        let (over, yards) = (self.over(), counted(self.yards.len(), "yard"));
+        match self.settings.wanted {
+            Wanted::First(count) => format!("{over}, first {count} of {yards}"),
+            within => format!("{over}, {}, of {yards}", within.told()),
+        }
+    }
+}
+
+/// A drive's seconds with their noun.
+pub fn told_seconds(seconds: u32) -> String {
+    counted(seconds as usize, "second")
 }
 
 /// A count with its noun: `1 yard`, `2 yards`.

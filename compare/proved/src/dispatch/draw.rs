@@ -49,7 +49,7 @@ type Ways = BTreeMap<(u16, u16), Vec<usize>>;
 /// The district as an undirected graph.
 pub fn draw(district: &District) -> Result<Output, Fault> {
     let answer = Answer::new(district)?;
-    let seconds = answer.seconds(district, &district.yards)?;
+    let seconds = answer.seconds(district)?;
     let trace = Trace::new(&answer)?;
     let ways = ways(district, &answer, &seconds)?;
     let drawing = Drawing {
@@ -67,7 +67,7 @@ pub fn draw(district: &District) -> Result<Output, Fault> {
     Ok(Output::text(drawing.graph()).with_status(status))
 }
 
-/// Each crew's way to the first yard of the list, as long as the proved call says; none if there is no list.
+/// Each crew's way to the first yard of the list, as long as the proved call says; none if no yard is listed.
 fn ways(district: &District, answer: &Answer, seconds: &Seconds) -> Result<Ways, Fault> {
     let mut ways = Ways::new();
     let Some(&(yard, _)) = answer.searched.list.first() else {

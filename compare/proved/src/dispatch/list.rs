@@ -15,7 +15,10 @@ pub fn list(district: &District) -> Result<Output, Fault> {
         let text = format!("{asked}\nspent: no list, {counts}\n");
         return Ok(Output::text(text).with_status(SPENT));
     }
-    let rows = rows(district, &answer)?;
+    let rows = match answer.searched.list.is_empty() {
+        true => format!("no yard is {}\n", district.settings.wanted.told()),
+        false => rows(district, &answer)?,
+    };
     Ok(Output::text(format!("{asked}\n{rows}{counts}\n")))
 }
 
@@ -29,8 +32,7 @@ pub fn counts(district: &District, answer: &Answer) -> String {
 
 /// A row for each listed yard: place, yard, seconds, and the seconds of each crew from where it stands.
 fn rows(district: &District, answer: &Answer) -> Result<String, Fault> {
-    let yards: Vec<u16> = answer.searched.list.iter().map(|&(yard, _)| yard).collect();
-    let seconds = answer.seconds(district, &yards)?;
+    let seconds = answer.seconds(district)?;
     let from = |label: String| format!("from {label}");
     let mut rows = vec![["place", "yard", "seconds"].map(String::from).to_vec()];
     rows[0].extend(district.labels(&district.crews).into_iter().map(from));

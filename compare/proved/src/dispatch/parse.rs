@@ -6,7 +6,7 @@ use compare::query::Aggregate;
 use compare::road::{Road, MOST_ROADS};
 use compare::yard::MOST_YARDS;
 
-use super::district::{counted, District, Settings};
+use super::district::{counted, District, Settings, Wanted};
 use super::junctions::Junctions;
 use super::lines::{bad, lines, shown, BadLine, Line};
 use super::number::Kind;
@@ -25,6 +25,10 @@ const JUNCTIONS: Kind = Kind {
 const FIRST: Kind = Kind {
     name: "a number of yards",
     range: 1..=64,
+};
+const DRIVE: Kind = Kind {
+    name: "seconds",
+    range: 0..=u32::MAX,
 };
 const LIMIT: Kind = Kind {
     name: "a number of steps",
@@ -77,9 +81,10 @@ impl Reading {
             "sum" => self.aggregate(line, Aggregate::Sum),
             "maximum" => self.aggregate(line, Aggregate::Maximum),
             "junctions" => self.least_junctions(line),
-            "first" | "limit" | "landmarks" | "leaf" => self.setting(line),
+            "first" | "within" => self.wanted(line),
+            "limit" | "landmarks" | "leaf" => self.setting(line),
             _ => Err(line.bad(format!(
-                "expected road, yard, crew, sum, maximum, first, limit, junctions, landmarks or leaf, not {}",
+                "expected road, yard, crew, sum, maximum, first, within, limit, junctions, landmarks or leaf, not {}",
                 shown(word)
             ))),
         }
@@ -151,6 +156,18 @@ impl Reading {
         Ok(())
     }
 
+    /// `first NUMBER` or `within SECONDS`.
+    fn wanted(&mut self, line: &Line) -> Result<(), BadLine> {
+        self.settings.wanted = if line.words[0] == "first" {
+            let [word] = after(line, "first NUMBER")?;
+            Wanted::First(FIRST.read(word, line)? as u8)
+        } else {
+            let [word] = after(line, "within SECONDS")?;
+            Wanted::Within(DRIVE.read(word, line)?)
+        };
+        self.once("first or within", line)
+    }
+
     /// `junctions N`.
     fn least_junctions(&mut self, line: &Line) -> Result<(), BadLine> {
         let [word] = after(line, "junctions NUMBER")?;
@@ -159,13 +176,12 @@ impl Reading {
         self.junctions.at_least(count as u16, line)
     }
 
-    /// `first N`, `limit N`, `landmarks N` or `leaf N`.
+    /// `limit N`, `landmarks N` or `leaf N`.
     fn setting(&mut self, line: &Line) -> Result<(), BadLine> {
         let name = line.words[0];
         let [word] = after(line, &format!("{name} NUMBER"))?;
         let settings = &mut self.settings;
         match name {
-            "first" => settings.first = FIRST.read(word, line)? as u8,
             "limit" => settings.limit = LIMIT.read(word, line)?,
             "landmarks" => settings.landmarks = LANDMARKS.read(word, line)?,
             _ => settings.leaf = LEAF.read(word, line)?,

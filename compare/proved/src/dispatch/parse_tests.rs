@@ -5,7 +5,7 @@ use compare::query::Aggregate;
 use compare::road::{self, Road};
 use compare::yard;
 
-use super::district::{District, Settings};
+use super::district::{District, Settings, Wanted};
 use super::parse::parse;
 
 /// The district of a text that is as it has to be.
@@ -58,7 +58,7 @@ fn settings() {
         read("maximum\nfirst 64\nlimit 4294967295\nlandmarks 1\nleaf 256\njunctions 5\nyard 0");
     let wanted = Settings {
         aggregate: Aggregate::Maximum,
-        first: 64,
+        wanted: Wanted::First(64),
         limit: u32::MAX,
         landmarks: 1,
         leaf: 256,
@@ -66,6 +66,39 @@ fn settings() {
     assert_eq!(district.settings, wanted);
     assert_eq!(district.junctions.count(), 5);
     assert_eq!(read("limit 0\nyard 3\njunctions 2").junctions.count(), 4);
+}
+
+#[test]
+fn a_drive() {
+    for seconds in [0, 300, u32::MAX] {
+        let district = read(&format!("yard 0\nwithin {seconds}"));
+        assert_eq!(district.settings.wanted, Wanted::Within(seconds));
+    }
+    for word in ["4294967296", "-1", "300s", "1.5"] {
+        assert_fault(
+            format!("within {word}"),
+            1,
+            &format!("expected seconds from 0 to 4294967295, not `{word}`"),
+        );
+    }
+    assert_fault(
+        "within 5 minutes",
+        1,
+        "expected `within SECONDS`, not 2 words after `within`",
+    );
+}
+
+#[test]
+fn first_or_within() {
+    for one in ["first 2", "within 300"] {
+        for other in ["first 2", "within 300"] {
+            assert_fault(
+                format!("{one}\n\n{other}"),
+                3,
+                "expected first or within once: line 1 says it too",
+            );
+        }
+    }
 }
 
 #[test]
@@ -238,7 +271,7 @@ fn the_same_twice() {
         "expected sum or maximum once: line 1 says it too",
     );
     assert_fault("sum\nsum", 2, "expected sum or maximum once");
-    for setting in ["first", "limit", "landmarks", "leaf", "junctions"] {
+    for setting in ["limit", "landmarks", "leaf", "junctions"] {
         let text = format!("{setting} 2\n{setting} 2");
         assert_fault(
             text,

@@ -4,7 +4,7 @@ use std::collections::BTreeSet;
 
 use compare::refusal::WORK_WORDS;
 use compare::search::state::{true_distance, Item, State};
-use compare::search::{found, run_seen, tested, Asked, Outcome, Search};
+use compare::search::{found, run_seen, tested, Outcome, Search};
 use compare::{brute, road};
 
 use super::answer::Answer;
@@ -55,13 +55,8 @@ impl Trace {
     /// The plain finder's search of the same books; its answer has to be the proved one, and brute force's.
     pub fn new(answer: &Answer) -> Result<Self, Fault> {
         let books = &answer.books;
-        let search = tested(
-            Asked::FirstK,
-            [&books.road, &books.tree, &books.query],
-            WORK_WORDS,
-            RESULT_WORDS,
-        )
-        .map_err(|number| Fault::failed(by_rule(number, "the plain finder, of sound books")))?;
+        let search = tested(answer.asked, books.searched(), WORK_WORDS, RESULT_WORDS)
+            .map_err(|number| Fault::failed(by_rule(number, "the plain finder, of sound books")))?;
         let mut seen = Vec::new();
         let outcome = run_seen(&search, |state| seen.push(Seen::new(state)));
         seen.push(Seen::new(&outcome.state));
@@ -97,7 +92,13 @@ impl Trace {
     fn brute(&self, books: &Books) -> Result<Vec<(u64, u16)>, Fault> {
         let road = road::read(&books.road)
             .map_err(|number| Fault::failed(by_rule(number, "road book")))?;
-        Ok(brute::list(&road, &self.search.tree, &self.search.query))
+        let search = &self.search;
+        Ok(brute::list(
+            search.asked,
+            &road,
+            &search.tree,
+            &search.query,
+        ))
     }
 
     /// The step, counted from 1, in which a yard was measured.

@@ -1,9 +1,9 @@
-//! What `dispatch why` prints: each step, what was never measured, and who beat the yards that were left out.
+//! What `dispatch why` prints: each step, what was never measured, and why yards were left out.
 
 use compare::search::state::Item;
 
 use super::answer::{aggregate, Answer, Seconds};
-use super::district::{counted, District};
+use super::district::{counted, told_seconds, District, Wanted};
 use super::fault::{Fault, SPENT};
 use super::lines::shown;
 use super::list::counts;
@@ -25,7 +25,7 @@ pub fn why(district: &District, yard: Option<&str>) -> Result<Output, Fault> {
     let answer = Answer::new(district)?;
     let story = Story {
         district,
-        seconds: answer.seconds(district, &district.yards)?,
+        seconds: answer.seconds(district)?,
         trace: Trace::new(&answer)?,
         answer,
     };
@@ -85,7 +85,7 @@ impl Story<'_> {
     fn measuring(&self, item: Item, measured: &Measured) -> String {
         let standing = match measured.place {
             Some(place) => format!("place {} so far", place + 1),
-            None => format!("not among the first {}", self.district.settings.first),
+            None => format!("not {}", self.district.settings.wanted.told()),
         };
         let off = measured
             .put_off
@@ -99,13 +99,18 @@ impl Story<'_> {
 
     /// Why the search ended.
     fn end(&self) -> String {
-        let outcome = &self.trace.outcome;
-        let limit = counted(self.district.settings.limit as usize, "step");
-        let why = match outcome.state.held.last() {
+        let (settings, outcome) = (&self.district.settings, &self.trace.outcome);
+        let limit = counted(settings.limit as usize, "step");
+        let left = !outcome.state.queue.is_empty();
+        let why = match (settings.wanted, outcome.state.held.last()) {
             _ if !outcome.settled => format!("spent: no list, the limit is {limit}"),
-            Some((seconds, yard)) if !outcome.state.queue.is_empty() => {
+            (Wanted::First(_), Some((seconds, yard))) if left => {
                 let last = self.yard(*yard);
                 format!("settled: every key left is above {seconds}, the seconds of {last}")
+            }
+            (Wanted::Within(seconds), _) if left => {
+                let seconds = told_seconds(seconds);
+                format!("settled: every key left is above the {seconds}")
             }
             _ => "settled: the queue is empty".to_string(),
         };
@@ -144,7 +149,7 @@ impl Story<'_> {
             .copied()
             .filter(|yard| !listed(yard));
         let lines: String = left_out
-            .filter_map(|yard| self.beaten(yard))
+            .filter_map(|yard| self.left_out(yard))
             .map(|line| format!("  {line}\n"))
             .collect();
         match lines.is_empty() {
@@ -154,12 +159,12 @@ impl Story<'_> {
         }
     }
 
-    /// Where a yard stands on the list or who beat it, and when it was measured.
+    /// Where a yard stands on the list or why it was left out, and when it was measured.
     fn one_yard(&self, yard: u16) -> String {
         let standing = match self.answer.searched.place(yard) {
             Some(place) => format!("{}: place {place}", self.drives(yard)),
             None => self
-                .beaten(yard)
+                .left_out(yard)
                 .unwrap_or_else(|| format!("{}: no list", self.drives(yard))),
         };
         let measured = match self.trace.measured_in(yard) {
@@ -169,19 +174,29 @@ impl Story<'_> {
         format!("{standing}; {measured}\n")
     }
 
-    /// Who beat a yard that was left out, and by how much; nobody if there is no list.
-    fn beaten(&self, yard: u16) -> Option<String> {
-        let &(by, best) = self.answer.searched.list.last()?;
-        let behind = aggregate(self.district, &self.seconds[&yard]) - u64::from(best);
-        let ahead = match behind {
-            0 => format!("the same {best} and the lower number"),
-            _ => format!("{best}, {behind} less"),
+    /// Why a yard was left out: who beat it, or how far it is above the drive's seconds; nothing if there is no list.
+    fn left_out(&self, yard: u16) -> Option<String> {
+        if !self.trace.outcome.settled {
+            return None;
+        }
+        let total = aggregate(self.district, &self.seconds[&yard]);
+        let why = match self.district.settings.wanted {
+            Wanted::First(_) => self.beaten(total, self.answer.searched.list.last()?),
+            Wanted::Within(seconds) => {
+                let above = total - u64::from(seconds);
+                format!("{above} above the {}", told_seconds(seconds))
+            }
         };
-        Some(format!(
-            "{}: beaten by {} with {ahead}",
-            self.drives(yard),
-            self.yard(by)
-        ))
+        Some(format!("{}: {why}", self.drives(yard)))
+    }
+
+    /// Who beat a yard with these seconds, and by how much.
+    fn beaten(&self, total: u64, &(by, best): &(u16, u32)) -> String {
+        let ahead = match total - u64::from(best) {
+            0 => format!("the same {best} and the lower number"),
+            behind => format!("{best}, {behind} less"),
+        };
+        format!("beaten by {} with {ahead}", self.yard(by))
     }
 
     /// A yard with its seconds and each crew's.

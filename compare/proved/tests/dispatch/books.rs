@@ -92,6 +92,17 @@ query.book  16 bytes  sum over 2 crews, first 2 of 3 yards, at most 4 steps
 }
 
 #[test]
+fn a_drive_is_not_in_the_query_book() {
+    let folder = folder("drive");
+    let text = printed(&["books", told(&example("none-within")), told(&folder)], 0);
+    let line = "query.book  16 bytes  sum over 2 crews, at most 767 steps; \
+                without the 4 seconds, which finder_within takes\n";
+    assert!(text.ends_with(line), "{text}");
+    let query = [0, 0, 0, 12, 1, 0, 1, 0, 0, 2, 255, 2, 0, 0, 0, 2];
+    assert_eq!(fs::read(folder.join("query.book")).unwrap(), query);
+}
+
+#[test]
 fn names_are_told_with_their_numbers() {
     let text = printed(
         &[

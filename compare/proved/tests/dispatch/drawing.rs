@@ -19,6 +19,18 @@ fn the_drawing_tells_yards_apart() {
 }
 
 #[test]
+fn a_drive_is_drawn() {
+    let text = printed(&["draw", told(&example("within"))], 0);
+    let has = |part: &str| assert!(text.contains(part), "no {part} in {text}");
+    has("label=\"sum over 2 crews, within 270 seconds, of 6 yards\\nmeasured 3 of 6 yards in 8 steps\\n");
+    has("j3 [label=\"ring\\n1. yard: 270 s\", shape=box, style=filled, fillcolor=\"#9bdc9b\"];");
+    has("j4 [label=\"gate\\n2. yard: 270 s\", shape=box, style=filled, fillcolor=\"#9bdc9b\"];");
+    has("j5 [label=\"farm\\nyard: 470 s\", shape=box, style=filled, fillcolor=\"#ffe79a\"];");
+    let text = printed(&["draw", told(&example("none-within"))], 0);
+    assert!(!text.contains("penwidth=3"), "{text}");
+}
+
+#[test]
 fn drawings_are_rendered() {
     if Command::new("dot").arg("-V").output().is_err() {
         // Straight to standard error, since the output of a test that passes is not shown.

@@ -1,6 +1,8 @@
 //! The examples: what `list` and `why` are expected to print.
 
-use crate::command::{example, examples, expected, printed, refused, told};
+use std::fs;
+
+use crate::command::{example, examples, expected, folder, printed, refused, told};
 
 /// The status of an example's commands: 3 if it is spent.
 fn status(text: &str) -> i32 {
@@ -62,6 +64,18 @@ fn one_yard_is_explained() {
         "yard farm, 470 seconds (190 from harbour, 280 from station): beaten by yard gate with 270, 200 less; \
          measured in step 6"
     );
+    assert_eq!(
+        last("within", "gate"),
+        "yard gate, 270 seconds (90 from harbour, 180 from station): place 2; measured in step 7"
+    );
+    assert_eq!(
+        last("within", "farm"),
+        "yard farm, 470 seconds (190 from harbour, 280 from station): 200 above the 270 seconds; measured in step 8"
+    );
+    assert_eq!(
+        last("none-within", "1"),
+        "yard 1, 5 seconds (2 from 0, 3 from 2): 1 above the 4 seconds; never measured"
+    );
     let file = example("net-n");
     for yard in ["2", "5", "depot", "-1", "+3", ""] {
         let fault = refused(&["why", told(&file), yard], 2);
@@ -88,4 +102,45 @@ fn a_spent_search_is_explained() {
         text.ends_with("yard 4, 15 seconds (10 from 0, 5 from 2): no list; never measured\n"),
         "{text}"
     );
+}
+
+#[test]
+fn a_spent_drive_is_explained() {
+    let file = folder("spent-drive").join("spent.district");
+    let text = fs::read_to_string(example("within")).unwrap();
+    fs::write(&file, text + "limit 7\n").unwrap();
+    assert_eq!(
+        printed(&["list", told(&file)], 3),
+        "sum over 2 crews, within 270 seconds, of 6 yards\nspent: no list, measured 2 of 6 yards in 7 steps\n"
+    );
+    let text = printed(&["why", told(&file)], 3);
+    assert!(
+        text.contains("\nspent: no list, the limit is 7 steps; measured 2 of 6 yards in 7 steps\n"),
+        "{text}"
+    );
+    assert!(text.ends_with("\nspent: no yard is on a list\n"), "{text}");
+    let text = printed(&["why", told(&file), "gate"], 3);
+    assert!(text.ends_with(": no list; measured in step 7\n"), "{text}");
+}
+
+#[test]
+fn every_drive_is_told() {
+    let file = folder("every-drive").join("one.district");
+    let told_of = |seconds: &str| {
+        fs::write(
+            &file,
+            format!("road 0 1 1\nyard 1\ncrew 0\nwithin {seconds}"),
+        )
+        .unwrap();
+        printed(&["list", told(&file)], 0)
+    };
+    assert_eq!(
+        told_of("0"),
+        "sum over 1 crew, within 0 seconds, of 1 yard\nno yard is within 0 seconds\nmeasured 0 of 1 yard in 0 steps\n"
+    );
+    let listed = "place  yard  seconds  from 0\n    1  1           1       1\nmeasured 1 of 1 yard in 2 steps\n";
+    for (seconds, told) in [("1", "1 second"), ("4294967295", "4294967295 seconds")] {
+        let asked = format!("sum over 1 crew, within {told}, of 1 yard\n");
+        assert_eq!(told_of(seconds), asked + listed);
+    }
 }

@@ -7,7 +7,7 @@ use std::process::Stdio;
 use crate::command::{command, example, expected, folder, grid, printed, refused, told, BOOKS};
 
 /// Texts that are not as they have to be, and how their faults begin after the file's name.
-const BAD: [(&str, &str); 6] = [
+const BAD: [(&str, &str); 8] = [
     (
         "road 0 1 5\nroad 1 2 0",
         ":2: expected seconds from 1 to 65535, not `0`\n",
@@ -15,6 +15,14 @@ const BAD: [(&str, &str); 6] = [
     (
         "road 0 1 5\n\nroad 1 0 7",
         ":3: expected each road once: line 1 has `1` and `0` too\n",
+    ),
+    (
+        "yard 0\ncrew 0\nfirst 2\nwithin 300",
+        ":4: expected first or within once: line 3 says it too\n",
+    ),
+    (
+        "yard 0\ncrew 0\nwithin 4294967296",
+        ":3: expected seconds from 0 to 4294967295, not `4294967296`\n",
     ),
     ("", ":1: expected a road, a yard or a crew"),
     (
