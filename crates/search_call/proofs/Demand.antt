@@ -1,20 +1,17 @@
 -- Demand 3, and what is promised beside it. Assumes nothing.
 use mathlib.Core.Bool.{not}
-use mathlib.Core.Path.{_≡_, refl, sym, ap, _∙_}
-use mathlib.Core.List.{List, [], _∷_, _++_, map, List·Memᴰ as Mem, List·Memᴰ·head as head, List·Memᴰ·tail as tail}
+use mathlib.Core.Path.{_≡_, ap, _∙_}
+use mathlib.Core.List.{List, _++_, List·Memᴰ as Mem}
 use mathlib.Core.Option.{Option, none, some, Option·some-ne-none, Option·none-ne-some, Option·some-injective}
 use Prim.Native.Nat.{ℕ, _+_, _≤_}
 use native.Mathlib.Omega.{arith}
 use lib.ListN.{length, drop}
 use lib.Dec.{T, not-T}
 use Rattle.book.specs.Bytes.{Bytes}
-use Rattle.book.specs.Lists.{Distinct}
 use Rattle.book.specs.Writing.{write}
-use Rattle.book.proofs.Lists.{map-mem}
 use Rattle.book.proofs.Writing.{write-is}
 use Rattle.road.specs.Dijkstra.{dist}
 use Rattle.tree_layout.specs.Values.{Element}
-use Rattle.search_rules.specs.Order.{YardBefore}
 use Rattle.tree_layout.specs.Decode.{decode}
 use Rattle.check_rules.specs.Facts.{TrueNumbers}
 use Rattle.check_rules.proofs.Theorems.{tested}
@@ -25,13 +22,13 @@ use Rattle.search_rules.specs.Facts.{WellFormed, SoundInstance}
 use Rattle.search_rules.specs.Rule.{Rule, nearest, inDrive}
 use Rattle.search_rules.specs.Books.{searchOf}
 use Rattle.search_rules.specs.Walks.{FirstYards, DriveYards}
-use Rattle.search_rules.specs.Theorems.{Sorted, NotPast, TreeYards, Listing, Decided as RulesDecided}
-use Rattle.search_rules.proofs.Held.{before-not, greatest-is}
+use Rattle.search_rules.specs.Theorems.{NotPast, TreeYards, Listing, Decided as RulesDecided}
+use Rattle.search_rules.proofs.Held.{greatest-is}
 use Rattle.search_rules.specs.Books.{Passed}
 use Rattle.search_rules.proofs.Books.{well-of, sound-of}
 use Rattle.search_rules.proofs.Asked.{asked-rule, asked-yards, asked-there, asked-ends}
 use Rattle.search_rules.proofs.Theorems.{decided, answer-taken, answer-measured, answer-listing, answer-within, answer-spent, words-length}
-use Rattle.search_rules.proofs.Walks.{total-least, first-yards, drive-yards}
+use Rattle.search_rules.proofs.Walks.{yards-distinct, total-least, first-yards, drive-yards}
 use Rattle.search_rules.proofs.Fronts.{nearest-allowed, drive-allowed, nearest-not-past, drive-not-past}
 use Rattle.search_call.specs.Call.{ruleBy, Call, Areas, Search, searches}
 use Rattle.search_call.specs.Demand.{OnPassing, NotRefused, Settled, ForYards, ForDrive, code, k, crews, arcs, limit, yards, instanceOf, list, Full, lastDistance, measured}
@@ -45,18 +42,6 @@ use Rattle.search_call.proofs.Lists.{call-of, written-in-turn}
 -- whatever yard book a tree passes with has the tree's own yards
 pub own-yards : OwnYards
 own-yards road tree p = passed-yards road (p .yard) tree (p .work) (p .zero)
-
--- yards of a list in yard order whose equal yards are one are distinct
-yards-distinct : (l : List Element) → Sorted l → ((h g : Element) → Mem h l → Mem g l → h .yard ≡ g .yard → h ≡ g) → Distinct (map (λ (e : Element). e .yard) l)
-yards-distinct [] s d = tt
-yards-distinct (h ∷ l) s d = (
-  (λ m.
-      let (g, j, e) = map-mem (λ (x : Element). x .yard) l (h .yard) m in
-      let b : YardBefore h g = s .0 g j in
-      let c : YardBefore h h = rw (← d h g (head refl) (tail j) e) at b in
-      before-not c c),
-  yards-distinct l (s .1) (λ x g a b. d x g (tail a) (tail b)),
-)
 
 -- what is written over the start, and what stood after it
 over-start : (w b : List ℕ) → length w ≤ length b → write b 0 w ≡ w ++ drop (length w) b

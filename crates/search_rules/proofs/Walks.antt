@@ -1,11 +1,13 @@
 -- A settled search of true books lists the first yards by the walks' own definition of distance. Assumes nothing.
 use mathlib.Core.Path.{_≡_, refl, sym, ap, _∙_}
 use mathlib.Core.Logic.{_⊎_, inl, inr}
-use mathlib.Core.List.{List, [], _∷_, List·Memᴰ as Mem, List·Memᴰ·head as head, List·Memᴰ·tail as tail}
+use mathlib.Core.List.{List, [], _∷_, map, List·Memᴰ as Mem, List·Memᴰ·head as head, List·Memᴰ·tail as tail}
 use Prim.Native.Nat.{ℕ, _≤_, _<_, min}
 use native.Mathlib.Omega.{arith}
 use lib.ListN.{length, length-take}
 use lib.Dec.{T}
+use Rattle.book.specs.Lists.{Distinct}
+use Rattle.book.proofs.Lists.{map-mem}
 use Rattle.road_layout.specs.Road.{junctions}
 use Rattle.adjacency.specs.Arcs.{net}
 use Rattle.road.specs.Dijkstra.{dist}
@@ -22,14 +24,27 @@ use Rattle.search_rules.specs.Held.{entry, ranked}
 use Rattle.search_rules.specs.Keeping.{front}
 use Rattle.search_rules.specs.Run.{answer}
 use Rattle.search_rules.specs.Facts.{Below, SoundInstance}
-use Rattle.search_rules.specs.Theorems.{LeftOut, Allowed, TreeYards, Listing}
+use Rattle.search_rules.specs.Order.{YardBefore}
+use Rattle.search_rules.specs.Theorems.{Sorted, LeftOut, Allowed, TreeYards, Listing}
 use Rattle.search_rules.specs.Walks.{AggregateLeast, none, more, FirstYards, DriveYards}
 use Rattle.search_rules.proofs.Bounds.{below-range}
-use Rattle.search_rules.proofs.Held.{ranked-length}
+use Rattle.search_rules.proofs.Held.{before-not, ranked-length}
 use Rattle.search_rules.proofs.Found.{run-complete}
 use Rattle.search_rules.proofs.Trees.{tree-yards}
 use Rattle.search_rules.proofs.Books.{count, accepted-of}
 use Rattle.search_rules.proofs.Theorems.{answer-settled, answer-listed, answer-listing, answer-exact}
+
+-- yards of a list in yard order whose equal yards are one are distinct
+pub yards-distinct : (l : List Element) → Sorted l → ((h g : Element) → Mem h l → Mem g l → h .yard ≡ g .yard → h ≡ g) → Distinct (map (λ (e : Element). e .yard) l)
+yards-distinct [] s d = tt
+yards-distinct (h ∷ l) s d = (
+  (λ m.
+      let (g, j, e) = map-mem (λ (x : Element). x .yard) l (h .yard) m in
+      let b : YardBefore h g = s .0 g j in
+      let c : YardBefore h h = rw (← d h g (head refl) (tail j) e) at b in
+      before-not c c),
+  yards-distinct l (s .1) (λ x g a b. d x g (tail a) (tail b)),
+)
 
 module _ (road tree : List ℕ) (code : ℕ) (goal : Rule) (crews : List ℕ) (p : Passed road tree crews) where
   abbrev i : Instance
@@ -90,6 +105,9 @@ module _ (road tree : List ℕ) (code : ℕ) (goal : Rule) (crews : List ℕ) (p
         rw (answer-listed i limit t, total-one (h .yard) (h .distance) (yard-there (h .yard) b) a) (run-complete i sound limit (rw (answer-settled i limit) at t)
         .rest (h .yard) b)
 
+    pub listed-once : Distinct (map (λ (e : Element). e .yard) (answer i limit .listed))
+    listed-once = yards-distinct (answer i limit .listed) (l .sorted) (l .distinct)
+
     pub listed-front : answer i limit .listed ≡ front goal (ranked i (treeYards (decode tree)))
     unfolding searchOf
     listed-front = answer-exact i sound limit t (treeYards (decode tree)) ys
@@ -122,6 +140,7 @@ module _ (road tree : List ℕ) (code seconds : ℕ) (crews : List ℕ) (p : Pas
     sorted = answer-listing (searchOf road tree code (inDrive seconds) crews) (sound .well) limit t .sorted;
     distances = listed-distances road tree code (inDrive seconds) crews p sound limit t;
     yards = listed-yards road tree code (inDrive seconds) crews p sound limit t;
+    once = listed-once road tree code (inDrive seconds) crews p sound limit t;
     inside = listed-allowed road tree code (inDrive seconds) crews p sound limit t;
     every = λ h k a near. found h near (listed-rest road tree code (inDrive seconds) crews p sound limit t h k a);
   }

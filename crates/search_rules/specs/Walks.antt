@@ -2,9 +2,10 @@
 -- statements.
 use mathlib.Core.Path.{_≡_}
 use mathlib.Core.Logic.{_⊎_}
-use mathlib.Core.List.{List, [], _∷_, List·Memᴰ as Mem}
+use mathlib.Core.List.{List, [], _∷_, map, List·Memᴰ as Mem}
 use Prim.Native.Nat.{ℕ, min, _≤_}
 use lib.ListN.{length}
+use Rattle.book.specs.Lists.{Distinct}
 use Rattle.adjacency.specs.Arcs.{Arc}
 use Rattle.road.specs.Walk.{Least}
 use Rattle.tree_layout.specs.Values.{Element}
@@ -34,6 +35,7 @@ pub record DriveYards (arcs : List Arc) (code seconds : ℕ) (crews ys : List �
   pub sorted : Sorted list
   pub distances : (e : Element) → Mem e list → AggregateLeast arcs code (e .yard) crews (e .distance)
   pub yards : (e : Element) → Mem e list → Mem (e .yard) ys
+  pub once : Distinct (map (λ (e : Element). e .yard) list)
   pub inside : (e : Element) → Mem e list → e .distance ≤ seconds
   -- a yard with its aggregate, if that is at most the seconds, is listed
   pub every : (h : Element) → Mem (h .yard) ys → AggregateLeast arcs code (h .yard) crews (h .distance)
