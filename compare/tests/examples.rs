@@ -1,23 +1,12 @@
 //! All of the paper's examples, starred or not.
 
 use compare::build::AREA_BYTES;
+use compare::generate::district::chain;
 use compare::list::list;
 use compare::query::Aggregate;
 use compare::refusal::WORK_WORDS;
-use compare::road::Road;
 use compare::search::bound::{crew_bound, f};
 use compare::{build, check, query, road, search, within, yard, Built, Found};
-
-/// The roads of a chain with these seconds.
-fn chain(seconds: &[u16]) -> Vec<u8> {
-    let road = |(low, &seconds): (usize, &u16)| Road {
-        low: low as u16,
-        high: low as u16 + 1,
-        seconds,
-    };
-    let roads: Vec<Road> = seconds.iter().enumerate().map(road).collect();
-    road::write(seconds.len() as u16 + 1, &roads)
-}
 
 /// "junctions 0 to 4 in a chain, seconds 2, 3, 4, 1".
 fn n_road() -> Vec<u8> {

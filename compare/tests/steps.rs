@@ -1,9 +1,9 @@
 //! Searches worked out by hand, step by step: the whole queue after each step.
 
 use compare::generate::damage::{sound_road, sound_tree, JUNCTIONS};
+use compare::generate::district::chain;
 use compare::query;
 use compare::refusal::WORK_WORDS;
-use compare::road::{self, Road};
 use compare::search::state::Item::{self, Region, Yard};
 use compare::search::state::{step, State};
 use compare::search::Asked::{self, FirstK, Within};
@@ -190,17 +190,6 @@ fn a_false_root() {
     assert_eq!(state.held, [(91, 1), (91, 2)]);
     let state = follow(&sound(&tree, 0, Within(u32::MAX)), &lines(&queues, 1));
     assert!(state.held.is_empty());
-}
-
-/// The road book of a chain.
-fn chain(seconds: &[u16]) -> Vec<u8> {
-    let road = |(low, &seconds): (usize, &u16)| Road {
-        low: low as u16,
-        high: low as u16 + 1,
-        seconds,
-    };
-    let roads: Vec<Road> = seconds.iter().enumerate().map(road).collect();
-    road::write(seconds.len() as u16 + 1, &roads)
 }
 
 /// The book of a tree that is one leaf with one landmark.

@@ -176,3 +176,14 @@ fn other_distance(numbers: &mut Numbers, distance: u32) -> u32 {
         _ => distance.saturating_add(numbers.between(0, 9) as u32),
     }
 }
+
+/// The road book of a chain with these seconds.
+pub fn chain(seconds: &[u16]) -> Vec<u8> {
+    let road = |(low, &seconds): (usize, &u16)| Road {
+        low: low as u16,
+        high: low as u16 + 1,
+        seconds,
+    };
+    let roads: Vec<Road> = seconds.iter().enumerate().map(road).collect();
+    road::write(seconds.len() as u16 + 1, &roads)
+}

@@ -11,13 +11,12 @@ use Rattle.book.specs.Bytes.{Bytes}
 use Rattle.book.specs.Writing.{write}
 use Rattle.book.proofs.Writing.{write-is}
 use Rattle.road.specs.Dijkstra.{dist}
-use Rattle.tree_layout.specs.Values.{Element}
 use Rattle.tree_layout.specs.Decode.{decode}
 use Rattle.check_rules.specs.Facts.{TrueNumbers}
 use Rattle.check_rules.proofs.Theorems.{tested}
 use Rattle.check_tree.specs.Facts.{SoundBeside}
 use Rattle.check_tree.proofs.Passing.{passed-laid, passed-yards, passed-true}
-use Rattle.search_rules.specs.Run.{words, answer}
+use Rattle.search_rules.specs.Run.{words, run, answer}
 use Rattle.search_rules.specs.Facts.{WellFormed, SoundInstance}
 use Rattle.search_rules.specs.Rule.{Rule, nearest, inDrive}
 use Rattle.search_rules.specs.Books.{searchOf}
@@ -27,7 +26,8 @@ use Rattle.search_rules.proofs.Held.{greatest-is}
 use Rattle.search_rules.specs.Books.{Passed}
 use Rattle.search_rules.proofs.Books.{well-of, sound-of}
 use Rattle.search_rules.proofs.Asked.{asked-rule, asked-yards, asked-there, asked-ends}
-use Rattle.search_rules.proofs.Theorems.{decided, answer-taken, answer-measured, answer-listing, answer-within, answer-spent, words-length}
+use Rattle.search_rules.proofs.Theorems.{decided, answer-taken, answer-measured, answer-listed, answer-listing, answer-spent, words-length}
+use Rattle.search_rules.proofs.Level.{run-bound-within}
 use Rattle.search_rules.proofs.Walks.{yards-distinct, total-least, first-yards, drive-yards}
 use Rattle.search_rules.proofs.Fronts.{nearest-allowed, drive-allowed, nearest-not-past, drive-not-past}
 use Rattle.search_call.specs.Call.{ruleBy, Call, Areas, Search, searches}
@@ -100,22 +100,21 @@ module _ (s : Search) where
         }
 
     -- no measured yard's bound is past what ends the search
-    not-past : OnPassing s → T (answer (instanceOf s) (limit s) .settled) → (y b : ℕ) → Mem y (measured s) → BoundOf s y b
-        → NotPast (instanceOf s .rule) (list s) b
-    not-past q t y b j d =
+    not-past : OnPassing s → (y b : ℕ) → Mem y (measured s) → BoundOf s y b → NotPast (instanceOf s .rule) (run (instanceOf s) (limit s) .state .held) b
+    not-past q y b j d =
         let m : Mem (d .element .yard) (measured s) = rw (d .names) j in
-        rw (d .value) (answer-within (instanceOf s) (sound q) (limit s) t (d .home) (d .element) (d .is-leaf) (d .number) (d .in-list) m)
+        rw (d .value) (run-bound-within (instanceOf s) (sound q) (limit s) (d .home) (d .element) (d .is-leaf) (d .number) (d .in-list) m)
 
     -- it is not above the last distance of a full list
     within-last : OnPassing s → T (answer (instanceOf s) (limit s) .settled) → ForYards s → Full s → (y b : ℕ) → Mem y (measured s) → BoundOf s y b
         → b ≤ lastDistance s
     within-last q t e full y b j d =
-        omega (arith, nearest-not-past (instanceOf s .rule) (k s) (list s) b (for-yards e) (not-past q t y b j d) full, greatest-is (list s))
+        let past : NotPast (instanceOf s .rule) (list s) b = rw (answer-listed (instanceOf s) (limit s) t) (not-past q y b j d) in
+        omega (arith, nearest-not-past (instanceOf s .rule) (k s) (list s) b (for-yards e) past full, greatest-is (list s))
 
-    -- nor above the seconds of a drive
-    within-drive : OnPassing s → T (answer (instanceOf s) (limit s) .settled) → (seconds : ℕ) → ForDrive s seconds → (y b : ℕ) → Mem y (measured s)
-        → BoundOf s y b → b ≤ seconds
-    within-drive q t seconds e y b j d = drive-not-past (instanceOf s .rule) seconds (list s) b (for-drive seconds e) (not-past q t y b j d)
+    -- nor above the seconds of a drive, settled or not
+    within-drive : OnPassing s → (seconds : ℕ) → ForDrive s seconds → (y b : ℕ) → Mem y (measured s) → BoundOf s y b → b ≤ seconds
+    within-drive q seconds e y b j d = drive-not-past (instanceOf s .rule) seconds _ b (for-drive seconds e) (not-past q y b j d)
 
     -- the list is exact, by what the search is for
     exact-yards : OnPassing s → T (answer (instanceOf s) (limit s) .settled) → ForYards s → FirstYards (arcs s) (code s) (k s) (crews s) (yards s) (list s)
@@ -198,9 +197,7 @@ demand-3 calls bytes first = record {
   measured-within = λ s m q t.
       let (n, u) = on-settled (s .call) (s .areas) t in
       within-last s (books s (of-bytes s m) n) q u;
-  measured-drive = λ s m q t.
-      let (n, u) = on-settled (s .call) (s .areas) t in
-      within-drive s (books s (of-bytes s m) n) q u;
+  measured-drive = λ s m q n. within-drive s (books s (of-bytes s m) n) q;
   ends = λ s m q n h. settled-on (s .call) (s .areas) n
       (asked-ends (s .call .road) (s .call .tree) (code s) (rule s) (crews s) (books s (of-bytes s m) n) (limit s) h);
   results = written-in-turn calls first;

@@ -142,8 +142,8 @@ pub record Promised (calls : List Call) (first : Areas) : Type 0 where
   -- "none of these measured a yard whose bound exceeds the last listed distance of a full list"
   pub measured-within : (s : Search) → Mem s (searches calls first) → OnPassing s → Settled s → ForYards s
       → Full s → (y b : ℕ) → Mem y (measured s) → BoundOf s y b → b ≤ lastDistance s
-  -- "no yard whose bound exceeds the seconds is measured"
-  pub measured-drive : (s : Search) → Mem s (searches calls first) → OnPassing s → Settled s
+  -- "no yard whose bound exceeds the seconds is measured", whether the search has settled or is spent
+  pub measured-drive : (s : Search) → Mem s (searches calls first) → OnPassing s → NotRefused s
       → (seconds : ℕ) → ForDrive s seconds → (y b : ℕ) → Mem y (measured s) → BoundOf s y b → b ≤ seconds
   -- "every search on such a tree, not refused, with a limit of inner regions plus twice the yards or more has settled"
   pub ends : (s : Search) → Mem s (searches calls first) → OnPassing s → NotRefused s

@@ -1,27 +1,25 @@
 -- What is proved of the search, in one place: `bounded`, `decided`, `right`, and the laws of an answer. Assumes nothing.
 use mathlib.Core.Path.{_≡_, refl, ap, _∙_}
-use mathlib.Core.Bool.{Bool, true, false, not}
+use mathlib.Core.Bool.{not}
 use mathlib.Core.List.{List, [], _∷_, List·Memᴰ as Mem}
-use Prim.Native.Nat.{ℕ, zero, suc, _+_, _*_, _≤_, _<_}
+use Prim.Native.Nat.{ℕ, _+_, _*_, _≤_, _<_}
 use native.Mathlib.Omega.{arith}
 use lib.ListN.{length}
 use lib.Dec.{T}
-use Rattle.book.specs.Choose.{choose}
-use Rattle.book.proofs.Choosing.{choose-yes, choose-no, T-true, T-false}
+use Rattle.book.proofs.Choosing.{choose-yes, choose-no}
 use Rattle.tree_layout.specs.Values.{Element}
 use Rattle.tree.specs.Yards.{treeYards, inners}
-use Rattle.search_rules.specs.Instance.{Instance, size, leaf}
+use Rattle.search_rules.specs.Instance.{Instance}
 use Rattle.search_rules.specs.Held.{ranked}
 use Rattle.search_rules.specs.Keeping.{front}
-use Rattle.search_rules.specs.Bounds.{chosen, yardBound}
 use Rattle.search_rules.specs.Step.{settled}
-use Rattle.search_rules.specs.Run.{Outcome, Answer, words, run, report, answer}
-use Rattle.search_rules.specs.Facts.{Below, WellFormed, SoundInstance}
-use Rattle.search_rules.specs.Theorems.{NotPast, TreeYards, Listing, Complete, Limited, Bounded, Decided, Right}
+use Rattle.search_rules.specs.Run.{words, run, report, answer}
+use Rattle.search_rules.specs.Facts.{WellFormed, SoundInstance}
+use Rattle.search_rules.specs.Theorems.{TreeYards, Listing, Limited, Bounded, Decided, Right}
 use Rattle.search_rules.proofs.Bounds.{bound-le, f-le, yardBound-le}
 use Rattle.search_rules.proofs.Held.{ranked-length}
 use Rattle.search_rules.proofs.Fronts.{front-length}
-use Rattle.search_rules.proofs.Kept.{Kept, run-kept}
+use Rattle.search_rules.proofs.Kept.{run-kept}
 use Rattle.search_rules.proofs.Found.{fewer, run-listing, run-complete}
 use Rattle.search_rules.proofs.Ends.{enough, unsettled-taken, taken-within, settled-stays}
 use Rattle.search_rules.proofs.Level.{run-measured, run-within, run-bound-within}
@@ -114,12 +112,6 @@ answer-exact i sound limit t ys tree = answer-listed i limit t ∙ run-complete 
 -- whatever the limit and whatever the tree's numbers say, what is listed has true distances, distinct yards and yard order
 pub answer-listing : (i : Instance) → WellFormed i → (limit : ℕ) → T (answer i limit .settled) → Listing i (answer i limit .listed)
 answer-listing i well limit t = rw (answer-listed i limit t) (run-listing i well limit)
-
--- and none was measured whose bound is past what ends the search
-pub answer-within : (i : Instance) → SoundInstance i → (limit : ℕ) → T (answer i limit .settled)
-    → (r : ℕ) (e : Element) → T (leaf i r) → r < size i → Mem e (chosen i r .list) → Mem (e .yard) (run i limit .state .measured)
-    → NotPast (i .rule) (answer i limit .listed) (yardBound i (chosen i r) e)
-answer-within i sound limit t r e l h k j = rw (answer-listed i limit t) (run-bound-within i sound limit r e l h k j)
 
 -- a limit of inner regions plus twice the yards settles
 pub answer-ends : (i : Instance) → WellFormed i → (limit : ℕ) → (ys : List ℕ) → TreeYards i ys → inners (i .tree) + 2 * length ys ≤ limit
