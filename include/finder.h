@@ -98,7 +98,7 @@ struct finder_found {
     uint32_t settled;  /* 1 if the search is settled, 0 if it is spent or refused */
     uint32_t listed;   /* how many yards are listed; 0 if spent */
     uint32_t taken;    /* how many steps were taken, at most the query's limit */
-    uint32_t measured; /* how many yards were measured by their true distances */
+    uint32_t measured; /* how many yards were measured, those found to be too far too */
 };
 
 /* Searches a tree beside a road book for the k yards with the least aggregate of true distances to the crews.

@@ -24,4 +24,4 @@ pub mod generate;
 
 pub use build::{build, Built};
 pub use check::check;
-pub use search::{ask, search, within, Asked, Found};
+pub use search::{ask, ask_by, search, within, Asked, Found, Measuring};

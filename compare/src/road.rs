@@ -11,7 +11,10 @@ pub const MOST_JUNCTIONS: u16 = 1_024;
 /// The most roads that a book may count.
 pub const MOST_ROADS: u16 = 4_096;
 /// The distance of a junction that no walk reaches.
-const NO_WALK: u32 = u32::MAX;
+pub const NO_WALK: u32 = u32::MAX;
+
+/// The junctions that a walk has reached, the nearest first; one that was reached nearer later stands in it again.
+pub type Reached = BinaryHeap<Reverse<(u32, u16)>>;
 
 /// "per road: low end u16, high end u16, seconds u16".
 #[derive(Clone, Copy, Debug, PartialEq, Eq)]
@@ -104,22 +107,32 @@ impl RoadBook {
     ///
     /// From one junction to all, by Dijkstra.
     pub fn least_distances(&self, from: u16) -> Vec<u32> {
-        let mut distance = vec![NO_WALK; usize::from(self.junctions)];
-        let mut queue = BinaryHeap::from([Reverse((0, from))]);
-        distance[usize::from(from)] = 0;
-        while let Some(Reverse((nearest, junction))) = queue.pop() {
-            if nearest > distance[usize::from(junction)] {
-                continue;
-            }
-            for &(next, seconds) in &self.neighbours[usize::from(junction)] {
-                let through = nearest + u32::from(seconds);
-                if through < distance[usize::from(next)] {
-                    distance[usize::from(next)] = through;
-                    queue.push(Reverse((through, next)));
-                }
+        let (mut distance, mut reached) = self.start(from);
+        while let Some(Reverse((nearest, junction))) = reached.pop() {
+            if nearest == distance[usize::from(junction)] {
+                self.walk_on(junction, &mut distance, &mut reached);
             }
         }
         distance
+    }
+
+    /// A walk's start: the distances so far, and only its first junction reached.
+    pub fn start(&self, from: u16) -> (Vec<u32>, Reached) {
+        let mut distance = vec![NO_WALK; usize::from(self.junctions)];
+        distance[usize::from(from)] = 0;
+        (distance, Reached::from([Reverse((0, from))]))
+    }
+
+    /// Walks on from a junction: each neighbour that is nearer through it is reached.
+    pub fn walk_on(&self, junction: u16, distance: &mut [u32], reached: &mut Reached) {
+        let here = distance[usize::from(junction)];
+        for &(next, seconds) in &self.neighbours[usize::from(junction)] {
+            let through = here + u32::from(seconds);
+            if through < distance[usize::from(next)] {
+                distance[usize::from(next)] = through;
+                reached.push(Reverse((through, next)));
+            }
+        }
     }
 
     /// "Border junctions (with a road out of the range) in rising order".

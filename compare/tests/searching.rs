@@ -10,9 +10,11 @@ use compare::generate::{standard, Numbers};
 use compare::query::{self, Query};
 use compare::refusal::WORK_WORDS;
 use compare::road::RoadBook;
-use compare::search::{run, tested};
+use compare::search::state::{Item, State};
+use compare::search::{run, run_seen, tested};
 use compare::tree::Tree;
-use compare::{ask, brute, build, check, road, search, tree, within, yard, Asked, Found};
+use compare::{ask, ask_by, brute, build, check, road, search, tree, within, yard};
+use compare::{Asked, Found, Measuring};
 
 /// The three books of a search, and what it is asked for.
 struct Books {
@@ -202,6 +204,51 @@ fn full_size_by_brute_force() {
             assert_eq!(listed(&found, &results), expected, "{kind} {asked:?}");
         }
     }
+}
+
+/// A state's queue, held yards and measured yards.
+type Seen = (Vec<(u64, Item)>, Vec<(u64, u16)>, Vec<u16>);
+
+/// Every state of the search with yards measured in this way, and how many junctions were walked on from.
+fn states(books: &Books, measuring: Measuring) -> (Vec<Seen>, usize) {
+    let seen = |state: &State| -> Seen {
+        let queue = state.queue.iter().copied().collect();
+        (queue, state.held.clone(), state.measured.clone())
+    };
+    let search = tested(books.asked, books.all(), WORK_WORDS, 250).unwrap();
+    let mut states = Vec::new();
+    let last = run_seen(&search.by(measuring), |state| states.push(seen(state))).state;
+    states.push(seen(&last));
+    (states, last.walked_on)
+}
+
+/// "Lists and counts come out as they did": every state, answer and result area is as with yards measured by rows.
+#[test]
+fn walks_and_rows_alike() {
+    let mut numbers = Numbers::new(12);
+    let mut shorter = 0;
+    for _ in 0..8_000 {
+        let books = random_books(&mut numbers, 60);
+        let ways = [
+            Measuring::Rows,
+            Measuring::Walks,
+            Measuring::WalksWithoutCeiling,
+        ];
+        let answers = ways.map(|way| {
+            let mut results = [5; 250];
+            let work = &mut [0; WORK_WORDS];
+            let found = ask_by(way, books.asked, books.all(), work, &mut results);
+            (found, results)
+        });
+        assert_eq!(answers[1], answers[0]);
+        assert_eq!(answers[2], answers[0]);
+        let [rows, walks, whole] = ways.map(|way| states(&books, way));
+        assert_eq!(walks.0, rows.0);
+        assert_eq!(whole.0, rows.0);
+        assert!(rows.1 == 0 && walks.1 <= whole.1);
+        shorter += u32::from(walks.1 < whole.1);
+    }
+    assert!(shorter >= 500, "{shorter}");
 }
 
 /// A drive of the last distance of a full list lists that list first, and after it only yards of that distance.

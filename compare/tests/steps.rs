@@ -7,7 +7,7 @@ use compare::refusal::WORK_WORDS;
 use compare::search::state::Item::{self, Region, Yard};
 use compare::search::state::{step, State};
 use compare::search::Asked::{self, FirstK, Within};
-use compare::search::{tested, Search};
+use compare::search::{tested, Measuring, Search};
 use compare::tree::{self, Landmark, Stored, Tree};
 
 type Queue = Vec<(u64, Item)>;
@@ -257,6 +257,37 @@ fn a_yard_measured_and_not_held() {
         let state = follow(&search, queues);
         assert_eq!(state.measured, [0, 2]);
         assert_eq!(state.held, [(0, 0), (2, 2)][..held]);
+    }
+}
+
+/// A chain of seven, one second from each to the next, crew 0, the landmark in the middle: yards 0 and 6 have bound 0
+/// and are measured before yard 3. Yard 0 needs no round, yard 6 six if no ceiling ends its walk, yard 3 five.
+#[test]
+fn walks_end_at_the_ceiling() {
+    let tree = one_leaf(7, 3, &[(0, 3), (3, 0), (3, 6)]);
+    let queues = "
+        0 R0
+        0 R0  0 Y0
+        0 Y0  0 Y6  3 R0
+        0 Y6  3 R0
+        3 R0
+        3 Y3
+        -";
+    let (two, three) = (lines(queues, 5), lines(queues, 7));
+    for (asked, k, queues, walked_on, whole) in [
+        (FirstK, 1, &two, 1, 6),
+        (FirstK, 2, &three, 6 + 5, 6 + 5),
+        (Within(0), 1, &two, 1, 6),
+        (Within(2), 1, &two, 3, 6),
+        (Within(3), 1, &three, 4 + 5, 6 + 5),
+        (Within(6), 1, &three, 6 + 5, 6 + 5),
+    ] {
+        let query = query::write(0, k, 100, &[0]);
+        let books: [&[u8]; 3] = [&chain(&[1; 6]), &tree, &query];
+        let search = tested(asked, books, WORK_WORDS, 6).unwrap();
+        assert_eq!(follow(&search, queues).walked_on, walked_on, "{asked:?}");
+        let search = search.by(Measuring::WalksWithoutCeiling);
+        assert_eq!(follow(&search, queues).walked_on, whole, "{asked:?}");
     }
 }
 

@@ -1,7 +1,8 @@
-//! The same call through the proved finder and the plain one: the answers and every byte and word of the lent areas, the books and the
-//! guards around them have to be alike afterwards.
+//! The same call through the proved finder and the plain one, a search also through the plain one as it was before it
+//! walked from yards: the answers and every byte and word of the lent areas, the books and the guards around them have
+//! to be alike afterwards.
 
-use compare::{Asked, Built, Found};
+use compare::{ask_by, Asked, Built, Found, Measuring};
 
 use crate::lent::{lent_bytes, lent_words, Lent};
 
@@ -44,47 +45,52 @@ pub fn build(books: [&[u8]; 2], [m, leaf_limit]: [u32; 2], work: &[u32], area: &
     theirs
 }
 
-/// The work and the result area of searches, as each finder has left them.
+/// The plain finders that search, by how they measure yards.
+const PLAIN: [Measuring; 2] = [Measuring::Walks, Measuring::Rows];
+
+/// The work and the result area of searches, as the proved finder and each plain one has left them.
 pub struct Areas {
     ours: [Lent<u32>; 2],
-    theirs: [Vec<u32>; 2],
+    theirs: [[Vec<u32>; 2]; PLAIN.len()],
 }
 
 impl Areas {
-    /// Areas with these contents for both finders.
+    /// Areas with these contents for all finders.
     pub fn new(work: &[u32], results: &[u32]) -> Self {
         Areas {
             ours: [lent_words(work), lent_words(results)],
-            theirs: [work.to_vec(), results.to_vec()],
+            theirs: PLAIN.map(|_| [work.to_vec(), results.to_vec()]),
         }
     }
 
-    /// Makes the search through both finders, each on its areas as its search before left them.
+    /// Makes the search through all finders, each on its areas as its search before left them.
     pub fn ask(&mut self, asked: Asked, books: [&[u8]; 3]) -> Found {
         let mut held = books.map(lent_bytes);
         let lent = held.each_mut().map(|book| &*book.area());
         let [work, results] = self.ours.each_mut().map(|area| area.area());
         let ours = crate::ask(asked, lent, work, results);
-
-        let [work, results] = &mut self.theirs;
-        let theirs = compare::ask(asked, books, work, results);
-        let call = || {
-            format!(
-                "a search, {asked:?}, with {} result words, {}",
-                results.len(),
-                told(&books, work.len())
-            )
-        };
-        assert_eq!(ours, theirs, "{}", call());
-        assert!(self.ours[0].is(work), "work area of {}", call());
-        assert!(self.ours[1].is(results), "result area of {}", call());
         assert_kept(&held, &books);
-        theirs
+
+        for (measuring, [work, results]) in PLAIN.into_iter().zip(&mut self.theirs) {
+            let theirs = ask_by(measuring, asked, books, work, results);
+            let call = || {
+                format!(
+                    "a search, {asked:?}, beside {measuring:?}, with {} result words, {}",
+                    results.len(),
+                    told(&books, work.len())
+                )
+            };
+            assert_eq!(ours, theirs, "{}", call());
+            assert!(self.ours[0].is(work), "work area of {}", call());
+            assert!(self.ours[1].is(results), "result area of {}", call());
+        }
+        ours
     }
 
     /// The result area.
     pub fn results(&self) -> &[u32] {
-        &self.theirs[1]
+        let [_, results] = &self.theirs[0];
+        results
     }
 }
 

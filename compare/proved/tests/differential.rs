@@ -1,4 +1,5 @@
-//! The proved finder beside the plain one: the same calls through both.
+//! The proved finder beside the plain one: the same calls through both, searches also through the plain one that
+//! measures by rows.
 
 use std::collections::BTreeMap;
 

@@ -1,4 +1,5 @@
-//! Lists of searches through both finders on shared areas, and settled searches against brute force.
+//! Lists of searches through the proved finder and the plain ones on shared areas, and settled searches against brute
+//! force.
 
 use compare::build::AREA_BYTES;
 use compare::generate::call::{random_search, random_within};
@@ -53,7 +54,7 @@ impl Books {
         [&self.road, &self.tree, &self.query]
     }
 
-    /// Makes the search through both finders.
+    /// Makes the search through all finders.
     fn ask(&self, areas: &mut Areas) -> Found {
         areas.ask(self.asked, self.all())
     }
@@ -140,7 +141,8 @@ fn any_area(numbers: &mut Numbers, least: u64, most: u64) -> Vec<u32> {
     (0..length).map(|_| numbers.any() as u32).collect()
 }
 
-/// A list of searches, each given both areas as the one before left them; the settled lists go over the results' start in turn.
+/// A list of searches, each given both areas as the one before left them; the settled lists go over the results' start
+/// in turn.
 fn make_list(numbers: &mut Numbers, seen: &mut [Seen; 2]) {
     let full = WORK_WORDS as u64;
     let least = if numbers.once_in(10) { 0 } else { full };

@@ -1,10 +1,12 @@
 //! Search: the k yards of least aggregate, or all yards within a drive, by the tree's bounds.
 
 pub mod bound;
+pub mod measure;
 pub mod state;
 
 use crate::query::Query;
 use crate::refusal::{refuse_unless, zero_work, AREA, WORK_WORDS};
+use crate::road::RoadBook;
 use crate::tree::Tree;
 use crate::{query, road, tree};
 use bound::Sheet;
@@ -30,13 +32,33 @@ pub enum Asked {
     Within(u32),
 }
 
-/// All that a search asks of its books, with the crews' true distances and the sheet.
+/// How a search measures yards; lists and counts are the same.
+#[derive(Clone, Copy, Debug, PartialEq, Eq)]
+pub enum Measuring {
+    /// By a walk from the yard under the search's ceiling.
+    Walks,
+    /// By a walk from the yard until every crew is reached.
+    WalksWithoutCeiling,
+    /// By the crews' rows, as the finder did before it walked from yards.
+    Rows,
+}
+
+/// All that a search asks of its books, with the crews' true distances, which f needs, and the sheet.
 pub struct Search {
+    pub road: RoadBook,
     pub tree: Tree,
     pub query: Query,
     pub asked: Asked,
+    pub measuring: Measuring,
     pub sheet: Sheet,
     pub crew_distances: Vec<Vec<u32>>,
+}
+
+impl Search {
+    /// The same search, with yards measured in this way.
+    pub fn by(self, measuring: Measuring) -> Self {
+        Search { measuring, ..self }
+    }
 }
 
 /// A search's end: settled or spent, the steps taken and the last state.
@@ -72,8 +94,19 @@ pub fn within(
 
 /// A search of road, tree and query books: refused, settled or spent.
 pub fn ask(asked: Asked, books: [&[u8]; 3], work: &mut [u32], results: &mut [u32]) -> Found {
+    ask_by(Measuring::Walks, asked, books, work, results)
+}
+
+/// The same, with yards measured in this way.
+pub fn ask_by(
+    measuring: Measuring,
+    asked: Asked,
+    books: [&[u8]; 3],
+    work: &mut [u32],
+    results: &mut [u32],
+) -> Found {
     let search = match tested(asked, books, work.len(), results.len()) {
-        Ok(search) => search,
+        Ok(search) => search.by(measuring),
         Err(refusal) => return refused(refusal),
     };
     let outcome = run(&search);
@@ -101,9 +134,11 @@ pub fn tested(
     let distances = |&crew: &u16| road.least_distances(crew);
     let crew_distances = query.crews.iter().map(distances).collect();
     Ok(Search {
+        road,
         tree,
         query,
         asked,
+        measuring: Measuring::Walks,
         sheet,
         crew_distances,
     })

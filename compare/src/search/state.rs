@@ -3,7 +3,8 @@
 use std::collections::{BTreeMap, BTreeSet, VecDeque};
 
 use super::bound::{f, pick_landmark, region_key, yard_bound};
-use super::{Asked, Search};
+use super::measure::{measure, Measured};
+use super::{Asked, Measuring, Search};
 
 /// "at equal keys a region precedes a yard, then lower number first": the order of the cases is this order.
 #[derive(Clone, Copy, Debug, PartialEq, Eq, PartialOrd, Ord)]
@@ -13,11 +14,13 @@ pub enum Item {
 }
 
 /// "One step is a function of its own: from a search's state, which keeps the queue, the held yards and the
-/// measured yards". The leaves already taken are kept too, with what they still have.
+/// measured yards". The leaves already taken are kept too, with what they still have, and how many junctions the
+/// measured yards' walks have walked on from.
 pub struct State {
     pub queue: BTreeSet<(u64, Item)>,
     pub held: Vec<(u64, u16)>,
     pub measured: Vec<u16>,
+    pub walked_on: usize,
     leaves: BTreeMap<usize, Leaf>,
 }
 
@@ -42,6 +45,7 @@ impl State {
             queue: BTreeSet::from([(region_key(search, 0, 0), Item::Region(0))]),
             held: Vec::new(),
             measured: Vec::new(),
+            walked_on: 0,
             leaves: BTreeMap::new(),
         }
     }
@@ -51,13 +55,13 @@ impl State {
         let Some(&(least_key, _)) = self.queue.first() else {
             return true;
         };
-        let last = self.last_wanted(search);
-        last.is_some_and(|last| least_key > last)
+        let ceiling = self.ceiling(search);
+        ceiling.is_some_and(|ceiling| least_key > ceiling)
     }
 
-    /// What every queued key must be above: once "k are held [...] the greatest held distance"; in a drive
-    /// search "the seconds".
-    fn last_wanted(&self, search: &Search) -> Option<u64> {
+    /// What every queued key must be above, and what a yard is measured up to: "the k-th held distance, or no ceiling
+    /// until k are held; the drive search its seconds".
+    fn ceiling(&self, search: &Search) -> Option<u64> {
         match search.asked {
             Asked::FirstK => self.held.get(search.query.k - 1).map(|&(d, _)| d),
             Asked::Within(seconds) => Some(u64::from(seconds)),
@@ -124,13 +128,27 @@ fn first_taken(search: &Search, key: u64, number: usize) -> Leaf {
     }
 }
 
-/// "A yard is measured by true distances", and held at its place in yard order as far as the search keeps it.
+/// "A yard is measured by true distances", and held at its place in yard order as far as the search keeps it. "A yard
+/// answered "above" still counts as measured."
 fn take_yard(search: &Search, state: &mut State, yard: u16) {
     state.measured.push(yard);
-    let measured = (true_distance(search, yard), yard);
-    let place = state.held.partition_point(|held| *held < measured);
-    state.held.insert(place, measured);
-    state.held.truncate(kept(search, &state.held));
+    if let Measured::Exact(distance) = measured(search, state, yard) {
+        let place = state.held.partition_point(|held| *held < (distance, yard));
+        state.held.insert(place, (distance, yard));
+        state.held.truncate(kept(search, &state.held));
+    }
+}
+
+/// A yard's answer in the search's way of measuring.
+fn measured(search: &Search, state: &mut State, yard: u16) -> Measured {
+    let ceiling = match search.measuring {
+        Measuring::Walks => state.ceiling(search),
+        Measuring::WalksWithoutCeiling => None,
+        Measuring::Rows => return Measured::Exact(true_distance(search, yard)),
+    };
+    let (measured, walk) = measure(&search.road, &search.query, ceiling, yard);
+    state.walked_on += walk.walked_on.len();
+    measured
 }
 
 /// How many of some yards in yard order are kept: "the k least"; in a drive search "each yard whose aggregate
@@ -142,7 +160,7 @@ fn kept(search: &Search, yards: &[(u64, u16)]) -> usize {
     }
 }
 
-/// The aggregate of a yard's true distances to the crews.
+/// The aggregate of a yard's true distances to the crews, by their rows.
 pub fn true_distance(search: &Search, yard: u16) -> u64 {
     let to_yard = |row: &Vec<u32>| u64::from(row[usize::from(yard)]);
     let distances = search.crew_distances.iter().map(to_yard);

@@ -37,6 +37,8 @@ use Rattle.build_tree.specs.Build.{buildAnswer}
 use Rattle.build_tree.proofs.Theorems.{build-refusals, build-exact}
 use Rattle.build_tree.proofs.FirstFailing.{build-tests}
 use Rattle.query.proofs.Reading.{query-exact}
+use Rattle.search_rules.proofs.Ceiling.{above-kept}
+use Rattle.search_measure.proofs.Measuring.{measures-true}
 use Rattle.search_call.specs.Call.{mostYards, Call, Areas, treeRefusalIn, foundOn}
 use Rattle.search_call.proofs.Refusing.{counts-agree, long-enough, by-areas}
 use Rattle.search_call.proofs.FirstFailing.{search-tests}
@@ -46,7 +48,7 @@ use Rattle.search_call.proofs.Lists.{work-unread}
 use Rattle.search_call.proofs.Agreeing.{searches-agree}
 use Rattle.finder.specs.Promises.{SoundBooks, SoundTreeBook, FirstRefusal, AcceptedCheck, CheckSafe, CheckTrue, FirstBuildRefusal, BuildAccepted}
 use Rattle.finder.specs.Promises.{BuildSafe}
-use Rattle.finder.specs.Promises.{BuildTrue, FirstSearchRefusal, SearchAccepted, SearchSafe, SearchesTrue, SearchesDecided}
+use Rattle.finder.specs.Promises.{BuildTrue, FirstSearchRefusal, SearchAccepted, SearchSafe, SearchesTrue, SearchesDecided, YardsMeasured}
 use Rattle.finder.specs.Promises.{checkTests, buildTests, searchTests}
 
 -- ---- sound books are those that no test turns back
@@ -268,3 +270,6 @@ searches-true = demand-3
 
 pub searches-decided : SearchesDecided
 searches-decided = (any-tree, work-unread, searches-agree)
+
+pub yards-measured : YardsMeasured
+yards-measured = (measures-true, above-kept)

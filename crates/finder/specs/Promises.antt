@@ -35,6 +35,8 @@ use Rattle.build_tree.specs.Building.{BuiltFrom}
 use Rattle.build_tree.specs.Facts.{InRange, BuildAreas, writtenBook}
 use Rattle.query.specs.Query.{QueryLayout}
 use Rattle.query.specs.Tests.{queryTests}
+use Rattle.search_rules.specs.Ceiling.{AboveKept}
+use Rattle.search_measure.specs.Facts.{MeasuresTrue}
 use Rattle.search_call.specs.Call.{mostYards, Call, Found, foundOn, callOn, Areas as Lent, refused as refusedWith}
 use Rattle.search_call.specs.Demand.{Promised, OfBytes, AnyTree, WorkUnread, SearchesAgree}
 
@@ -277,3 +279,14 @@ SearchesTrue = (calls : List Call) → OfBytes calls → (first : Lent) → Prom
 -- never matter; and that the two kinds of search agree.
 abbrev pub SearchesDecided : Type 0
 SearchesDecided = AnyTree × WorkUnread × SearchesAgree
+
+-- ---- measuring
+--
+-- "measuring finds distances by walks of its own, also takes a ceiling and answers either the true aggregate or
+-- "above", which it gives exactly when the aggregate exceeds the ceiling. .. Each of its walks keeps in its state the
+-- junctions it has walked on from, and none of them is further than the ceiling along that walk.": `Measures`
+-- (crates/search_measure/specs/Facts.antt) has these sentences, by the walks' own least totals. "Search uses the k-th
+-- held distance, or no ceiling until k are held; the drive search its seconds." (`ceilingBy`), and a yard that is above
+-- it changes nothing in what is held: so "Lists and counts come out as they did", by the same steps.
+abbrev pub YardsMeasured : Type 0
+YardsMeasured = MeasuresTrue × AboveKept

@@ -3,6 +3,7 @@ pub mod Relaxing
 pub mod Picking
 pub mod Rounds
 pub mod Distances
+pub mod UnderWay
 pub mod Theorems
 pub mod Shortening
 pub mod Following

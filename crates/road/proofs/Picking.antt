@@ -82,7 +82,7 @@ unfolding tally
 tally-start w zero = refl
 tally-start w (suc n) = choose-no (walked (replicate w false) n) _ _ (rw (walked-start w n) tt) ∙ tally-start w n
 
-tally-le : (n : ℕ) (l : List Bool) → tally n l ≤ n
+pub tally-le : (n : ℕ) (l : List Bool) → tally n l ≤ n
 unfolding tally
 tally-le zero l = omega arith
 tally-le (suc n) l = choose-case (λ t. t ≤ suc n) (walked l n) (λ t. omega (arith, tally-le n l)) (λ t. omega (arith, tally-le n l))

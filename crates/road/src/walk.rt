@@ -3,9 +3,9 @@ use book::Junction;
 ghost use mathlib.Core.Path.{_≡_};
 ghost use mathlib.Core.Bool.{true, false};
 ghost use mathlib.Core.List.{List};
-ghost use Prim.Native.Nat.{ℕ, _+_, _≤_, _<_};
+ghost use Prim.Native.Nat.{ℕ, _+_, _/_, _≤_, _<_};
 ghost use lib.ListN.{length, replicate, set};
-ghost use Rattle.tournament.specs.code.Tournament.{queueWords, putLeaf};
+ghost use Rattle.tournament.specs.code.Tournament.{queueWords, putLeaf, top};
 ghost use Rattle.road_layout.specs.Road.{junctions};
 ghost use Rattle.adjacency.specs.Arcs.{net};
 ghost use Rattle.adjacency.specs.Adjacency.{countIn, Adjacency, IsAdjacency};
@@ -73,6 +73,14 @@ fn walk_on(adj: &[u16], row: &mut [u32], done: &mut [bool], queue: &mut [u64], u
     done[i] = true;
     tournament::put(queue, i, ABSENT);
     relax(adj, row, queue, u, d);
+}
+
+// The distance of the nearest junction that is reached and not yet walked on from, FAR if there is none.
+pub fn frontier(queue: &[u64]) -> u32
+    requires { ⌜ (length (now queue) ≡ queueWords) × (top (now queue) ≤ absent) ⌝ }
+    ensures { λ r. ⌜ r ≡ top (now (queue .entry)) / 1024 ⌝ }
+{
+    (tournament::least(queue) / 1024) as u32
 }
 
 // The next round of a walk: walks on from the nearest junction that is reached and not yet walked on from.

@@ -7,12 +7,10 @@ use lib.ListN.{length, getD}
 use Rattle.book.proofs.Lists.{getD-mem}
 use Rattle.road_layout.specs.Road.{junctions}
 use Rattle.road.specs.Dijkstra.{dist}
-use Rattle.road.proofs.Theorems.{metric, symmetric}
+use Rattle.road.proofs.Theorems.{symmetric}
 use Rattle.road.specs.code.Rows.{cell}
 use Rattle.road.proofs.Filling.{row-inside}
-use Rattle.search_rules.specs.Bounds.{aggregate}
-use Rattle.search_rules.proofs.Limits.{aggregate-most}
-use Rattle.search_bounds.specs.code.Measures.{Driven, totalOf}
+use Rattle.search_bounds.specs.code.Measures.{Driven}
 
 module _ {road crews drives : List ℕ} (d : Driven road crews drives) (v : ℕ) (h : v < junctions road) where
   -- crew number j has a row, and the junction a word in it
@@ -25,9 +23,3 @@ module _ {road crews drives : List ℕ} (d : Driven road crews drives) (v : ℕ)
 
   pub cell-to : (j : ℕ) → j < length crews → (x : ℕ) → x ≡ cell drives j v → x ≡ dist road v (getD crews j 0)
   cell-to j k x e = cell-from j k x e ∙ symmetric road (d .roads .layout) (getD crews j 0) v (d .there (getD crews j 0) (getD-mem crews j 0 k)) h
-
-  -- the aggregate of the rows' words is the yard's, and a word of 32 bits
-  pub measured : (code r : ℕ) → r ≡ aggregate code (λ q. dist road q v) crews → (r ≡ totalOf road code crews v) × (r < 4294967296)
-  unfolding totalOf
-  measured code r e =
-      (e, omega (arith, aggregate-most code 67042305 crews (λ q. dist road q v) (d .few) (λ q m. metric road (d .roads) .bounded q v (d .there q m) h)))

@@ -12,14 +12,14 @@ use Rattle.tree_layout.specs.Decode.{decode}
 use Rattle.search_rules.specs.Rule.{Rule}
 use Rattle.search_rules.specs.Instance.{Instance}
 use Rattle.search_rules.specs.Books.{searchOf}
-use Rattle.search_rules.specs.Bounds.{absDiff, combine, aggregate, lower, total, f, yardBound}
+use Rattle.search_rules.specs.Bounds.{absDiff, combine, aggregate, lower, f, yardBound}
 use Rattle.search_rules.proofs.Equations.{aggregate-none, aggregate-same, search-of}
 use Rattle.search_rules.proofs.Turns.{aggregate-take}
-use Rattle.search_rules.proofs.Measures.{aggregate-cons, total-is, f-is, yard-bound-is}
+use Rattle.search_rules.proofs.Measures.{aggregate-cons, f-is, yard-bound-is}
 use Rattle.search_bounds.specs.code.Rows.{rowsLower}
 use Rattle.search_bounds.specs.code.Tables.{LandmarkTable}
 use Rattle.search_bounds.proofs.Tables.{lower-table}
-use Rattle.search_bounds.specs.code.Measures.{toCrews, totalOf, fBy, crewAbsDiff, yardBoundBy}
+use Rattle.search_bounds.specs.code.Measures.{toCrews, fBy, crewAbsDiff, yardBoundBy}
 use Rattle.search_bounds.proofs.ToCrews.{to-none, to-cons, to-at}
 
 -- an aggregate of the distances to the crews is one over the crews
@@ -38,10 +38,6 @@ module _ (road tree : List ℕ) (code : ℕ) (goal : Rule) (crews : List ℕ) wh
 
   abbrev j : Instance
   j = record { code = code; rule = goal; crews = crews; tree = decode tree; d = dist road }
-
-  pub total-of : (y : ℕ) → totalOf road code crews y ≡ total i y
-  unfolding totalOf
-  total-of y = rw (search-of road tree code goal crews) (sym (total-is j y))
 
   module _ (m : Mark) (e : Element) (out : List ℕ) (o : out ≡ toCrews road (m .place) crews) where
     pub f-by : fBy code out (e .distance) ≡ f i m e

@@ -1,4 +1,4 @@
-// What is computed of a yard: its aggregate by true distances, f, and its bound.
+// What is computed of a yard by its leaf's landmark: f, and its bound.
 use crate::numbers;
 use crate::numbers::wide;
 use crate::rows;
@@ -10,7 +10,7 @@ ghost use lib.ListN.{length};
 ghost use Rattle.road_layout.specs.Road.{junctions};
 ghost use Rattle.search_bounds.specs.code.Rows.{Rows};
 ghost use Rattle.search_bounds.specs.code.Bounds.{Crews};
-ghost use Rattle.search_bounds.specs.code.Measures.{Driven, IsDriven, toCrews, totalOf};
+ghost use Rattle.search_bounds.specs.code.Measures.{Driven, IsDriven, toCrews};
 ghost use Rattle.search_bounds.specs.code.Measures.{fBy, crewAbsDiff, yardBoundBy};
 
 // "f, the aggregate of |d(l, q) − d(l, p)|": of landmark l's distances to the crews and of an element's distance.
@@ -25,22 +25,6 @@ pub fn f_of(out: &[u32], code: u8, distance: u32) -> u64
         j += 1;
     }
     total
-}
-
-// A yard's aggregate by true distances, from the crews' rows.
-pub fn measure(drives: &[u32], crews: &[u16], code: u8, yard: Junction) -> u32
-    requires { ⌜ IsDriven (now crews) (now drives) (yard .number) ⌝ }
-    ensures { λ r. ⌜ ((road : List ℕ) → Driven road (now (crews .entry)) (now (drives .entry))
-        → yard .number < junctions road
-        → r ≡ totalOf road code (now (crews .entry)) (yard .number)) ⌝ }
-{
-    let mut total: u64 = 0;
-    let mut j: usize = 0;
-    while j < crews.len() {
-        total = numbers::combine(code, total, wide(road::rows::cell(drives, j, yard)));
-        j += 1;
-    }
-    total as u32
 }
 
 // Landmark l's distances to the crews, from the crews' rows: "A road runs both ways".

@@ -1,6 +1,7 @@
 -- What is kept and what is enough, by what the code's rule is. Assumes nothing.
 use mathlib.Core.Path.{_≡_, refl, sym, _∙_}
-use mathlib.Core.Bool.{Bool, false, not}
+use mathlib.Core.Bool.{Bool, true, false, not}
+use mathlib.Core.Option.{none, some}
 use mathlib.Core.List.{List, []}
 use Prim.Native.Nat.{ℕ, _≤_, _<_}
 use native.Mathlib.Omega.{arith}
@@ -13,6 +14,7 @@ use Rattle.tree_layout.specs.Values.{Element}
 use Rattle.search_rules.specs.Rule.{nearest, inDrive, Rule as SearchRule}
 use Rattle.search_rules.specs.Held.{insert, hold, greatestHeld}
 use Rattle.search_rules.specs.Keeping.{keepBy, enoughBy}
+use Rattle.search_rules.specs.Ceiling.{ceilingBy}
 use Rattle.search_rules.specs.Run.{words}
 use Rattle.search_held.specs.declared.Rule.{Rule}
 use Rattle.search_held.specs.declared.Rule.the-variants.{Nearest, InDrive}
@@ -37,6 +39,22 @@ module _ (rule : Rule) (kept : Kept) (least : ℕ) (ws : List ℕ) where
   pub enough-drive : (s : ℕ) → rule ≡ InDrive s → ltb s least ≡ enoughBy (ruleOf rule) (heldBy (ruleOf rule) kept ws) least
   unfolding enoughBy
   enough-drive s e = rw e refl
+
+-- ---- what the next yard is held against
+
+module _ (rule : Rule) (kept : Kept) (ws : List ℕ) where
+  pub ceiling-few : (k : ℕ) → rule ≡ Nearest k → (kept .held .count ≡ k → ⊥) → none ≡ ceilingBy (ruleOf rule) (heldBy (ruleOf rule) kept ws)
+  unfolding ceilingBy
+  ceiling-few k e h = rw (e, held-length, ne-eqb (kept .held .count) k h) (sym (choose-no false (some (greatestHeld (heldOf (kept .held)))) none tt))
+
+  pub ceiling-full : (k g : ℕ) → rule ≡ Nearest k → kept .held .count ≡ k → g ≡ greatestHeld (heldOf (kept .held))
+      → some g ≡ ceilingBy (ruleOf rule) (heldBy (ruleOf rule) kept ws)
+  unfolding ceilingBy
+  ceiling-full k g e h f = rw (e, held-length, eq-eqb (kept .held .count) k h, f) (sym (choose-yes true (some (greatestHeld (heldOf (kept .held)))) none tt))
+
+  pub ceiling-drive : (s : ℕ) → rule ≡ InDrive s → some s ≡ ceilingBy (ruleOf rule) (heldBy (ruleOf rule) kept ws)
+  unfolding ceilingBy
+  ceiling-drive s e = rw e refl
 
 -- ---- what is kept
 

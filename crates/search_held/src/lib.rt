@@ -3,6 +3,7 @@ mod drive; // drive.rt: the yards within a drive, in an array of words
 mod first; // first.rt: the first k yards, in a struct
 
 use book::Junction;
+use search_measure::Ceiling;
 ghost use mathlib.Core.Path.{_≡_};
 ghost use mathlib.Core.List.{List, []};
 ghost use Prim.Native.Nat.{ℕ, _+_, _*_, _≤_, _<_};
@@ -10,7 +11,9 @@ ghost use lib.ListN.{length};
 ghost use Rattle.book.specs.Writing.{write};
 ghost use Rattle.tree_layout.specs.Reading.{element};
 ghost use Rattle.search_rules.specs.Keeping.{keepBy, enoughBy};
+ghost use Rattle.search_rules.specs.Ceiling.{ceilingBy};
 ghost use Rattle.search_rules.specs.Run.{words};
+ghost use Rattle.search_measure.specs.code.Cases.{ceilingOf};
 ghost use Rattle.search_held.specs.code.Rules.{ruleOf, heldBy, countBy, Fits};
 
 // What a search keeps of the yards that it measures: the first so many, or those within so many seconds.
@@ -94,6 +97,23 @@ pub fn enough(kept: Kept, rule: Rule, least: u64) -> bool
             (first::greatest(held) as u64) < least
         }
         Rule::InDrive(seconds) => (seconds as u64) < least,
+    }
+}
+
+// What the next yard that is measured is held against: the k-th held distance once k are held, or a drive's seconds.
+pub fn ceiling(kept: Kept, rule: Rule) -> Ceiling
+    requires { ⌜ Fits (ruleOf rule) kept ⌝ }
+    ensures { λ r. ⌜ ((list : List ℕ) → ceilingOf r ≡ ceilingBy (ruleOf rule) (heldBy (ruleOf rule) kept list)) ⌝ }
+{
+    match rule {
+        Rule::Nearest(k) => {
+            let held = kept.held;
+            if held.count < k as usize {
+                return Ceiling::None;
+            }
+            Ceiling::Seconds(first::greatest(held))
+        }
+        Rule::InDrive(seconds) => Ceiling::Seconds(seconds),
     }
 }
 

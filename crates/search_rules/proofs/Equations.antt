@@ -31,7 +31,7 @@ pub combine-sum : (code a b : ℕ) → code ≡ 0 → a + b ≡ combine code a b
 unfolding combine
 combine-sum code a b e = rw (choose-yes (eqb code 0) (a + b) (max a b) (eq→eqb code 0 e)) refl
 
-combine-max : (code a b : ℕ) → (code ≡ 0 → ⊥) → max a b ≡ combine code a b
+pub combine-max : (code a b : ℕ) → (code ≡ 0 → ⊥) → max a b ≡ combine code a b
 unfolding combine
 combine-max code a b h = rw (choose-no (eqb code 0) (a + b) (max a b) (ne→neqb code 0 h)) refl
 

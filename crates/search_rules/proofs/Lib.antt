@@ -4,6 +4,7 @@ pub mod Limits
 pub mod Order
 pub mod Held
 pub mod Fronts
+pub mod Ceiling
 pub mod Queue
 pub mod Stepping
 pub mod Kept

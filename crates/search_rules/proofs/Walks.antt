@@ -11,6 +11,7 @@ use Rattle.book.proofs.Lists.{map-mem}
 use Rattle.road_layout.specs.Road.{junctions}
 use Rattle.adjacency.specs.Arcs.{net}
 use Rattle.road.specs.Dijkstra.{dist}
+use Rattle.road.specs.Facts.{Passing}
 use Rattle.road.proofs.Walks.{least-unique}
 use Rattle.road.proofs.Theorems.{metric}
 use Rattle.tree_layout.specs.Decode.{decode}
@@ -46,36 +47,37 @@ yards-distinct (h ∷ l) s d = (
   yards-distinct l (s .1) (λ x g a b. d x g (tail a) (tail b)),
 )
 
-module _ (road tree : List ℕ) (code : ℕ) (goal : Rule) (crews : List ℕ) (p : Passed road tree crews) where
-  abbrev i : Instance
-  i = searchOf road tree code goal crews
+-- ---- an aggregate of distances is that of the walks' least totals, and no other number is
 
-  -- ---- a yard's aggregate is that of the walks' least totals, and no other number is
-
-  aggregate-least : (y : ℕ) → y < junctions road → (qs : List ℕ) → ((q : ℕ) → Mem q qs → q < junctions road)
+module _ (road : List ℕ) (roads : Passing road) (code : ℕ) where
+  pub aggregate-least : (y : ℕ) → y < junctions road → (qs : List ℕ) → ((q : ℕ) → Mem q qs → q < junctions road)
       → AggregateLeast (net road) code y qs (aggregate code (λ q. dist road q y) qs)
   unfolding aggregate
   aggregate-least y h [] k = none
-  aggregate-least y h (q ∷ qs) k = more (metric road (p .roads) .least q y (k q (head refl)) h) (aggregate-least y h qs (λ x j. k x (tail j)))
+  aggregate-least y h (q ∷ qs) k = more (metric road roads .least q y (k q (head refl)) h) (aggregate-least y h qs (λ x j. k x (tail j)))
 
-  aggregate-one : (y : ℕ) → y < junctions road → {qs : List ℕ} {s : ℕ} → ((q : ℕ) → Mem q qs → q < junctions road) → AggregateLeast (net road) code y qs s
+  pub aggregate-one : (y : ℕ) → y < junctions road → {qs : List ℕ} {s : ℕ} → ((q : ℕ) → Mem q qs → q < junctions road) → AggregateLeast (net road) code y qs s
       → s ≡ aggregate code (λ q. dist road q y) qs
   unfolding aggregate
   aggregate-one y h k none = refl
   aggregate-one y h k (more {q = q} {t = t} {s = s} {qs = qs} l a) =
-      let e : t ≡ dist road q y = least-unique l (metric road (p .roads) .least q y (k q (head refl)) h) in
+      let e : t ≡ dist road q y = least-unique l (metric road roads .least q y (k q (head refl)) h) in
       let f : s ≡ aggregate code (λ x. dist road x y) qs = aggregate-one y h (λ x j. k x (tail j)) a in
       cc
+
+module _ (road tree : List ℕ) (code : ℕ) (goal : Rule) (crews : List ℕ) (p : Passed road tree crews) where
+  abbrev i : Instance
+  i = searchOf road tree code goal crews
 
   total-is : (y : ℕ) → total i y ≡ aggregate code (λ q. dist road q y) crews
   unfolding total over searchOf
   total-is y = refl
 
   pub total-least : (y : ℕ) → y < junctions road → AggregateLeast (net road) code y crews (total i y)
-  total-least y h = rw total-is (aggregate-least y h crews (p .there))
+  total-least y h = rw total-is (aggregate-least road (p .roads) code y h crews (p .there))
 
   pub total-one : (y s : ℕ) → y < junctions road → AggregateLeast (net road) code y crews s → s ≡ total i y
-  total-one y s h a = aggregate-one y h (p .there) a ∙ sym (total-is y)
+  total-one y s h a = aggregate-one road (p .roads) code y h (p .there) a ∙ sym (total-is y)
 
   -- ---- a settled search of true books
 

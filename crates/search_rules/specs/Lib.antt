@@ -10,5 +10,6 @@ pub mod Step
 pub mod Run
 pub mod Facts
 pub mod Theorems
+pub mod Ceiling
 pub mod Walks
 pub mod Examples

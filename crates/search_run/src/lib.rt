@@ -20,7 +20,8 @@ ghost use Rattle.search_bounds.specs.code.Rows.{Rows};
 ghost use Rattle.search_bounds.specs.code.Bounds.{rowsBound, Crews};
 ghost use Rattle.search_state.specs.code.State.{wordCount};
 ghost use Rattle.search_step.specs.code.Children.{Ended};
-ghost use Rattle.search_leaf.specs.code.Ready.{Ready, Readied};
+ghost use Rattle.search_leaf.specs.code.Ready.{Ready};
+ghost use Rattle.search_step.specs.code.Prepared.{IsPrepared};
 ghost use Rattle.search_run.specs.code.Answers.{putRoot, answerOf};
 
 // The words of the greatest search: of 511 regions and 1,024 junctions.
@@ -63,6 +64,7 @@ fn queue_root(
 
 // Takes steps until the search is settled or the limit's number is taken.
 fn steps(
+    adj: &[u16],
     tree: &[u8],
     places: &[usize],
     ends: &[usize],
@@ -74,7 +76,7 @@ fn steps(
     list: &mut [u32],
     measured: &mut [u16],
 ) -> Outcome
-    requires { ⌜ Readied (now tree) (asked .aggregate) (ruleOf (asked .rule))
+    requires { ⌜ IsPrepared (now adj) (now tree) (asked .aggregate) (ruleOf (asked .rule))
         (now crews) (now drives) (now places) (now table)
         × Ended (now tree) (now ends) × (length (now list) ≡ 512) × (256 ≤ length (now measured))
         × Small (ruleOf (asked .rule))
@@ -117,6 +119,7 @@ fn steps(
             };
         }
         progress = search_step::step(
+            adj,
             tree,
             places,
             ends,
@@ -136,6 +139,7 @@ fn steps(
 
 // Searches for what is asked. The words of the yards within a drive stand in a lent array.
 pub fn run(
+    adj: &[u16],
     tree: &[u8],
     places: &[usize],
     ends: &[usize],
@@ -145,7 +149,7 @@ pub fn run(
     asked: Asked,
     list: &mut [u32],
 ) -> Outcome
-    requires { ⌜ Readied (now tree) (asked .aggregate) (ruleOf (asked .rule))
+    requires { ⌜ IsPrepared (now adj) (now tree) (asked .aggregate) (ruleOf (asked .rule))
         (now crews) (now drives) (now places) (now table)
         × Ended (now tree) (now ends) × (length (now list) ≡ 512) × Small (ruleOf (asked .rule)) ⌝ }
     ensures answer { λ o. ⌜ ((road : List ℕ)
@@ -162,6 +166,7 @@ pub fn run(
     let h = records::header(tree);
     let count = 3 * places.len() + 4 * (h.junctions as usize);
     steps(
+        adj,
         tree,
         places,
         ends,

@@ -1,9 +1,11 @@
 -- A step of a search that is ready: which yard or region is taken, and the state that it leads to. Assumes nothing.
 use mathlib.Core.Path.{_≡_, refl, sym, ap, _∙_}
+use mathlib.Core.Option.{Option}
 use mathlib.Core.List.{List, _∷_}
 use Prim.Native.Nat.{ℕ, _+_, _-_, _≤_, _<_}
 use native.Mathlib.Omega.{arith}
 use lib.ListN.{length, getD, set}
+use lib.Dec.{T}
 use Rattle.road_layout.specs.Road.{junctions}
 use Rattle.tree_layout.specs.Values.{Element}
 use Rattle.tree_layout.specs.Decode.{junctionCount}
@@ -18,6 +20,10 @@ use Rattle.search_rules.specs.Held.{entry}
 use Rattle.search_rules.specs.Keeping.{keepBy}
 use Rattle.search_rules.specs.Step.{SearchState, nextRegion, nextYard, leastKey, takeRegion, takeYard, step}
 use Rattle.search_rules.specs.Facts.{WellFormed}
+use Rattle.search_rules.specs.Theorems.{Sorted}
+use Rattle.search_rules.specs.Ceiling.{exceeds, ceilingBy}
+use Rattle.search_rules.proofs.Ceiling.{above-kept}
+use Rattle.search_rules.proofs.Found.{run-listing}
 use Rattle.search_rules.proofs.Books.{accepted-of}
 use Rattle.search_rules.proofs.Equations.{search-of}
 use Rattle.search_rules.proofs.Steps.{least-key-is, step-yard, step-region, take-yard-is, entry-is}
@@ -27,16 +33,21 @@ use Rattle.search_state.specs.code.State.{wordCount, regionKeysIn, yardKeysIn, 
 use Rattle.search_state.proofs.Cells.{Parts, parts-of, store-yard, state-by}
 use Rattle.search_state.proofs.Choosing.{picked-inside, picked-word, picked-region, picked-most, picked-yard, picked-less, region-low}
 use Rattle.search_state.proofs.Newest.{newest-length}
-use Rattle.search_bounds.specs.code.Measures.{IsDriven, totalOf}
-use Rattle.search_bounds.proofs.YardsSearching.{total-of}
+use Rattle.search_measure.specs.code.Cases.{Measurable, IsMeasurable, totalOf}
+use Rattle.search_measure.proofs.Totals.{total-of, same-total}
 use Rattle.search_leaf.specs.code.Ready.{Ready, Readied, Cached}
-use Rattle.search_leaf.proofs.Landmarks.{well, driven-of}
+use Rattle.search_leaf.proofs.Landmarks.{well}
 use Rattle.search_step.specs.code.Regions.{RegionQueued, Going, FirstLeast}
+use Rattle.search_step.specs.code.Prepared.{IsPrepared}
 use Rattle.search_step.proofs.Opening.{cached-by, regions-of, junctions-are}
 
 -- what is held after one more yard, by its distance
 pub held-by : (rule : Rule) (d t y : ℕ) (l r : List Element) → d ≡ t → r ≡ keepBy rule (element d y) l → r ≡ keepBy rule (element t y) l
 held-by rule d t y l r e h = rw (← e) h
+
+-- and after one that is above the ceiling
+pub held-above : (rule : Rule) (c : Option ℕ) (t y : ℕ) (l : List Element) → Sorted l → c ≡ ceilingBy rule l → T (exceeds c t) → l ≡ keepBy rule (element t y) l
+held-above rule c t y l s e u = sym (above-kept rule l s (element t y) (rw e at u))
 
 -- ---- the numbers
 
@@ -60,9 +71,13 @@ pub record Picked (tree places words : List ℕ) (p : ℕ) : Type 0 where
   pub below : p < length places + junctionCount tree
   pub small : p < 1535
 
-module _ {tree : List ℕ} {code : ℕ} {goal : Rule} {crews drives places table : List ℕ} (readied : Readied tree code goal crews drives places table) where
-  abbrev rd : Ready (readied .road) tree code goal crews drives places table
-  rd = readied .ready
+module _ {adj tree : List ℕ} {code : ℕ} {goal : Rule} {crews drives places table : List ℕ} (prepared : IsPrepared adj tree code goal crews drives places table) where
+  abbrev rd : Ready (prepared .road) tree code goal crews drives places table
+  rd = prepared .ready
+
+  -- without the adjacency
+  pub readied : Readied tree code goal crews drives places table
+  readied = record { road = prepared .road; ready = rd }
 
   pub picked : {words : List ℕ} {p : ℕ} → length words ≡ wordCount (length places) (junctionCount tree)
       → FirstLeast (length places) (junctionCount tree) words p
@@ -76,13 +91,23 @@ module _ {tree : List ℕ} {code : ℕ} {goal : Rule} {crews drives places table
       below : p < length places + junctionCount tree
       below = picked-inside (length places) (junctionCount tree) words s (some-region rd) (some-junction rd) p e
 
-  -- each crew has its row of distances beside some road book, and yard y is one of its junctions
-  pub yard-driven : (y : ℕ) → y < junctionCount tree → IsDriven crews drives y
-  yard-driven y h = record {
-    road = readied .road;
-    driven = driven-of (readied .road) tree code goal crews drives places table rd;
+  -- a yard can be measured
+  pub measurable-in : (y : ℕ) → y < junctionCount tree → Measurable (prepared .road) adj crews y
+  measurable-in y h = record {
+    roads = rd .passed .roads;
+    adjacent = prepared .adjacent;
+    few = rd .passed .few;
+    there = rd .passed .there;
     junction = omega (arith, same-junctions rd);
   }
+
+  pub yard-measurable : (y : ℕ) → y < junctionCount tree → IsMeasurable adj crews y
+  yard-measurable y h = record { road = prepared .road; measurable = measurable-in y h }
+
+  -- its aggregate is the same beside every road book that the search is ready beside
+  pub total-same : (road : List ℕ) → Ready road tree code goal crews drives places table → (y : ℕ) → y < junctionCount tree
+      → totalOf (prepared .road) code crews y ≡ totalOf road code crews y
+  total-same road r y h = same-total (prepared .road) road crews drives code y (rd .driven) (r .driven) (omega (arith, rd .laid .layout .junctions .1))
 
 -- ---- what the step does
 
@@ -157,6 +182,10 @@ module _ {road tree : List ℕ} {code : ℕ} {goal : Rule} {crews drives places 
         where
           less : wordAt (st .yardKeys) (nextYard i st) < wordAt (st .regionKeys) (nextRegion i st)
           less = picked-less r n words s (some-region ready) (some-junction ready) i (regions-of ready) (junctions-are ready) held measured count p e h
+
+      -- what is held is in yard order
+      pub yard-sorted : Sorted held
+      yard-sorted = rw (ap (λ (x : SearchState). x .held) (state-by (parts-of r n words) held measured count)) at (rw (← u .is) at (run-listing i formed (u .steps) .sorted))
 
       -- there is room for one more measured yard
       pub yard-room : count < 256

@@ -17,7 +17,8 @@ ghost use Rattle.search_rules.specs.Step.{step};
 ghost use Rattle.search_held.specs.code.Rules.{ruleOf, heldBy, countBy, Fits};
 ghost use Rattle.search_state.specs.code.State.{wordCount, picksIn, fsIn, boundsIn, stateOf};
 ghost use Rattle.search_step.specs.code.Children.{Ended};
-ghost use Rattle.search_leaf.specs.code.Ready.{Ready, Readied, Cached};
+ghost use Rattle.search_leaf.specs.code.Ready.{Ready, Cached};
+ghost use Rattle.search_step.specs.code.Prepared.{IsPrepared};
 ghost use Rattle.search_step.specs.code.Regions.{Going, FirstLeast};
 
 // What a search has come to beside its words: what it keeps, and the number of the measured yards.
@@ -28,6 +29,7 @@ pub struct Progress {
 
 // "One step takes the least key; at equal keys a region precedes a yard, then lower number first.": number p has it.
 pub fn step(
+    adj: &[u16],
     tree: &[u8],
     places: &[usize],
     ends: &[usize],
@@ -41,7 +43,7 @@ pub fn step(
     progress: Progress,
     p: usize,
 ) -> Progress
-    requires { ⌜ Readied (now tree) (asked .aggregate) (ruleOf (asked .rule))
+    requires { ⌜ IsPrepared (now adj) (now tree) (asked .aggregate) (ruleOf (asked .rule))
         (now crews) (now drives) (now places) (now table)
         × Ended (now tree) (now ends)
         × ((road : List ℕ)
@@ -97,5 +99,5 @@ pub fn step(
     let yard = Junction {
         number: (p - r) as u16,
     };
-    measuring::take(drives, crews, asked, list, measured, progress, yard)
+    measuring::take(adj, crews, asked, list, measured, progress, yard)
 }

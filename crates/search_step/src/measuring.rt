@@ -1,21 +1,25 @@
-// A yard is taken: it is measured by true distances, and held if the search's rule keeps it.
+// A yard is taken: it is measured, and held if the search's rule keeps it.
 use crate::Progress;
 use book::Junction;
 use search_held::Asked;
+use search_measure::Measured;
 ghost use mathlib.Core.Path.{_≡_};
 ghost use mathlib.Core.List.{List, _∷_};
 ghost use Prim.Native.Nat.{ℕ, _+_, _≤_, _<_};
 ghost use lib.ListN.{length};
-ghost use Rattle.road_layout.specs.Road.{junctions};
 ghost use Rattle.tree_layout.specs.Reading.{element};
 ghost use Rattle.search_rules.specs.Keeping.{keepBy};
+ghost use Rattle.search_rules.specs.Theorems.{Sorted};
+ghost use Rattle.search_measure.specs.code.Cases.{Measurable, IsMeasurable, totalOf};
 ghost use Rattle.search_held.specs.code.Rules.{ruleOf, heldBy, countBy, Fits};
 ghost use Rattle.search_state.specs.code.State.{newest};
-ghost use Rattle.search_bounds.specs.code.Measures.{Driven, IsDriven, totalOf};
 
-// Measures yard y: it is the last of the measured yards.
+// A walk's distances and marks have a place for each of 1,024 junctions.
+const JUNCTIONS: usize = 1024;
+
+// Measures yard y: it is the last of the measured yards. One that is above the ceiling is not held.
 pub fn take(
-    drives: &[u32],
+    adj: &[u16],
     crews: &[u16],
     asked: Asked,
     list: &mut [u32],
@@ -23,15 +27,15 @@ pub fn take(
     progress: Progress,
     y: Junction,
 ) -> Progress
-    requires { ⌜ IsDriven (now crews) (now drives) (y .number)
+    requires { ⌜ IsMeasurable (now adj) (now crews) (y .number)
         × (progress .measured < 256) × (256 ≤ length (now measured))
         × Fits (ruleOf (asked .rule)) (progress .kept)
-        × (countBy (ruleOf (asked .rule)) (progress .kept) ≤ progress .measured) × (length (now list) ≡ 512) ⌝ }
+        × (countBy (ruleOf (asked .rule)) (progress .kept) ≤ progress .measured) × (length (now list) ≡ 512)
+        × Sorted (heldBy (ruleOf (asked .rule)) (progress .kept) (now list)) ⌝ }
     ensures count { λ o. ⌜ o .measured ≡ progress .measured + 1 ⌝ }
     ensures measured { λ _. ⌜ newest (now (measured .exit)) (progress .measured + 1)
         ≡ y .number ∷ newest (now (measured .entry)) (progress .measured) ⌝ }
-    ensures held { λ o. ⌜ ((road : List ℕ)
-        → Driven road (now (crews .entry)) (now (drives .entry)) → y .number < junctions road
+    ensures held { λ o. ⌜ ((road : List ℕ) → Measurable road (now (adj .entry)) (now (crews .entry)) (y .number)
         → heldBy (ruleOf (asked .rule)) (o .kept) (now (list .exit)) ≡ keepBy (ruleOf (asked .rule))
         (element (totalOf road (asked .aggregate) (now (crews .entry)) (y .number)) (y .number))
         (heldBy (ruleOf (asked .rule)) (progress .kept) (now (list .entry)))) ⌝ }
@@ -40,12 +44,30 @@ pub fn take(
 {
     let count = progress.measured;
     measured[count] = y.number;
-    let total = search_bounds::yards::measure(drives, crews, asked.aggregate, y);
+    let so_many = count + 1;
     let rule = asked.rule;
     let so_far = progress.kept;
+    let ceiling = search_held::ceiling(so_far, rule);
+    let mut row = [0u32; JUNCTIONS];
+    let mut done = [false; JUNCTIONS];
+    let answer = search_measure::measure(
+        adj,
+        &mut row,
+        &mut done,
+        crews,
+        asked.aggregate,
+        ceiling,
+        y,
+    );
+    let Measured::Exact(total) = answer else {
+        return Progress {
+            kept: so_far,
+            measured: so_many,
+        };
+    };
     let kept = search_held::keep(so_far, list, rule, y, total);
     Progress {
         kept,
-        measured: count + 1,
+        measured: so_many,
     }
 }

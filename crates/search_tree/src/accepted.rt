@@ -90,6 +90,7 @@ pub fn search(
     );
     let mut list = [0u32; search_held::WORDS];
     let o = search_run::run(
+        adj,
         tree,
         places,
         ends,

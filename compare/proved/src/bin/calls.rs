@@ -1,5 +1,7 @@
-//! The command `calls`: how long the proved calls take beside the plain ones, on the grid district with 256 yards, and on full books of each kind; searches
-//! also beside brute force, in Rust and, where LEMON is installed, with its Dijkstra in C++.
+//! The command `calls`: how long the proved calls take beside the plain ones, on the grid district with 256 yards, and
+//! on full books of each kind; searches also beside the plain one with no ceiling ever, with the junctions that each
+//! measured yard's walk walks on from, and beside brute force, in Rust and, where LEMON is installed, with its Dijkstra
+//! in C++.
 #![forbid(unsafe_code)]
 
 use std::fs;
@@ -10,7 +12,9 @@ use std::time::Duration;
 use compare::build::AREA_BYTES;
 use compare::generate::{standard, Numbers};
 use compare::refusal::WORK_WORDS;
-use compare::{query, road, yard, Asked, Found};
+use compare::search::state::State;
+use compare::search::{run, tested};
+use compare::{ask_by, query, road, yard, Asked, Found, Measuring};
 use proved::turns::{shortest, Call};
 
 /// How long the calls of a row take turns.
@@ -30,8 +34,32 @@ const KS: [u8; 3] = [1, 10, 64];
 const DRIVE_CREWS: [usize; 2] = [2, 16];
 const WITHIN: [usize; 3] = [YARDS as usize / 100, YARDS as usize / 10, YARDS as usize];
 const AGGREGATES: [&str; 2] = ["sum", "maximum"];
-/// The ratio that is wanted of each call.
+/// The ratio that is wanted of a check and a build, and of a search, each beside the plain one.
 const WANTED: f64 = 1.0;
+const WANTED_OF_SEARCHES: f64 = 0.8;
+
+/// Above the rows of checks and builds.
+const HEADING: &str = "call   leaf limit   proved ms   plain ms   ratio   wanted";
+/// The columns of a search's row: two lines of heading, and the width. "No ceiling" is the plain search with none ever.
+/// Walked on from are so many junctions for each measured yard, on average.
+const COLUMNS: [(&str, &str, usize); 16] = [
+    ("", "call", 6),
+    ("", "crews", 5),
+    ("", "yards", 5),
+    ("", "aggregate", 9),
+    ("proved", "ms", 6),
+    ("plain", "ms", 6),
+    ("", "ratio", 5),
+    ("", "wanted", 6),
+    ("no ceiling", "ms", 10),
+    ("measured", "yards", 8),
+    ("walked on", "junctions", 9),
+    ("no ceiling", "junctions", 10),
+    ("brute", "ms", 6),
+    ("force", "ratio", 5),
+    ("LEMON", "ms", 6),
+    ("", "ratio", 5),
+];
 
 /// The district's road and yard books.
 struct District {
@@ -75,13 +103,24 @@ impl Row {
             query,
         }
     }
+
+    /// The row's first words: the call, its crews, its yards and its aggregate.
+    fn words(&self) -> Vec<String> {
+        vec![
+            self.call.to_string(),
+            self.query[11].to_string(),
+            self.listed.to_string(),
+            AGGREGATES[self.aggregate].to_string(),
+        ]
+    }
 }
 
-/// Prints a row for each call: the proved call's time, the plain one's, and the ratio. The argument, if any, is the LEMON peer.
+/// Prints a row for each call: the proved call's time, the plain one's, and the ratio. The argument, if any, is the
+/// LEMON peer.
 fn main() {
     let peer = std::env::args().nth(1);
     let district = district("grid");
-    println!("call   leaf limit   proved ms   plain ms   ratio   wanted");
+    println!("{HEADING}");
     for leaf_limit in LEAF_LIMITS {
         check_row(&district, leaf_limit);
     }
@@ -92,9 +131,24 @@ fn main() {
     full_rows(peer.as_deref());
 }
 
+/// The two lines above the rows of searches.
+fn print_search_heading() {
+    print_line(&COLUMNS.map(|column| column.0.to_string()));
+    print_line(&COLUMNS.map(|column| column.1.to_string()));
+}
+
+/// Words in the columns of a search's row, as many as there are.
+fn print_line(words: &[String]) {
+    let columns = words.iter().zip(COLUMNS);
+    let words: Vec<String> = columns
+        .map(|(word, (_, _, width))| format!("{word:>width$}"))
+        .collect();
+    println!("{}", words.join(" ").trim_end());
+}
+
 /// Searches for the first k yards, and drive searches.
 fn search_rows(district: &District, peer: Option<&str>) {
-    println!("search crews yards aggregate   proved ms   plain ms   ratio   wanted   brute force ms   ratio   LEMON ms   ratio");
+    print_search_heading();
     let tree = built(district, LEAF_LIMIT);
     for crews in CREWS {
         for k in KS {
@@ -118,8 +172,10 @@ fn full_rows(peer: Option<&str>) {
     for kind in standard::KINDS {
         println!("full books: {kind}, 256 yards, leaf limit {FULL_LIMIT}");
         let district = district(kind);
+        println!("{HEADING}");
         check_row(&district, FULL_LIMIT);
         build_row(&district, FULL_LIMIT);
+        print_search_heading();
         let tree = built(&district, FULL_LIMIT);
         for aggregate in 0..AGGREGATES.len() {
             search_row(&district, &tree, &Row::first_k(16, 64, aggregate), peer);
@@ -172,28 +228,57 @@ fn row(call: &str, leaf_limit: u32, ours: Call, theirs: Call) {
     println!("{call:<6} {leaf_limit:>10} {best:>11.2} {plain:>10.2} {ratio:>7.2} {WANTED:>8.1}");
 }
 
-/// One search's row, also beside brute force. All must give the same list.
+/// One search's row, also beside the plain search with no ceiling and brute force. All must give the same list.
 fn search_row(District { road, yard }: &District, tree: &[u8], row: &Row, peer: Option<&str>) {
     let books: [&[u8]; 3] = [road, tree, &row.query];
     let without_tree: [&[u8]; 3] = [road, yard, &row.query];
-    let mut lists = [[0; 2 * YARDS as usize]; 3];
-    let [one, other, third] = &mut lists;
+    let by = |way, work: &mut [u32], list: &mut [u32]| ask_by(way, row.asked, books, work, list);
+    let mut lists = [[0; 2 * YARDS as usize]; 4];
+    let [one, other, third, fourth] = &mut lists;
     let ours: Call = &mut |work| settled(proved::ask(row.asked, books, work, one));
-    let theirs: Call = &mut |work| settled(compare::ask(row.asked, books, work, other));
-    let brute: Call = &mut |_| brute_force(row.asked, without_tree, third);
-    let [best, plain, brute] = shortest(SEARCH_TURNS, [ours, theirs, brute]);
-    assert!(lists[0] == lists[1] && lists[1] == lists[2]);
-    let (call, crews, listed) = (row.call, row.query[11], row.listed);
-    let (aggregate, ratio, gain) = (AGGREGATES[row.aggregate], best / plain, best / brute);
-    print!(
-        "{call} {crews:>5} {listed:>5} {aggregate:<9} {best:>11.3} {plain:>10.3} {ratio:>7.2} {WANTED:>8.1} {brute:>16.3} {gain:>7.2}"
-    );
+    let theirs: Call = &mut |work| settled(by(Measuring::Walks, work, other));
+    let whole: Call = &mut |work| settled(by(Measuring::WalksWithoutCeiling, work, third));
+    let brute: Call = &mut |_| brute_force(row.asked, without_tree, fourth);
+    let [best, plain, whole, brute] = shortest(SEARCH_TURNS, [ours, theirs, whole, brute]);
+    assert!(lists.iter().all(|list| *list == lists[0]));
+    let mut words = row.words();
+    words.extend([milliseconds(best), milliseconds(plain), ratio(best, plain)]);
+    words.extend([format!("{WANTED_OF_SEARCHES:.1}"), milliseconds(whole)]);
+    words.extend(walks(row.asked, books));
+    words.extend([milliseconds(brute), ratio(best, brute)]);
     if let Some(peer) = peer {
-        let list = &lists[0][..2 * listed];
+        let list = &lists[0][..2 * row.listed];
         let lemon = by_peer(Path::new(peer), row.asked, without_tree, list);
-        print!(" {lemon:>10.3} {:>7.2}", best / lemon);
+        words.extend([milliseconds(lemon), ratio(best, lemon)]);
     }
-    println!();
+    print_line(&words);
+}
+
+/// A time in milliseconds.
+fn milliseconds(time: f64) -> String {
+    format!("{time:.3}")
+}
+
+/// One time beside another.
+fn ratio(time: f64, other: f64) -> String {
+    format!("{:.2}", time / other)
+}
+
+/// How many yards a search measures, and how many junctions each one's walk walks on from, on average, with the ceiling
+/// and without.
+fn walks(asked: Asked, books: [&[u8]; 3]) -> [String; 3] {
+    let last = |measuring| {
+        let search = tested(asked, books, WORK_WORDS, 2 * YARDS as usize).expect("sound books");
+        run(&search.by(measuring)).state
+    };
+    let each = |state: &State| state.walked_on as f64 / state.measured.len() as f64;
+    let walks = last(Measuring::Walks);
+    let whole = last(Measuring::WalksWithoutCeiling);
+    [
+        walks.measured.len().to_string(),
+        format!("{:.1}", each(&walks)),
+        format!("{:.1}", each(&whole)),
+    ]
 }
 
 /// The shortest time of brute force by the LEMON peer, which must give the same list.

@@ -28,10 +28,6 @@ unfoldable pub toCrews : List ℕ → ℕ → List ℕ → List ℕ
 toCrews road l [] = []
 toCrews road l (q ∷ qs) = dist road l q ∷ toCrews road l qs
 
--- a yard's aggregate: of the true distance d(q, p) from each crew q to yard p
-unfoldable pub totalOf : List ℕ → ℕ → List ℕ → ℕ → ℕ
-totalOf road code crews p = aggregate code (λ q. dist road q p) crews
-
 -- "f, the aggregate of |d(l, q) − d(l, p)| with the list's d(l, p)": out has d(l, q) for each crew q
 unfoldable pub fBy : ℕ → List ℕ → ℕ → ℕ
 fBy code out distance = aggregate code (λ x. absDiff x distance) out

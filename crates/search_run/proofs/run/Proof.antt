@@ -7,10 +7,10 @@ use Rattle.search_run.proofs.run.Statement.{statement}
 use Rattle.search_run.proofs.run.Tie as tie
 
 header-requires : tie.Need-header-requires
-header-requires c κs = laid-header _ _ (c .before .before .before .before .before .before .before .pre .0 .ready .laid)
+header-requires c κs = laid-header _ _ (c .before .before .before .before .before .before .before .before .pre .0 .ready .laid)
 
 mul-count : tie.Need-mul-count
-mul-count c = record { fits = omega (arith, laid-few _ _ (c .before .before .before .before .before .before .before .before .pre .0 .ready .laid)) }
+mul-count c = record { fits = omega (arith, laid-few _ _ (c .before .before .before .before .before .before .before .before .before .pre .0 .ready .laid)) }
 
 cast-count : tie.Need-cast-count
 cast-count c = search needs
@@ -19,20 +19,20 @@ mul-count-2 : tie.Need-mul-count-2
 mul-count-2 c = search needs
 
 add-count : tie.Need-add-count
-add-count c = record { fits = omega (arith, laid-few _ _ (c .before .before .before .before .before .before .before .before .before .pre .0 .ready .laid), c .struct-known) }
+add-count c = record { fits = omega (arith, laid-few _ _ (c .before .before .before .before .before .before .before .before .before .before .pre .0 .ready .laid), c .struct-known) }
 
 array-borrow-prefix-words : tie.Need-array-borrow-prefix-words
-array-borrow-prefix-words c = most-words _ _ _ _ (c .before .before .before .before .before .before .before .before .before .pre .0 .ready .laid) (c .before .header .ensures) refl
+array-borrow-prefix-words c = most-words _ _ _ _ (c .before .before .before .before .before .before .before .before .before .before .pre .0 .ready .laid) (c .before .header .ensures) refl
 
 slice-aggregate-steps : tie.Need-slice-aggregate-steps
-slice-aggregate-steps c = count-part 5629 _ (most-words _ _ _ _ (c .before .before .before .before .before .before .before .before .before .before .pre .0 .ready .laid) (c .before .before .header .ensures) refl)
+slice-aggregate-steps c = count-part 5629 _ (most-words _ _ _ _ (c .before .before .before .before .before .before .before .before .before .before .before .pre .0 .ready .laid) (c .before .before .header .ensures) refl)
 
 slice-aggregate-steps-2 : tie.Need-slice-aggregate-steps-2
 slice-aggregate-steps-2 c = search needs
 
 steps-requires : tie.Need-steps-requires
 steps-requires c κs =
-    let start = c .before .before .before .before .before .before .before .before .before .before .before .before in
+    let start = c .before .before .before .before .before .before .before .before .before .before .before .before .before in
     let s = start .pre in
     let h = c .before .before .before .before .header .ensures in (
       s .0,

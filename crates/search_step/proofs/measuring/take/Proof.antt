@@ -1,8 +1,10 @@
 use borrow.Author.Needs.{needs}
-use mathlib.Core.Path.{refl}
+use mathlib.Core.Path.{refl, ap}
 use native.Mathlib.Omega.{arith}
+use Rattle.search_measure.specs.code.Cases.{measuredOf}
+use Rattle.search_measure.proofs.Totals.{answer-exact, answer-above}
 use Rattle.search_state.proofs.Newest.{newest-put}
-use Rattle.search_step.proofs.Taking.{held-by}
+use Rattle.search_step.proofs.Taking.{held-by, held-above}
 use Rattle.search_step.proofs.measuring.take.Statement.{statement}
 use Rattle.search_step.proofs.measuring.take.Tie as tie
 
@@ -12,29 +14,61 @@ mul-measured c = search needs
 slice-write-measured : tie.Need-slice-write-measured
 slice-write-measured c = search needs
 
+add-so-many : tie.Need-add-so-many
+add-so-many c = omega (arith, c .before .before .before .before .pre .1)
+
+ceiling-requires : tie.Need-ceiling-requires
+ceiling-requires c κs = c .before .before .before .before .before .pre .3
+
+slice-aggregate-measure : tie.Need-slice-aggregate-measure
+slice-aggregate-measure c = search needs
+
+slice-aggregate-measure-2 : tie.Need-slice-aggregate-measure-2
+slice-aggregate-measure-2 c = search needs
+
 measure-requires : tie.Need-measure-requires
-measure-requires c κs = search needs
+measure-requires c κs = (c .before .before .before .before .before .before .before .before .pre .0, refl, refl)
 
-keep-requires : tie.Need-keep-requires
-keep-requires c κs = let p = c .before .before .before .before .before .before .before .pre in (p .3, omega (arith, p .4, p .1), p .5)
+enum-known-answer : tie.Need-enum-known-answer
+enum-known-answer c = search needs
 
-add-t13 : tie.Need-add-t13
-add-t13 c = omega (arith, c .before .before .before .before .before .before .before .before .before .before .pre .1)
+enum-told : tie.Need-enum-told
+enum-told c = search needs
 
 same-length : tie.Need-same-length
 same-length c = search needs
 
-same-length-2 : tie.Need-same-length-2
-same-length-2 c = search needs
-
 returns : tie.Need-returns
 returns c =
-    let s = c .before .before .before .before .before .before .before .before .before .before in
-    let k = c .before .before .keep .ensures in (
+    let s = c .before .before .before .before .before .before .before .before .before .before .before .before .before in
+    let m = c .before .before .before .before .measure .ensures in
+    let above = ap measuredOf (c .enum-told .given .1) in (
       refl,
       (
         newest-put (s .args .measured .now) (s .args .progress .measured) (s .args .y .number) (omega (arith, s .pre .1, s .pre .2)),
-        (λ road d h. held-by _ _ _ _ _ _ (c .before .before .before .before .before .measure .ensures road d h) (k .0), (k .1 .0, omega (arith, k .1 .1, s .pre .4))),
+        (λ road k. held-above _ _ _ _ _ (s .pre .6) (c .before .before .before .before .before .before .before .ceiling .ensures _) (answer-above k (m .0 road k) above), (s .pre .3, omega (arith, s .pre .4))),
+      ),
+    )
+
+keep-requires : tie.Need-keep-requires
+keep-requires c κs = let p = c .before .before .before .before .before .before .before .before .before .before .before .before .before .before .before .pre in (p .3, omega (arith, p .4, p .1), p .5)
+
+same-length-2 : tie.Need-same-length-2
+same-length-2 c = search needs
+
+same-length-3 : tie.Need-same-length-3
+same-length-3 c = search needs
+
+returns-2 : tie.Need-returns-2
+returns-2 c =
+    let s = c .before .before .before .before .before .before .before .before .before .before .before .before .before .before .before .before .before .before in
+    let k = c .before .before .keep .ensures in
+    let m = c .before .before .before .before .before .before .before .before .before .measure .ensures in
+    let exact = ap measuredOf (c .before .before .before .before .before .answer .given .1) in (
+      refl,
+      (
+        newest-put (s .args .measured .now) (s .args .progress .measured) (s .args .y .number) (omega (arith, s .pre .1, s .pre .2)),
+        (λ road d. held-by _ _ _ _ _ _ (answer-exact d (m .0 road d) _ exact) (k .0), (k .1 .0, omega (arith, k .1 .1, s .pre .4))),
       ),
     )
 
@@ -44,9 +78,16 @@ take-spec =
     (tie.spec
     mul-measured
     slice-write-measured
+    add-so-many
+    ceiling-requires
+    slice-aggregate-measure
+    slice-aggregate-measure-2
     measure-requires
-    keep-requires
-    add-t13
+    enum-known-answer
+    enum-told
     same-length
+    returns
+    keep-requires
     same-length-2
-    returns)
+    same-length-3
+    returns-2)

@@ -129,6 +129,7 @@ run-requires c κs =
         ready = ready d a _ (s .pre .1) _ refl _ (copied .crews2 .ensures) bytes _ _ _
             (back-taken (s .args .work .now) (p .last .1 .1 .1 .1 .0) size)
             (p .ensures .1 _ (d .adjacent)) (p .kept .1 .1 .1 .0) (p .ensures .0 _ (d .adjacent));
+        adjacent = d .adjacent;
       },
       d .ended,
       refl,
@@ -166,7 +167,7 @@ report-requires c κs =
     let room = ran .run .ensures .1 in (
       room .0,
       omega (arith, room .1, room .2),
-      ran .run .kept .1 .1 .1 .1 .1 .1 .1 .0,
+      ran .run .kept .1 .1 .1 .1 .1 .1 .1 .1 .0,
       results-room d a _ (s .pre .1) _ refl _ (copied .crews2 .ensures) bytes _ _ e (room .0) (rw (measured-of _ _ (ran .run .result)) (room .1)),
       room .2,
     )
@@ -193,7 +194,7 @@ returns c =
     let p = prepared .prepare in
     let size = prepared .prepare .kept .1 .1 .1 .1 .0 ∙ lent-size (s .args .work .now) (a .accepted .work-full) in
     let so : (road : List ℕ) → District road (s .args .tree .now) (s .args .adj .now) (s .args .places .now) (s .args .ends .now)
-    → answerOf (ruleOf (s .args .rule)) (ran .run .last .1 .1 .1 .1 .1 .1 .1 .0) (ran .run .result)
+    → answerOf (ruleOf (s .args .rule)) (ran .run .last .1 .1 .1 .1 .1 .1 .1 .1 .0) (ran .run .result)
     ≡ answerBy road (s .args .tree .now) (s .args .query .now) (ruleOf (s .args .rule))
     = λ road e. answered e (s .pre .2 road e) _ (s .pre .1) _ refl _ (copied .crews2 .ensures) bytes _ _ _
     (back-taken (s .args .work .now) (p .last .1 .1 .1 .1 .0) size) (p .ensures .1 road (e .adjacent)) (p .kept .1 .1 .1 .0)

@@ -1,0 +1,19 @@
+use borrow.Author.Needs.{needs}
+use Rattle.search_measure.proofs.Deciding.{exceeds-none, exceeds-some}
+use Rattle.search_measure.proofs.exceeds.Statement.{statement}
+use Rattle.search_measure.proofs.exceeds.Tie as tie
+
+enum-told : tie.Need-enum-told
+enum-told c = search needs
+
+enum-known-ceiling : tie.Need-enum-known-ceiling
+enum-known-ceiling c = search needs
+
+returns : tie.Need-returns
+returns c = exceeds-none _ _ (c .enum-told .given .1)
+
+returns-2 : tie.Need-returns-2
+returns-2 c = exceeds-some _ _ _ (c .before .ceiling .given .1)
+
+pub exceeds-spec : {M : Type 1} → statement M
+exceeds-spec = tie.close (tie.spec enum-told enum-known-ceiling returns returns-2)

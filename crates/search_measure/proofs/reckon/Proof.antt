@@ -1,0 +1,95 @@
+use borrow.Author.Needs.{needs}
+use mathlib.Core.Path.{ap, _∙_}
+use Prim.Native.Nat.{ℕ, _-_, min}
+use native.Mathlib.Omega.{arith}
+use lib.ListN.{length, getD}
+use Rattle.road.specs.Dijkstra.{at}
+use Rattle.road.proofs.Shortening.{at-inside}
+use Rattle.search_bounds.proofs.Folds.{Summed, summed-none, summed-room, summed-turn, summed-all}
+use Rattle.search_measure.proofs.Deciding.{crew-in, Furthest, furthest-none, furthest-turn, furthest-all}
+use Rattle.search_measure.proofs.reckon.Statement.{statement}
+use Rattle.search_measure.proofs.reckon.Tie as tie
+
+abbrev Inv-loop : tie.InvT-loop
+Inv-loop row crews code frontier total₀ furthest₀ j₀ total furthest j = Summed code (λ q. min (at row q) frontier) crews j total × Furthest (at row) crews j furthest
+
+abbrev μ-loop : tie.MeasureT-loop
+μ-loop row crews code frontier total₀ furthest₀ j₀ total furthest j = length crews - j
+
+loop-holds : tie.Need-loop-holds Inv-loop μ-loop
+loop-holds c = let a = c .before .before .args in (summed-none _ _ _, furthest-none (at (a .row .now)) (a .crews .now))
+
+mul-q : tie.Need-mul-q Inv-loop μ-loop
+mul-q c = search needs
+
+shared-slice-read-q : tie.Need-shared-slice-read-q Inv-loop μ-loop
+shared-slice-read-q c = search needs
+
+cast-q : tie.Need-cast-q Inv-loop μ-loop
+cast-q c = record { fits = omega (arith, crew-in (c .before .before .before .before .before .pre .1) _ (c .before .loop-test .taken)) }
+
+mul-d : tie.Need-mul-d Inv-loop μ-loop
+mul-d c = record { fits = omega (arith, crew-in (c .before .before .before .before .before .pre .1) _ (c .before .loop-test .taken)) }
+
+shared-slice-read-d : tie.Need-shared-slice-read-d Inv-loop μ-loop
+shared-slice-read-d c = omega (arith, crew-in (c .before .before .before .before .before .before .pre .1) _ (c .before .before .loop-test .taken), c .before .before .before .before .before .before .pre .0)
+
+lesser-requires : tie.Need-lesser-requires Inv-loop μ-loop
+lesser-requires c κs = tt
+
+wide-requires : tie.Need-wide-requires Inv-loop μ-loop
+wide-requires c κs = tt
+
+combine-requires : tie.Need-combine-requires Inv-loop μ-loop
+combine-requires c κs =
+    summed-room _ _ _ _ _ (c .before .before .before .before .before .loop .inv .0) (c .before .before .before .before .before .before .before .before .pre .1 .few) _ (c .wide .ensures .1)
+
+greater-requires : tie.Need-greater-requires Inv-loop μ-loop
+greater-requires c κs = tt
+
+add-j : tie.Need-add-j Inv-loop μ-loop
+add-j c = search needs
+
+loop-less : tie.Need-loop-less Inv-loop μ-loop
+loop-less c = search needs
+
+loop-again : tie.Need-loop-again Inv-loop μ-loop
+loop-again c =
+    let a = c .before .before .before .before .before .before .before .before .before .before .args in
+    let l = c .before .before .before .before .before .before .before .loop .inv in
+    let less = c .before .before .before .before .before .before .loop-test .taken in
+    let d = at-inside (a .row .now) (getD (a .crews .now) (c .before .before .before .before .before .before .before .loop .j) 0) (omega (arith, crew-in (c .before .before .before .before .before .before .before .before .before .before .pre .1) _ less, c .before .before .before .before .before .before .before .before .before .before .pre .0)) in (
+      summed-turn _ _ _ _ _ (l .0) less _ _ (c .before .before .wide .ensures .1)
+          (c .before .before .wide .ensures .0 ∙ c .before .before .before .lesser .ensures ∙ ap (λ (x : ℕ). min x (a .frontier)) d) (c .before .combine .ensures),
+      furthest-turn (at (a .row .now)) (a .crews .now) _ _ _ _ (l .1) less d (c .greater .ensures),
+    )
+
+cast-t17 : tie.Need-cast-t17 Inv-loop μ-loop
+cast-t17 c =
+    omega (arith, summed-all _ _ _ _ _ (c .before .loop .inv .0) (c .loop-test .left), c .before .before .before .before .pre .2)
+
+returns : tie.Need-returns Inv-loop μ-loop
+returns c =
+    (summed-all _ _ _ _ _ (c .before .loop .inv .0) (c .loop-test .left), furthest-all _ _ _ _ (c .before .loop .inv .1) (c .loop-test .left))
+
+pub reckon-spec : {M : Type 1} → statement M
+reckon-spec =
+    tie.close
+    (tie.spec
+    Inv-loop
+    μ-loop
+    loop-holds
+    mul-q
+    shared-slice-read-q
+    cast-q
+    mul-d
+    shared-slice-read-d
+    lesser-requires
+    wide-requires
+    combine-requires
+    greater-requires
+    add-j
+    loop-less
+    loop-again
+    cast-t17
+    returns)

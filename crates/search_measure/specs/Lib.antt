@@ -1,0 +1,4 @@
+pub mod Measuring
+pub mod Facts
+pub mod Examples
+pub mod code

@@ -1,0 +1,115 @@
+// A yard is measured: by a walk of its own from the yard, which ends when every crew is reached, or as soon as the
+// aggregate must exceed a ceiling.
+use book::Junction;
+use road::walk;
+use search_bounds::numbers;
+use search_bounds::numbers::wide;
+ghost use mathlib.Core.Path.{_≡_};
+ghost use mathlib.Core.List.{List};
+ghost use Prim.Native.Nat.{ℕ, min, _<_};
+ghost use lib.ListN.{length};
+ghost use Rattle.road.specs.Dijkstra.{at};
+ghost use Rattle.road.specs.code.Queue.{state};
+ghost use Rattle.search_rules.specs.Bounds.{aggregate};
+ghost use Rattle.search_rules.specs.Ceiling.{exceeds};
+ghost use Rattle.search_bounds.specs.code.Bounds.{Crews};
+ghost use Rattle.search_measure.specs.Measuring.{walkRun};
+ghost use Rattle.search_measure.specs.Facts.{Measures};
+ghost use Rattle.search_measure.specs.code.Cases.{ceilingOf, measuredOf, Measurable, IsMeasurable};
+
+// What an aggregate is held against.
+pub enum Ceiling {
+    None,
+    Seconds(u32),
+}
+
+// What measuring answers: the true aggregate, or that it exceeds the ceiling.
+pub enum Measured {
+    Exact(u32),
+    Above,
+}
+
+// What the crews' distances come to so far, and the greatest of them.
+struct Reckoning {
+    total: u32,
+    furthest: u32,
+}
+
+// Whether an aggregate exceeds a ceiling.
+fn exceeds(ceiling: Ceiling, total: u32) -> bool
+    ensures { λ r. ⌜ r ≡ exceeds (ceilingOf ceiling) total ⌝ }
+{
+    match ceiling {
+        Ceiling::None => false,
+        Ceiling::Seconds(seconds) => seconds < total,
+    }
+}
+
+// A crew's distance, or the frontier's if that is nearer.
+fn lesser(distance: u32, frontier: u32) -> u32
+    ensures { λ r. ⌜ r ≡ min distance frontier ⌝ }
+{
+    if distance < frontier {
+        return distance;
+    }
+    frontier
+}
+
+// The aggregate of the crews' distances so far, those still out at the frontier, and the furthest of them.
+fn reckon(row: &[u32], crews: &[u16], code: u8, frontier: u32) -> Reckoning
+    requires { ⌜ (length (now row) ≡ 1024) × Crews (now crews)
+        × (aggregate code (λ q. min (at (now row) q) frontier) (now crews) < 4294967296) ⌝ }
+    ensures total { λ r. ⌜ r .total
+        ≡ aggregate code (λ q. min (at (now (row .entry)) q) frontier) (now (crews .entry)) ⌝ }
+    ensures furthest { λ r. ⌜ r .furthest ≡ aggregate 1 (at (now (row .entry))) (now (crews .entry)) ⌝ }
+{
+    let mut total: u64 = 0;
+    let mut furthest: u32 = 0;
+    let mut j: usize = 0;
+    while j < crews.len() {
+        let q = crews[j] as usize;
+        let d = row[q];
+        total = numbers::combine(code, total, wide(lesser(d, frontier)));
+        furthest = numbers::greater(furthest, d);
+        j += 1;
+    }
+    Reckoning {
+        total: total as u32,
+        furthest,
+    }
+}
+
+// Measures a yard for some crews. The walk's distances and the junctions that it has walked on from stand in row and
+// done.
+pub fn measure(
+    adj: &[u16],
+    row: &mut [u32],
+    done: &mut [bool],
+    crews: &[u16],
+    code: u8,
+    ceiling: Ceiling,
+    yard: Junction,
+) -> Measured
+    requires { ⌜ IsMeasurable (now adj) (now crews) (yard .number)
+        × (length (now row) ≡ 1024) × (length (now done) ≡ 1024) ⌝ }
+    ensures measures { λ r. ⌜ ((road : List ℕ) → Measurable road (now (adj .entry)) (now (crews .entry)) (yard .number)
+        → Measures road code (now (crews .entry)) (ceilingOf ceiling) (yard .number) (measuredOf r)
+        (state (now (row .exit)) (now (done .exit)))) ⌝ }
+    ensures walk { λ _. ⌜ ((road : List ℕ) → Measurable road (now (adj .entry)) (now (crews .entry)) (yard .number)
+        → state (now (row .exit)) (now (done .exit))
+        ≡ walkRun road code (now (crews .entry)) (ceilingOf ceiling) (yard .number)) ⌝ }
+{
+    let mut queue = [0u64; tournament::WORDS];
+    walk::start(row, done, &mut queue, yard);
+    loop {
+        let frontier = walk::frontier(&queue);
+        let reckoning = reckon(row, crews, code, frontier);
+        if exceeds(ceiling, reckoning.total) {
+            return Measured::Above;
+        }
+        if reckoning.furthest <= frontier {
+            return Measured::Exact(reckoning.total);
+        }
+        walk::round(adj, row, done, &mut queue);
+    }
+}

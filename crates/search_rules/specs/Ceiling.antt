@@ -1,0 +1,39 @@
+-- "Stop measuring a yard that has lost": how far a measured yard may be and still be kept. Assumes nothing: these are
+-- definitions and a statement.
+use mathlib.Core.Path.{_≡_}
+use mathlib.Core.Bool.{Bool, false}
+use mathlib.Core.Option.{Option, none, some}
+use mathlib.Core.List.{List}
+use Prim.Native.Nat.{ℕ}
+use lib.ListN.{length}
+use lib.Dec.{T, ltb, eqb}
+use Rattle.book.specs.Choose.{choose}
+use Rattle.tree_layout.specs.Values.{Element}
+use Rattle.search_rules.specs.Rule.{Rule, nearest, inDrive}
+use Rattle.search_rules.specs.Held.{greatestHeld}
+use Rattle.search_rules.specs.Keeping.{keepBy}
+use Rattle.search_rules.specs.Theorems.{Sorted}
+
+-- an aggregate exceeds a ceiling, if there is one: equal to it is not above
+unfoldable pub exceeds : (ceiling : Option ℕ) → ℕ → Bool
+exceeds none n = false
+exceeds (some seconds) n = ltb seconds n
+
+-- "Search uses the k-th held distance, or no ceiling until k are held; the drive search its seconds."
+unfoldable pub ceilingBy : Rule → List Element → Option ℕ
+ceilingBy (nearest k) held = choose (eqb (length held) k) (some (greatestHeld held)) none
+ceilingBy (inDrive seconds) held = some seconds
+
+-- what measuring a yard answers
+pub data Measured : Type 0 where
+  exact : ℕ → Measured
+  above : Measured
+
+-- "either the true aggregate or "above", which it gives exactly when the aggregate exceeds the ceiling"
+unfoldable pub measuredBy : (ceiling : Option ℕ) → ℕ → Measured
+measuredBy ceiling n = choose (exceeds ceiling n) above (exact n)
+
+-- a yard that is above changes nothing in what is held, by either rule
+abbrev pub AboveKept : Type 0
+AboveKept = (rule : Rule) (held : List Element) → Sorted held → (e : Element)
+    → T (exceeds (ceilingBy rule held) (e .distance)) → keepBy rule e held ≡ held
