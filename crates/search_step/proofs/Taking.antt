@@ -1,6 +1,5 @@
 -- A step of a search that is ready: which yard or region is taken, and the state that it leads to. Assumes nothing.
 use mathlib.Core.Path.{_≡_, refl, sym, ap, _∙_}
-use mathlib.Core.Option.{Option}
 use mathlib.Core.List.{List, _∷_}
 use Prim.Native.Nat.{ℕ, _+_, _-_, _≤_, _<_}
 use native.Mathlib.Omega.{arith}
@@ -46,8 +45,8 @@ pub held-by : (rule : Rule) (d t y : ℕ) (l r : List Element) → d ≡ t → r
 held-by rule d t y l r e h = rw (← e) h
 
 -- and after one that is above the ceiling
-pub held-above : (rule : Rule) (c : Option ℕ) (t y : ℕ) (l : List Element) → Sorted l → c ≡ ceilingBy rule l → T (exceeds c t) → l ≡ keepBy rule (element t y) l
-held-above rule c t y l s e u = sym (above-kept rule l s (element t y) (rw e at u))
+pub held-above : (rule : Rule) (t y : ℕ) (l : List Element) → Sorted l → T (exceeds (ceilingBy rule l) t) → l ≡ keepBy rule (element t y) l
+held-above rule t y l s u = sym (above-kept rule l s (element t y) u)
 
 -- ---- the numbers
 

@@ -2,20 +2,52 @@
 use crate::Progress;
 use book::Junction;
 use search_held::Asked;
+use search_held::Kept;
 use search_measure::Measured;
 ghost use mathlib.Core.Path.{_≡_};
 ghost use mathlib.Core.List.{List, _∷_};
 ghost use Prim.Native.Nat.{ℕ, _+_, _≤_, _<_};
 ghost use lib.ListN.{length};
+ghost use Rattle.road.specs.code.Queue.{state};
 ghost use Rattle.tree_layout.specs.Reading.{element};
 ghost use Rattle.search_rules.specs.Keeping.{keepBy};
+ghost use Rattle.search_rules.specs.Ceiling.{ceilingBy};
 ghost use Rattle.search_rules.specs.Theorems.{Sorted};
-ghost use Rattle.search_measure.specs.code.Cases.{Measurable, IsMeasurable, totalOf};
+ghost use Rattle.search_measure.specs.Measuring.{walkRun};
+ghost use Rattle.search_measure.specs.Facts.{Measures};
+ghost use Rattle.search_measure.specs.code.Cases.{measuredOf, Measurable, IsMeasurable, totalOf};
 ghost use Rattle.search_held.specs.code.Rules.{ruleOf, heldBy, countBy, Fits};
 ghost use Rattle.search_state.specs.code.State.{newest};
 
 // A walk's distances and marks have a place for each of 1,024 junctions.
 const JUNCTIONS: usize = 1024;
+
+// Measures yard y up to the search's ceiling, which goes by what is kept so far. The walk stands in row and done.
+fn under_ceiling(
+    adj: &[u16],
+    row: &mut [u32],
+    done: &mut [bool],
+    crews: &[u16],
+    asked: Asked,
+    kept: Kept,
+    y: Junction,
+) -> Measured
+    requires { ⌜ IsMeasurable (now adj) (now crews) (y .number) × Fits (ruleOf (asked .rule)) kept
+        × (length (now row) ≡ 1024) × (length (now done) ≡ 1024) ⌝ }
+    ensures measures { λ r. ⌜ ((list : List ℕ) (road : List ℕ)
+        → Measurable road (now (adj .entry)) (now (crews .entry)) (y .number)
+        → Measures road (asked .aggregate) (now (crews .entry))
+        (ceilingBy (ruleOf (asked .rule)) (heldBy (ruleOf (asked .rule)) kept list)) (y .number) (measuredOf r)
+        (state (now (row .exit)) (now (done .exit)))) ⌝ }
+    ensures walk { λ _. ⌜ ((list : List ℕ) (road : List ℕ)
+        → Measurable road (now (adj .entry)) (now (crews .entry)) (y .number)
+        → state (now (row .exit)) (now (done .exit)) ≡ walkRun road (asked .aggregate) (now (crews .entry))
+        (ceilingBy (ruleOf (asked .rule)) (heldBy (ruleOf (asked .rule)) kept list)) (y .number)) ⌝ }
+{
+    let rule = asked.rule;
+    let ceiling = search_held::ceiling(kept, rule);
+    search_measure::measure(adj, row, done, crews, asked.aggregate, ceiling, y)
+}
 
 // Measures yard y: it is the last of the measured yards. One that is above the ceiling is not held.
 pub fn take(
@@ -47,18 +79,9 @@ pub fn take(
     let so_many = count + 1;
     let rule = asked.rule;
     let so_far = progress.kept;
-    let ceiling = search_held::ceiling(so_far, rule);
     let mut row = [0u32; JUNCTIONS];
     let mut done = [false; JUNCTIONS];
-    let answer = search_measure::measure(
-        adj,
-        &mut row,
-        &mut done,
-        crews,
-        asked.aggregate,
-        ceiling,
-        y,
-    );
+    let answer = under_ceiling(adj, &mut row, &mut done, crews, asked, so_far, y);
     let Measured::Exact(total) = answer else {
         return Progress {
             kept: so_far,

@@ -17,17 +17,14 @@ slice-write-measured c = search needs
 add-so-many : tie.Need-add-so-many
 add-so-many c = omega (arith, c .before .before .before .before .pre .1)
 
-ceiling-requires : tie.Need-ceiling-requires
-ceiling-requires c κs = c .before .before .before .before .before .pre .3
+slice-aggregate-under-ceiling : tie.Need-slice-aggregate-under-ceiling
+slice-aggregate-under-ceiling c = search needs
 
-slice-aggregate-measure : tie.Need-slice-aggregate-measure
-slice-aggregate-measure c = search needs
+slice-aggregate-under-ceiling-2 : tie.Need-slice-aggregate-under-ceiling-2
+slice-aggregate-under-ceiling-2 c = search needs
 
-slice-aggregate-measure-2 : tie.Need-slice-aggregate-measure-2
-slice-aggregate-measure-2 c = search needs
-
-measure-requires : tie.Need-measure-requires
-measure-requires c κs = (c .before .before .before .before .before .before .before .before .pre .0, refl, refl)
+under-ceiling-requires : tie.Need-under-ceiling-requires
+under-ceiling-requires c κs = let p = c .before .before .before .before .before .before .before .pre in (p .0, p .3, refl, refl)
 
 enum-known-answer : tie.Need-enum-known-answer
 enum-known-answer c = search needs
@@ -40,18 +37,20 @@ same-length c = search needs
 
 returns : tie.Need-returns
 returns c =
-    let s = c .before .before .before .before .before .before .before .before .before .before .before .before .before in
-    let m = c .before .before .before .before .measure .ensures in
+    let s = c .before .before .before .before .before .before .before .before .before .before .before .before in
     let above = ap measuredOf (c .enum-told .given .1) in (
       refl,
       (
         newest-put (s .args .measured .now) (s .args .progress .measured) (s .args .y .number) (omega (arith, s .pre .1, s .pre .2)),
-        (λ road k. held-above _ _ _ _ _ (s .pre .6) (c .before .before .before .before .before .before .before .ceiling .ensures _) (answer-above k (m .0 road k) above), (s .pre .3, omega (arith, s .pre .4))),
+        (
+          λ road k. held-above _ _ _ _ (s .pre .6) (answer-above k (c .before .before .before .before .under-ceiling .ensures .0 (s .args .list .now) road k) above),
+          (s .pre .3, omega (arith, s .pre .4)),
+        ),
       ),
     )
 
 keep-requires : tie.Need-keep-requires
-keep-requires c κs = let p = c .before .before .before .before .before .before .before .before .before .before .before .before .before .before .before .pre in (p .3, omega (arith, p .4, p .1), p .5)
+keep-requires c κs = let p = c .before .before .before .before .before .before .before .before .before .before .before .before .before .before .pre in (p .3, omega (arith, p .4, p .1), p .5)
 
 same-length-2 : tie.Need-same-length-2
 same-length-2 c = search needs
@@ -61,14 +60,14 @@ same-length-3 c = search needs
 
 returns-2 : tie.Need-returns-2
 returns-2 c =
-    let s = c .before .before .before .before .before .before .before .before .before .before .before .before .before .before .before .before .before .before in
+    let s = c .before .before .before .before .before .before .before .before .before .before .before .before .before .before .before .before .before in
     let k = c .before .before .keep .ensures in
-    let m = c .before .before .before .before .before .before .before .before .before .measure .ensures in
+    let m = c .before .before .before .before .before .before .before .before .before .under-ceiling .ensures .0 (s .args .list .now) in
     let exact = ap measuredOf (c .before .before .before .before .before .answer .given .1) in (
       refl,
       (
         newest-put (s .args .measured .now) (s .args .progress .measured) (s .args .y .number) (omega (arith, s .pre .1, s .pre .2)),
-        (λ road d. held-by _ _ _ _ _ _ (answer-exact d (m .0 road d) _ exact) (k .0), (k .1 .0, omega (arith, k .1 .1, s .pre .4))),
+        (λ road d. held-by _ _ _ _ _ _ (answer-exact d (m road d) _ exact) (k .0), (k .1 .0, omega (arith, k .1 .1, s .pre .4))),
       ),
     )
 
@@ -79,10 +78,9 @@ take-spec =
     mul-measured
     slice-write-measured
     add-so-many
-    ceiling-requires
-    slice-aggregate-measure
-    slice-aggregate-measure-2
-    measure-requires
+    slice-aggregate-under-ceiling
+    slice-aggregate-under-ceiling-2
+    under-ceiling-requires
     enum-known-answer
     enum-told
     same-length
