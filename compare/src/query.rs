@@ -1,5 +1,7 @@
 //! The query book.
 
+use std::iter::Sum;
+
 use crate::book::{close, open, put_u16, put_u32, u16_at, u32_at};
 use crate::refusal::{refuse_unless, CREWS, HEADER, PARAMETER, RECORD};
 
@@ -11,11 +13,11 @@ pub enum Aggregate {
 }
 
 impl Aggregate {
-    /// "the sum or the maximum over the crews".
-    pub fn over(self, values: impl Iterator<Item = u64>) -> u64 {
+    /// "the sum or the maximum over the crews", in as many bits as the values have.
+    pub fn over<N: Ord + Default + Sum>(self, values: impl Iterator<Item = N>) -> N {
         match self {
             Aggregate::Sum => values.sum(),
-            Aggregate::Maximum => values.max().unwrap_or(0),
+            Aggregate::Maximum => values.max().unwrap_or_default(),
         }
     }
 }

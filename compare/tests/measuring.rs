@@ -43,7 +43,7 @@ fn query_for(aggregate: Aggregate, crews: &[u16]) -> Query {
 fn measured(
     road: &RoadBook,
     query: &Query,
-    ceiling: Option<u64>,
+    ceiling: Option<u32>,
     yard: u16,
 ) -> (Measured, Vec<u16>) {
     let (measured, walk) = measure(road, query, ceiling, yard);
@@ -168,7 +168,7 @@ fn a_junction_reached_nearer_later() {
 
 /// How many rounds are walked, by a yard's distances to all junctions: as many as are nearer than the first of them, t,
 /// at which every crew is reached, or the aggregate with no crew taken for further than t exceeds the ceiling.
-fn rounds(distances: &[u64], query: &Query, ceiling: Option<u64>) -> usize {
+fn rounds(distances: &[u64], query: &Query, ceiling: Option<u32>) -> usize {
     let mut nearest = distances.to_vec();
     nearest.sort_unstable();
     let to_crews = query.crews.iter().map(|&crew| distances[usize::from(crew)]);
@@ -179,16 +179,16 @@ fn rounds(distances: &[u64], query: &Query, ceiling: Option<u64>) -> usize {
             Aggregate::Sum => reckoned.sum::<u64>(),
             Aggregate::Maximum => reckoned.max().unwrap(),
         };
-        ceiling.is_some_and(|ceiling| above > ceiling) || to_crews.iter().all(|&d| d <= t)
+        ceiling.is_some_and(|ceiling| above > ceiling.into()) || to_crews.iter().all(|&d| d <= t)
     };
     nearest.iter().position(decided).unwrap()
 }
 
 /// "none of them is further than the ceiling along that walk", and all are at their least distances, each once.
-fn assert_walk(walk: &Walk, distances: &[u64], ceiling: Option<u64>) {
+fn assert_walk(walk: &Walk, distances: &[u64], ceiling: Option<u32>) {
     for &junction in &walk.walked_on {
-        let distance = u64::from(walk.distances[usize::from(junction)]);
-        assert_eq!(distance, distances[usize::from(junction)]);
+        let distance = walk.distances[usize::from(junction)];
+        assert_eq!(u64::from(distance), distances[usize::from(junction)]);
         assert!(ceiling.is_none_or(|ceiling| distance <= ceiling));
     }
     let mut once = walk.walked_on.clone();
@@ -202,10 +202,10 @@ fn assert_measured(
     road: &RoadBook,
     all: &[Vec<u64>],
     query: &Query,
-    ceiling: Option<u64>,
+    ceiling: Option<u32>,
     yard: u16,
 ) -> Measured {
-    let aggregate = brute::ranked(all, &[yard], query)[0].0;
+    let aggregate = brute::ranked(all, &[yard], query)[0].0 as u32;
     let expected = match ceiling {
         Some(ceiling) if aggregate > ceiling => Above,
         _ => Exact(aggregate),
@@ -219,15 +219,15 @@ fn assert_measured(
 }
 
 /// No ceiling, and ceilings at an aggregate, one below and one above it, anywhere below it, the least and the greatest.
-fn ceilings(numbers: &mut Numbers, aggregate: u64) -> [Option<u64>; 7] {
+fn ceilings(numbers: &mut Numbers, aggregate: u32) -> [Option<u32>; 7] {
     [
         None,
         Some(aggregate),
         Some(aggregate.saturating_sub(1)),
         Some(aggregate + 1),
-        Some(numbers.between(0, aggregate)),
+        Some(numbers.between(0, aggregate.into()) as u32),
         Some(0),
-        Some(u64::from(u32::MAX)),
+        Some(u32::MAX),
     ]
 }
 
@@ -244,7 +244,7 @@ fn measured_by_brute_force() {
         let queries = AGGREGATES.map(|aggregate| query_for(aggregate, &crews));
         for yard in d.yards {
             for query in &queries {
-                let aggregate = brute::ranked(&all, &[yard], query)[0].0;
+                let aggregate = brute::ranked(&all, &[yard], query)[0].0 as u32;
                 for ceiling in ceilings(&mut numbers, aggregate) {
                     match assert_measured(&road, &all, query, ceiling, yard) {
                         Exact(_) => exact += 1,

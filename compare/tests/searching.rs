@@ -207,7 +207,7 @@ fn full_size_by_brute_force() {
 }
 
 /// A state's queue, held yards and measured yards.
-type Seen = (Vec<(u64, Item)>, Vec<(u64, u16)>, Vec<u16>);
+type Seen = (Vec<(u64, Item)>, Vec<(u32, u16)>, Vec<u16>);
 
 /// Every state of the search with yards measured in this way, and how many junctions were walked on from.
 fn states(books: &Books, measuring: Measuring) -> (Vec<Seen>, usize) {

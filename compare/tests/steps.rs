@@ -1,6 +1,6 @@
 //! Searches worked out by hand, step by step: the whole queue after each step.
 
-use compare::generate::damage::{sound_road, sound_tree, JUNCTIONS};
+use compare::generate::damage::{false_root, sound_road, sound_tree, JUNCTIONS};
 use compare::generate::district::chain;
 use compare::query;
 use compare::refusal::WORK_WORDS;
@@ -167,13 +167,7 @@ fn by_maximum_within() {
 /// The root's least is false, the greatest u32: its key, 2 × 4,294,967,295 − 17, goes to all below it.
 #[test]
 fn a_false_root() {
-    let mut tree = tree_value();
-    for landmark in &mut tree.regions[0].landmarks {
-        landmark.stored = Stored::Span {
-            least: u32::MAX,
-            greatest: u32::MAX,
-        };
-    }
+    let tree = tree::read(&false_root(u32::MAX), JUNCTIONS).unwrap();
     let queues = "
         K R0
         K R1  K R2  K R3
@@ -190,6 +184,16 @@ fn a_false_root() {
     assert_eq!(state.held, [(91, 1), (91, 2)]);
     let state = follow(&sound(&tree, 0, Within(u32::MAX)), &lines(&queues, 1));
     assert!(state.held.is_empty());
+}
+
+/// The root's key is 2 × 2,147,483,708 − 17, which is 103 in 32 bits: no drive reaches it.
+#[test]
+fn a_root_above_32_bits() {
+    let tree = tree::read(&false_root(2_147_483_708), JUNCTIONS).unwrap();
+    for seconds in [103, u32::MAX] {
+        let state = follow(&sound(&tree, 0, Within(seconds)), "4294967399 R0");
+        assert!(state.held.is_empty());
+    }
 }
 
 /// The book of a tree that is one leaf with one landmark.

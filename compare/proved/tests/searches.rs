@@ -3,7 +3,7 @@
 
 use compare::build::AREA_BYTES;
 use compare::generate::call::{random_search, random_within};
-use compare::generate::damage::Call;
+use compare::generate::damage::{false_root, sound_query, sound_road, sound_yard, Call};
 use compare::generate::district::false_tree;
 use compare::generate::{standard, Numbers};
 use compare::query::Query;
@@ -11,7 +11,7 @@ use compare::refusal::WORK_WORDS;
 use compare::road::RoadBook;
 use compare::tree::Tree;
 use compare::{brute, build, check, query, road, tree, yard, Asked, Found};
-use proved::alike::Areas;
+use proved::alike::{self, Areas};
 
 /// The three books of a search, and what it is asked for.
 struct Books {
@@ -259,6 +259,28 @@ fn full_size() {
                 ask_all(&mut areas, books, &other);
             }
         }
+    }
+}
+
+/// A tree refused by 9 whose root's key is above 32 bits, in which it would be 4,294,967,277 or 103: no drive reaches
+/// it, and a search for k yards goes on below it.
+#[test]
+fn a_root_above_32_bits() {
+    for least in [u32::MAX, 2_147_483_708] {
+        let mut books = Books {
+            asked: Asked::Within(u32::MAX),
+            road: sound_road(),
+            tree: false_root(least),
+            query: sound_query(),
+        };
+        let checked = [&books.road[..], &sound_yard(), &books.tree];
+        assert_eq!(alike::check(checked, &[7; WORK_WORDS]), 9);
+        let mut areas = Areas::new(&[7; WORK_WORDS], &[7; 10]);
+        let counts = |found: Found| [found.settled, found.listed, found.taken, found.measured];
+        assert_eq!(counts(books.ask(&mut areas)), [1, 0, 0, 0]);
+        books.asked = Asked::FirstK;
+        assert_eq!(counts(books.ask(&mut areas)), [1, 2, 8, 2]);
+        assert_eq!(areas.results()[..4], [1, 91, 2, 91]);
     }
 }
 

@@ -604,6 +604,16 @@ pub fn false_trees() -> Vec<Damage> {
     damages.list
 }
 
+/// The sound tree with a false root: for crews 0 and 7 its bound by the sum is twice this least, less 17.
+pub fn false_root(least: u32) -> Vec<u8> {
+    changed_tree(|t| {
+        for landmark in &mut t.regions[0].landmarks {
+            let greatest = u32::MAX;
+            landmark.stored = Stored::Span { least, greatest };
+        }
+    })
+}
+
 /// The sound tree with a change in one leaf's second list.
 fn changed_list(region: usize, change: fn(&mut [(u32, u16)])) -> Vec<u8> {
     changed_tree(|t| {

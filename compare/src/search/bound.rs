@@ -21,9 +21,9 @@ impl Sheet {
     }
 
     /// "LB(l, q) is the greatest difference of sheet values at l and q."
-    pub fn lb(&self, l: u16, q: u16) -> u64 {
+    pub fn lb(&self, l: u16, q: u16) -> u32 {
         let difference = |row: &Vec<u32>| row[usize::from(l)].abs_diff(row[usize::from(q)]);
-        self.rows.iter().map(difference).max().map_or(0, u64::from)
+        self.rows.iter().map(difference).max().unwrap_or(0)
     }
 
     /// "UB(l, q) is the least sum of sheet values at l and q."
@@ -55,7 +55,7 @@ pub fn region_bound(search: &Search, number: usize) -> u64 {
 fn crew_region_bound(search: &Search, number: usize, crew: u16) -> u64 {
     let mut greatest = 0;
     for landmark in &search.tree.regions[number].landmarks {
-        let lb = search.sheet.lb(landmark.junction, crew);
+        let lb = u64::from(search.sheet.lb(landmark.junction, crew));
         let ub = search.sheet.ub(landmark.junction, crew);
         let (a, b) = landmark.least_and_greatest();
         greatest = greatest.max(crew_bound(lb, ub, u64::from(a), u64::from(b)));
@@ -76,7 +76,8 @@ pub fn pick_landmark(search: &Search, number: usize) -> usize {
     let mut greatest = 0;
     for (place, landmark) in search.tree.regions[number].landmarks.iter().enumerate() {
         let crews = search.query.crews.iter();
-        let sum = crews.map(|&q| search.sheet.lb(landmark.junction, q)).sum();
+        let lb = |&crew: &u16| u64::from(search.sheet.lb(landmark.junction, crew));
+        let sum = crews.map(lb).sum();
         if sum > greatest {
             greatest = sum;
             picked = place;
@@ -85,18 +86,19 @@ pub fn pick_landmark(search: &Search, number: usize) -> usize {
     picked
 }
 
-/// "f, the aggregate of |d(l, q) − d(l, p)| with the list's d(l, p)".
-pub fn f(aggregate: Aggregate, crew_values: &[u32], distance: u32) -> u64 {
-    let difference = |value: &u32| u64::from(value.abs_diff(distance));
+/// "f, the aggregate of |d(l, q) − d(l, p)| with the list's d(l, p)". "carry them in 32 bits": at most sixteen values,
+/// none above 67,042,305.
+pub fn f(aggregate: Aggregate, crew_values: &[u32], distance: u32) -> u32 {
+    let difference = |value: &u32| value.abs_diff(distance);
     aggregate.over(crew_values.iter().map(difference))
 }
 
 /// "A yard's bound takes per crew the greatest of these differences over the sheet's landmarks and l (for l
 /// with the list's distance), then aggregates."
-pub fn yard_bound(search: &Search, crew_values: &[u32], distance: u32, yard: u16) -> u64 {
+pub fn yard_bound(search: &Search, crew_values: &[u32], distance: u32, yard: u16) -> u32 {
     let crews = search.query.crews.iter().zip(crew_values);
     let greatest = |(&crew, value): (&u16, &u32)| {
-        let by_list = u64::from(value.abs_diff(distance));
+        let by_list = value.abs_diff(distance);
         search.sheet.lb(yard, crew).max(by_list)
     };
     search.query.aggregate.over(crews.map(greatest))

@@ -8,7 +8,7 @@ use crate::road::{Reached, RoadBook, NO_WALK};
 /// "either the true aggregate or "above", which it gives exactly when the aggregate exceeds the ceiling".
 #[derive(Clone, Copy, Debug, PartialEq, Eq)]
 pub enum Measured {
-    Exact(u64),
+    Exact(u32),
     Above,
 }
 
@@ -25,7 +25,7 @@ pub struct Walk<'a> {
 pub fn measure<'a>(
     road: &'a RoadBook,
     query: &Query,
-    ceiling: Option<u64>,
+    ceiling: Option<u32>,
     yard: u16,
 ) -> (Measured, Walk<'a>) {
     let mut walk = Walk::start(road, yard);
@@ -46,7 +46,7 @@ impl<'a> Walk<'a> {
     }
 
     /// Rounds until the answer is decided.
-    pub fn run(&mut self, query: &Query, ceiling: Option<u64>) -> Measured {
+    pub fn run(&mut self, query: &Query, ceiling: Option<u32>) -> Measured {
         loop {
             match self.decided(query, ceiling) {
                 Some(measured) => return measured,
@@ -83,11 +83,11 @@ impl<'a> Walk<'a> {
 
     /// The answer, if it is sure. Each crew is reckoned at the lesser of its distance so far and the nearest's: it is
     /// no nearer, so the aggregate exceeds any ceiling that the reckoning does, and is the reckoning if no crew is out.
-    fn decided(&self, query: &Query, ceiling: Option<u64>) -> Option<Measured> {
+    fn decided(&self, query: &Query, ceiling: Option<u32>) -> Option<Measured> {
         let nearest = self.nearest();
         let crews = query.crews.iter();
         let mut so_far = crews.map(|&crew| self.distances[usize::from(crew)]);
-        let reckoned = so_far.clone().map(|far| u64::from(far.min(nearest)));
+        let reckoned = so_far.clone().map(|far| far.min(nearest));
         let reckoning = query.aggregate.over(reckoned);
         if ceiling.is_some_and(|ceiling| reckoning > ceiling) {
             return Some(Measured::Above);

@@ -18,7 +18,7 @@ pub enum Item {
 /// measured yards' walks have walked on from.
 pub struct State {
     pub queue: BTreeSet<(u64, Item)>,
-    pub held: Vec<(u64, u16)>,
+    pub held: Vec<(u32, u16)>,
     pub measured: Vec<u16>,
     pub walked_on: usize,
     leaves: BTreeMap<usize, Leaf>,
@@ -33,7 +33,7 @@ struct Leaf {
 
 /// A list's element: its f, its stored distance and its yard.
 struct Element {
-    f: u64,
+    f: u32,
     distance: u32,
     yard: u16,
 }
@@ -56,15 +56,15 @@ impl State {
             return true;
         };
         let ceiling = self.ceiling(search);
-        ceiling.is_some_and(|ceiling| least_key > ceiling)
+        ceiling.is_some_and(|ceiling| least_key > u64::from(ceiling))
     }
 
     /// What every queued key must be above, and what a yard is measured up to: "the k-th held distance, or no ceiling
     /// until k are held; the drive search its seconds".
-    fn ceiling(&self, search: &Search) -> Option<u64> {
+    fn ceiling(&self, search: &Search) -> Option<u32> {
         match search.asked {
             Asked::FirstK => self.held.get(search.query.k - 1).map(|&(d, _)| d),
-            Asked::Within(seconds) => Some(u64::from(seconds)),
+            Asked::Within(seconds) => Some(seconds),
         }
     }
 }
@@ -99,11 +99,11 @@ fn take_leaf(search: &Search, state: &mut State, key: u64, number: usize) {
         .or_insert_with(|| first_taken(search, key, number));
     if let Some(next) = leaf.elements.pop_front() {
         let bound = yard_bound(search, &leaf.crew_values, next.distance, next.yard);
-        let yard_key = bound.max(leaf.first_key);
+        let yard_key = leaf.first_key.max(u64::from(bound));
         state.queue.insert((yard_key, Item::Yard(next.yard)));
     }
     if let Some(next) = leaf.elements.front() {
-        let leaf_key = leaf.first_key.max(next.f);
+        let leaf_key = leaf.first_key.max(u64::from(next.f));
         state.queue.insert((leaf_key, Item::Region(number)));
     }
 }
@@ -153,16 +153,16 @@ fn measured(search: &Search, state: &mut State, yard: u16) -> Measured {
 
 /// How many of some yards in yard order are kept: "the k least"; in a drive search "each yard whose aggregate
 /// is at most a given number of seconds".
-fn kept(search: &Search, yards: &[(u64, u16)]) -> usize {
+fn kept(search: &Search, yards: &[(u32, u16)]) -> usize {
     match search.asked {
         Asked::FirstK => search.query.k,
-        Asked::Within(seconds) => yards.partition_point(|&(d, _)| d <= u64::from(seconds)),
+        Asked::Within(seconds) => yards.partition_point(|&(d, _)| d <= seconds),
     }
 }
 
 /// The aggregate of a yard's true distances to the crews, by their rows.
-pub fn true_distance(search: &Search, yard: u16) -> u64 {
-    let to_yard = |row: &Vec<u32>| u64::from(row[usize::from(yard)]);
+pub fn true_distance(search: &Search, yard: u16) -> u32 {
+    let to_yard = |row: &Vec<u32>| row[usize::from(yard)];
     let distances = search.crew_distances.iter().map(to_yard);
     search.query.aggregate.over(distances)
 }

@@ -2,6 +2,7 @@
 use mathlib.Core.Path.{_≡_, sym, ap, _∙_}
 use mathlib.Core.List.{List}
 use Prim.Native.Nat.{ℕ, _+_, _*_, _≤_, _<_, max}
+use native.Mathlib.Nat.{suc-mul, mul-le-mul-right}
 use native.Mathlib.Numerals.{add-one}
 use native.Mathlib.Omega.{arith}
 use lib.ListN.{length, getD, take}
@@ -14,26 +15,30 @@ use Rattle.search_rules.proofs.Equations.{aggregate-none, greatest-none, combin
 
 -- ---- over crews
 
--- x is the aggregate of the numbers of the first j of at most sixteen crews, each below 2³²
-pub record Summed (code : ℕ) (g : ℕ → ℕ) (qs : List ℕ) (j x : ℕ) : Type 0 where
+-- one more of some most
+one-more : (j most : ℕ) → (j + 1) * most ≡ j * most + most
+one-more j most = rw (add-one j) (suc-mul j most)
+
+-- x is the aggregate of the numbers of the first j crews, none of which is more than some most
+pub record Summed (most code : ℕ) (g : ℕ → ℕ) (qs : List ℕ) (j x : ℕ) : Type 0 where
   pub done : j ≤ length qs
   pub value : x ≡ aggregate code g (take j qs)
-  pub small : x ≤ j * 4294967295
+  pub small : x ≤ j * most
 
-module _ (code : ℕ) (g : ℕ → ℕ) (qs : List ℕ) where
-  pub summed-none : Summed code g qs 0 0
+module _ (most code : ℕ) (g : ℕ → ℕ) (qs : List ℕ) where
+  pub summed-none : Summed most code g qs 0 0
   summed-none = record { done = omega arith; value = sym (aggregate-none code g); small = omega arith }
 
-  module _ (j x : ℕ) (s : Summed code g qs j x) where
-    -- the next sum does not wrap
-    pub summed-room : length qs ≤ 16 → (w : ℕ) → w < 4294967296 → x + w < 18446744073709551616
-    summed-room few w h = omega (arith, s .small, s .done)
+  module _ (j x : ℕ) (s : Summed most code g qs j x) where
+    -- the next sum of at most sixteen is no more than sixteen times the most
+    pub summed-room : length qs ≤ 16 → j < length qs → (w : ℕ) → w ≤ most → x + w ≤ 16 * most
+    summed-room few h w k = let z : j + 1 ≤ 16 = omega arith in omega (arith, s .small, one-more j most, mul-le-mul-right most z)
 
-    pub summed-turn : j < length qs → (w y : ℕ) → w < 4294967296 → w ≡ g (getD qs j 0) → y ≡ combine code x w → Summed code g qs (j + 1) y
+    pub summed-turn : j < length qs → (w y : ℕ) → w ≤ most → w ≡ g (getD qs j 0) → y ≡ combine code x w → Summed most code g qs (j + 1) y
     summed-turn h w y k e f = record {
       done = omega arith;
       value = f ∙ rw (s .value, e, add-one j) (sym (aggregate-take code g qs j h));
-      small = omega (arith, combine-most code x w, s .small);
+      small = omega (arith, combine-most code x w, s .small, one-more j most);
     }
 
     pub summed-all : length qs ≤ j → x ≡ aggregate code g qs

@@ -1,13 +1,16 @@
 -- A landmark's distances to the crews, one crew at a time. Assumes nothing.
 use mathlib.Core.Path.{_≡_, refl, sym, ap, _∙_}
-use mathlib.Core.List.{List, [], _∷_}
+use mathlib.Core.List.{List, [], _∷_, List·Memᴰ as Mem, List·Memᴰ·head as head, List·Memᴰ·tail as tail, List·Memᴰ·not-nil}
 use Prim.Native.Nat.{ℕ, zero, suc, _+_, _≤_, _<_}
 use native.Mathlib.Numerals.{add-one}
 use native.Mathlib.Omega.{arith}
 use lib.ListN.{length, getD, set, take, length-set}
 use lib.Seq.{take-suc, take-suc-set, take-all}
+use Rattle.road_layout.specs.Road.{junctions}
 use Rattle.road.specs.Dijkstra.{dist}
-use Rattle.search_bounds.specs.code.Measures.{toCrews}
+use Rattle.road.specs.Facts.{Passing}
+use Rattle.road.proofs.Theorems.{metric}
+use Rattle.search_bounds.specs.code.Measures.{Short, toCrews}
 
 module _ (road : List ℕ) (l : ℕ) where
   pub to-none : toCrews road l [] ≡ []
@@ -29,6 +32,13 @@ module _ (road : List ℕ) (l : ℕ) where
   to-at [] j h = absurd (omega arith)
   to-at (q ∷ qs) zero h = refl
   to-at (q ∷ qs) (suc j) h = to-at qs j (omega arith)
+
+  -- and each is short
+  pub to-short : Passing road → l < junctions road → (crews : List ℕ) → ((q : ℕ) → Mem q crews → q < junctions road) → Short (toCrews road l crews)
+  unfolding toCrews
+  to-short p h [] there x m = absurd (List·Memᴰ·not-nil m)
+  to-short p h (q ∷ qs) there x (head e) = rw e (metric road p .bounded l q h (there q (head refl)))
+  to-short p h (q ∷ qs) there x (tail m) = to-short p h qs (λ y k. there y (tail k)) x m
 
   -- ---- with j crews done
 

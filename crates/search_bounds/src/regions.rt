@@ -56,7 +56,7 @@ fn record_bound(tree: &[u8], at: usize, table: &[u32], rows: usize, code: u8, cr
     while j < crews.len() {
         let q = Junction { number: crews[j] };
         let w = crew_region(tree, at, table, rows, q);
-        x = numbers::combine(code, x, w as u64);
+        x = numbers::combine64(code, x, w as u64);
         j += 1;
     }
     x

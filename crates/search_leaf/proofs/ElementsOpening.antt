@@ -3,7 +3,7 @@ use mathlib.Core.Path.{_≡_, refl, sym, ap, _∙_}
 use mathlib.Core.Logic.{_≢_}
 use mathlib.Core.Bool.{Bool}
 use mathlib.Core.List.{List, _++_, List·Memᴰ as Mem}
-use Prim.Native.Nat.{ℕ, _+_, _*_, _≤_}
+use Prim.Native.Nat.{ℕ, _+_, _*_, _≤_, _<_}
 use native.Mathlib.Omega.{arith}
 use lib.ListN.{length, take, length-append, length-take, length-drop}
 use lib.Seq.{take-at}
@@ -22,10 +22,13 @@ use Rattle.search_rules.specs.Queue.{wordAt, pick}
 use Rattle.search_rules.specs.Step.{nextPlace, nextF}
 use Rattle.search_bounds.specs.code.Rows.{Rows, rowsLower}
 use Rattle.search_bounds.specs.code.Bounds.{Crews}
-use Rattle.search_bounds.specs.code.Measures.{Driven, IsDriven, toCrews}
+use Rattle.road_layout.specs.Road.{junctions}
+use Rattle.road.specs.Facts.{Passing}
+use Rattle.search_bounds.specs.code.Measures.{Short, Driven, IsDriven, toCrews}
+use Rattle.search_bounds.proofs.ToCrews.{to-short}
 use Rattle.search_bounds.proofs.YardsSearching.{f-by, bound-by}
 use Rattle.search_state.specs.code.State.{wordCount}
-use Rattle.search_leaf.specs.code.Leaves.{Near, byYard, byYards, fIn, boundIn, wordsOf, listAt, Opened}
+use Rattle.search_leaf.specs.code.Leaves.{Near, byYard, byYards, ShortList, fIn, boundIn, wordsOf, listAt, Opened}
 use Rattle.search_leaf.proofs.Filling.{by-yard-at, by-yard-kept}
 use Rattle.search_leaf.proofs.Scanning.{next-place, next-f}
 
@@ -39,6 +42,10 @@ module _ (tree : List ℕ) (at yards : ℕ) (l : List ℕ) (e : l ≡ listPart t
 
   pub list-near : (w v : ℕ) → w ≡ v → Near w (listAt tree at yards) → Near v (readList l yards 0)
   list-near w v q near x m = rw (← q) (near x (rw list-here at m))
+
+  pub list-short : (table : List ℕ) (rows rows′ : ℕ) (crews : List ℕ) → rows ≡ rows′ → ShortList table rows crews (listAt tree at yards)
+      → ShortList table rows′ crews (readList l yards 0)
+  list-short table rows rows′ crews q s = rw (← q, list-here) s
 
   pub list-whole : at + (2 + 6 * yards) ≤ length tree → 6 * yards ≤ length l
   list-whole h = rw (e, list-part-is tree yards (at + 2)) (simp (length-take, length-drop) (omega arith))
@@ -82,22 +89,20 @@ module _ (crews out rest : List ℕ) (e : length out ≡ length crews) where
   pub front-length : length (take (length crews) (out ++ rest)) ≡ length crews
   front-length = ap length front ∙ e
 
--- words set by the list and the distances that were read
+  -- they are true distances
+  pub front-short : (road : List ℕ) (l : ℕ) → Passing road → l < junctions road → ((q : ℕ) → Mem q crews → q < junctions road) → out ≡ toCrews road l crews
+      → Short (take (length crews) (out ++ rest))
+  front-short road l roads h there o = rw (front, o) (to-short road l roads h crews there)
+
+-- values set by the list and the distances that were read
 module _ (tree : List ℕ) (at yards : ℕ) (l : List ℕ) (el : l ≡ listPart tree yards (at + 2)) (h : Header) (eh : h ≡ headerOf tree)
-    (code : ℕ) (table crews out rest : List ℕ) (count : length out ≡ length crews) (ws ws′ : List ℕ)
-    (filled : ws′ ≡ byYards (h .regions) (h .junctions) (fIn code (take (length crews) (out ++ rest)))
-    (boundIn code table (h .landmarks) crews (take (length crews) (out ++ rest))) (readList l yards 0) ws) where
-  pub opened-words : (road : List ℕ) (place : ℕ) → place ≡ u16At tree at → out ≡ toCrews road place crews
-      → ws′ ≡ byYards (regionCount tree) (junctionCount tree) (fIn code (toCrews road (u16At tree at) crews))
-      (boundIn code table (landmarkCount tree) crews (toCrews road (u16At tree at) crews)) (listAt tree at yards) ws
-  opened-words road place p o = rw (
-    ← p,
-    ← o,
-    ← list-here tree at yards l el,
-    header-regions-are tree h eh,
-    header-junctions-are tree h eh,
-    header-landmarks-are tree h eh,
-  ) (rw (front crews out rest count) at filled)
+    (code : ℕ) (table crews out rest : List ℕ) (count : length out ≡ length crews) (vs vs′ : List ℕ)
+    (filled : vs′ ≡ byYards (fIn code (take (length crews) (out ++ rest)))
+    (boundIn code table (h .landmarks) crews (take (length crews) (out ++ rest))) (readList l yards 0) vs) where
+  pub opened-values : (road : List ℕ) (place : ℕ) → place ≡ u16At tree at → out ≡ toCrews road place crews
+      → vs′ ≡ byYards (fIn code (toCrews road (u16At tree at) crews))
+      (boundIn code table (landmarkCount tree) crews (toCrews road (u16At tree at) crews)) (listAt tree at yards) vs
+  opened-values road place p o = rw (← p, ← o, ← list-here tree at yards l el, header-landmarks-are tree h eh) (rw (front crews out rest count) at filled)
 
 -- ---- of a search of two books
 

@@ -1,6 +1,5 @@
 -- Words set by yard, one element at a time. Assumes nothing.
 use mathlib.Core.Path.{_≡_, refl, sym, ap, _∙_}
-use mathlib.Core.Bool.{Bool}
 use mathlib.Core.List.{List, [], _∷_, List·Memᴰ as Mem, List·Memᴰ·head as head, List·Memᴰ·tail as tail, List·Memᴰ·not-nil}
 use Prim.Native.Nat.{ℕ, zero, suc, _+_, _*_, _-_, _≤_, _<_}
 use native.Mathlib.Decide.{ℕ-discrete}
@@ -14,9 +13,11 @@ use Rattle.tree_layout.specs.code.Accessors.{listedAt}
 use Rattle.tree_layout.specs.declared.Listed.{Listed}
 use Rattle.tree_layout.proofs.Reading.{element-yard, list-turn, list-none}
 use Rattle.tree_layout.proofs.Decoding.{element-is, read-list-next}
-use Rattle.search_state.specs.code.State.{fsAt, boundsAt}
-use Rattle.search_state.proofs.Cells.{Parts, store-f, store-bound}
-use Rattle.search_leaf.specs.code.Leaves.{Near, byYard, byYards}
+use Rattle.search_bounds.specs.code.Rows.{rowsLower}
+use Rattle.search_bounds.specs.code.Measures.{longest}
+use Rattle.search_state.specs.code.State.{boundsAt}
+use Rattle.search_state.proofs.Values.{Values, store-f, store-bound}
+use Rattle.search_leaf.specs.code.Leaves.{Near, byYard, byYards, ShortList}
 
 -- ---- an element by its number
 
@@ -35,22 +36,36 @@ yard-near p n k w e h q near =
     let z : 0 + 6 * k ≡ 6 * k = omega arith in
     rw (q, ← element-yard p (6 * k)) (near (elementAt p (6 * k)) (rw z at (element-mem p n 0 k h)))
 
+-- what is computed of it is short
+module _ (table : List ℕ) (rows : ℕ) (crews p : List ℕ) (n k : ℕ) (e : Listed) (h : k < n) (q : e ≡ listedAt p k)
+    (short : ShortList table rows crews (readList p n 0)) where
+  is-mem : Mem (record { distance = e .distance; yard = e .yard .number }) (readList p n 0)
+  is-mem =
+      let z : 0 + 6 * k ≡ 6 * k = omega arith in
+      rw (q, ← element-is p (6 * k)) (rw z at (element-mem p n 0 k h))
+
+  pub distance-short : e .distance ≤ longest
+  distance-short = short .distances (record { distance = e .distance; yard = e .yard .number }) is-mem
+
+  pub lower-short : (c : ℕ) → Mem c crews → rowsLower table rows (e .yard .number) c ≤ longest
+  lower-short = short .lowers (record { distance = e .distance; yard = e .yard .number }) is-mem
+
 -- ---- with k of n elements done
 
--- two words set by yard from the place on are those set from the start
-pub record Filled (regions junctions : ℕ) (g b : Element → ℕ) (p : List ℕ) (n k : ℕ) (ws₀ ws : List ℕ) : Type 0 where
+-- two values set by yard from the place on are those set from the start
+pub record Filled (g b : Element → ℕ) (p : List ℕ) (n k : ℕ) (ws₀ ws : List ℕ) : Type 0 where
   pub same : length ws ≡ length ws₀
-  pub rest : byYards regions junctions g b (readList p (n - k) (6 * k)) ws ≡ byYards regions junctions g b (readList p n 0) ws₀
+  pub rest : byYards g b (readList p (n - k) (6 * k)) ws ≡ byYards g b (readList p n 0) ws₀
 
-module _ (regions junctions : ℕ) (g b : Element → ℕ) (p : List ℕ) (n : ℕ) where
-  pub filled-none : (ws : List ℕ) → Filled regions junctions g b p n 0 ws ws
+module _ (g b : Element → ℕ) (p : List ℕ) (n : ℕ) where
+  pub filled-none : (ws : List ℕ) → Filled g b p n 0 ws ws
   filled-none ws = record { same = refl; rest = simp sub-zero }
 
-  module _ (k : ℕ) (ws₀ ws : List ℕ) (f : Filled regions junctions g b p n k ws₀ ws) where
+  module _ (k : ℕ) (ws₀ ws : List ℕ) (f : Filled g b p n k ws₀ ws) where
     pub filled-more : k < n → (e : Listed) → e ≡ listedAt p k → (x y i j : ℕ)
         → x ≡ g (record { distance = e .distance; yard = e .yard .number }) → y ≡ b (record { distance = e .distance; yard = e .yard .number })
-        → i ≡ fsAt regions junctions + e .yard .number → j ≡ boundsAt regions junctions + e .yard .number
-        → Filled regions junctions g b p n (k + 1) ws₀ (set (set ws i x) j y)
+        → i ≡ e .yard .number → j ≡ boundsAt + e .yard .number
+        → Filled g b p n (k + 1) ws₀ (set (set ws i x) j y)
     unfolding byYards
     filled-more h e q x y i j ex ey ei ej = record {
       same = length-set (set ws i x) j y ∙ (length-set ws i x ∙ f .same);
@@ -60,24 +75,23 @@ module _ (regions junctions : ℕ) (g b : Element → ℕ) (p : List ℕ) (n : �
         is : elementAt p (6 * k) ≡ record { distance = e .distance; yard = e .yard .number }
         is = element-is p (6 * k) ∙ rw q refl
 
-        step : byYards regions junctions g b (readList p (n - k) (6 * k)) ws
-            ≡ byYards regions junctions g b (readList p (n - (k + 1)) (6 * (k + 1))) (set (set ws i x) j y)
+        step : byYards g b (readList p (n - k) (6 * k)) ws
+            ≡ byYards g b (readList p (n - (k + 1)) (6 * (k + 1))) (set (set ws i x) j y)
         step = let z : 6 * (k + 1) ≡ 6 * k + 6 = omega arith in rw (z, ex, ey, ei, ej, list-turn p n k (6 * k) h, is) refl
 
-    pub filled-all : n ≤ k → ws ≡ byYards regions junctions g b (readList p n 0) ws₀
+    pub filled-all : n ≤ k → ws ≡ byYards g b (readList p n 0) ws₀
     unfolding byYards
     filled-all h = rw (list-none p n k (6 * k) h) at (f .rest)
 
--- ---- the parts of words that are so set
+-- ---- the parts of values that are so set
 
-pub by-yards-parts : (r n : ℕ) (g b : Element → ℕ) (es : List Element) {ws keys yards firsts picks fs bounds : List ℕ} {gone : List Bool}
-    → Near n es → Parts r n ws keys yards firsts picks fs bounds gone
-    → Parts r n (byYards r n g b es ws) keys yards firsts picks (byYard g es fs) (byYard b es bounds) gone
+pub by-yards-values : {n : ℕ} → n ≤ 1024 → (g b : Element → ℕ) (es : List Element) {vs fs bounds : List ℕ} → Near n es → Values n vs fs bounds
+    → Values n (byYards g b es vs) (byYard g es fs) (byYard b es bounds)
 unfolding byYards byYard
-by-yards-parts r n g b [] near p = p
-by-yards-parts r n g b (e ∷ es) near p =
-    by-yards-parts r n g b es (λ x m. near x (tail m))
-    (store-bound (store-f p (fsAt r n + e .yard) (g e) (e .yard) refl (near e (head refl))) (boundsAt r n + e .yard) (b e) (e .yard) refl (near e (head refl)))
+by-yards-values few g b [] near p = p
+by-yards-values few g b (e ∷ es) near p =
+    let h = near e (head refl) in
+    by-yards-values few g b es (λ x m. near x (tail m)) (store-bound few (store-f few p (e .yard) (g e) (e .yard) h refl) (boundsAt + e .yard) (b e) (e .yard) h refl)
 
 -- ---- what the words are
 

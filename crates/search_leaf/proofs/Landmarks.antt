@@ -11,7 +11,7 @@ use lib.Dec.{T, eqb→eq}
 use Rattle.book.specs.Bytes.{u8At, u16At}
 use Rattle.road_layout.specs.Road.{junctions}
 use Rattle.search_bounds.specs.code.Measures.{Driven, IsDriven, toCrews}
-use Rattle.tree_layout.specs.Values.{Mark, Region, regionAt}
+use Rattle.tree_layout.specs.Values.{Element, Mark, Region, regionAt}
 use Rattle.tree_layout.specs.Decode.{decode, junctionCount, regionCount, landmarkCount, placeOf, listPart, readList, markSize}
 use Rattle.tree_layout.specs.Reading.{headerOf}
 use Rattle.tree_layout.specs.code.Accessors.{fieldsAt}
@@ -24,24 +24,26 @@ use Rattle.tree.proofs.Fielding.{laid-region, laid-children}
 use Rattle.search_rules.specs.Rule.{Rule}
 use Rattle.search_rules.specs.Instance.{Instance, size, marks, leaf}
 use Rattle.search_rules.specs.Books.{searchOf}
-use Rattle.search_rules.specs.Bounds.{chosen}
+use Rattle.search_rules.specs.Bounds.{lower, chosen}
 use Rattle.tree_layout.specs.Values.{noMark}
 use Rattle.search_rules.specs.Facts.{WellFormed}
 use Rattle.search_rules.proofs.Books.{well-of, count}
 use Rattle.search_rules.proofs.Equations.{search-of, marks-is}
 use Rattle.search_rules.proofs.Steps.{size-is, leaf-is}
 use Rattle.search_rules.proofs.Taking.{chosen-in}
+use Rattle.search_rules.proofs.Limits.{lower-most}
 use Rattle.search_bounds.specs.code.Rows.{rowsLower}
 use Rattle.search_bounds.specs.code.Bounds.{rowsChosen, Crews}
 use Rattle.tree_layout.specs.code.Marks.{markPlace, RecordAt}
 use Rattle.tree_layout.proofs.RecordFields.{place-is, list-inside}
 use Rattle.search_bounds.proofs.Numbered.{record-of}
 use Rattle.search_bounds.proofs.Searching.{crews-of as rows-crews, lower-of, chosen-of, chosen-few}
-use Rattle.search_leaf.specs.code.Leaves.{Near, byYard, byYards, fIn, boundIn, listAt, Opened}
+use Rattle.search_leaf.specs.code.Leaves.{Near, byYard, byYards, ShortList, fIn, boundIn, listAt, Opened}
 use Rattle.search_leaf.proofs.ElementsOpening.{list-here, header-regions-are, header-junctions-are, opened, opened-kept}
-use Rattle.search_leaf.proofs.Filling.{by-yard-length, by-yards-parts}
+use Rattle.search_leaf.proofs.Filling.{by-yard-length, by-yards-values}
 use Rattle.search_state.specs.code.State.{wordCount, picksAt, regionKeysIn, yardKeysIn, firstsIn, picksIn, fsIn, boundsIn, goneIn}
 use Rattle.search_state.proofs.Cells.{Parts, parts-of, part-at, store-pick}
+use Rattle.search_state.proofs.Values.{Values, values-of}
 use Rattle.search_leaf.specs.code.Ready.{unopened, IsPick, Ready, Cached, IsLeaf, OpenLeaf, Leafed, SameQueue}
 
 -- the yards' number among the fields that were read
@@ -114,11 +116,11 @@ module _ (road tree : List ℕ) (code : ℕ) (goal : Rule) (crews drives places 
   -- ---- the words of a search of which leaf r is taken
 
   -- there is a word for everything
-  pub words-are : (r : ℕ) (ws : List ℕ) → Leafed i (length places) (junctionCount tree) ws r → (ws′ : List ℕ) → length ws′ ≡ length ws
+  pub words-are : (r : ℕ) (ws vs : List ℕ) → Leafed i (length places) (junctionCount tree) ws vs r → (ws′ : List ℕ) → length ws′ ≡ length ws
       → length ws′ ≡ wordCount (regionCount tree) (junctionCount tree)
-  words-are r ws q ws′ e = e ∙ rw (ready .laid .count) at (q .count)
+  words-are r ws vs q ws′ e = e ∙ rw (ready .laid .count) at (q .count)
 
-  module _ (r : ℕ) (ws : List ℕ) (q : Leafed i (length places) (junctionCount tree) ws r) (h : Header) (eh : h ≡ headerOf tree) where
+  module _ (r : ℕ) (ws vs : List ℕ) (q : Leafed i (length places) (junctionCount tree) ws vs r) (h : Header) (eh : h ≡ headerOf tree) where
     pub region-inside : r < h .regions
     region-inside = omega (arith, slot r (q .isLeaf), ready .laid .count, header-regions-are tree h eh)
 
@@ -132,8 +134,7 @@ module _ (road tree : List ℕ) (code : ℕ) (goal : Rule) (crews drives places 
 
       -- a leaf that was taken before is open
       pub open-already : (p : ℕ) → p ≡ getD ws j 0 → p ≢ unopened
-          → OpenLeaf i (picksIn (length places) (junctionCount tree) ws) (fsIn (length places) (junctionCount tree) ws)
-          (boundsIn (length places) (junctionCount tree) ws) r p
+          → OpenLeaf i (picksIn (length places) (junctionCount tree) ws) (fsIn (junctionCount tree) vs) (boundsIn (junctionCount tree) vs) r p
       open-already p ep u = record {
         cached = q .cached;
         pick = rw is (q .cached .picked r (q .isLeaf .inside) (q .isLeaf .is) v);
@@ -196,6 +197,27 @@ module _ (road tree : List ℕ) (code : ℕ) (goal : Rule) (crews drives places 
 
       pub list-near : Near (junctionCount tree) (listAt tree place n)
       list-near e k = omega (arith, well .shape .yards r (chosen i r) e (l .is) chosen-mark (rw list-of k), tree-junctions)
+
+      pub list-wide : Near 1024 (listAt tree place n)
+      list-wide e k = omega (arith, list-near e k, ready .laid .layout .junctions .1)
+
+      -- what is computed of its yards is short
+      pub list-short : ShortList table (landmarkCount tree) crews (listAt tree place n)
+      list-short = record {
+        distances = λ e k. well .small .lists r (chosen i r) e (l .is) chosen-mark (rw list-of k);
+        lowers = λ e k q j. rw (lower-is e k q j) (lower-most i well (e .yard) q (near e k) (crew q j));
+      }
+        where
+          near : (e : Element) → Mem e (listAt tree place n) → e .yard < i .tree .junctions
+          near e k = well .shape .yards r (chosen i r) e (l .is) chosen-mark (rw list-of k)
+
+          crew : (q : ℕ) → Mem q crews → q < i .tree .junctions
+          crew q j = omega (arith, ready .passed .there q j, junctions-of)
+
+          lower-is : (e : Element) → Mem e (listAt tree place n) → (q : ℕ) → Mem q crews
+              → rowsLower table (landmarkCount tree) (e .yard) q ≡ lower i (e .yard) q
+          lower-is e k q j = lower-of road tree code goal crews (ready .passed) (landmarkCount tree) table (ready .tableed) (e .yard) q
+              (rowsLower table (landmarkCount tree) (e .yard) q) (omega (arith, near e k, junctions-of)) (ready .passed .there q j) refl
 
       -- the crews' rows reach its junction
       pub driven-to : IsDriven crews drives (u16At tree place)
@@ -266,33 +288,35 @@ module _ (road tree : List ℕ) (code : ℕ) (goal : Rule) (crews drives places 
               opened = λ s h t o. one s (ℕ-discrete s r) h t o .1;
             }
 
-      -- the words of a search, with the landmark's number and then its yards' f and bounds set
-      module _ (ws ws′ : List ℕ) (q : Leafed i (length places) (junctionCount tree) ws r) (h : Header) (eh : h ≡ headerOf tree) (j : ℕ)
+      -- the words of a search with the landmark's number set, and its yards' values with their f and bounds
+      module _ (ws vs vs′ : List ℕ) (q : Leafed i (length places) (junctionCount tree) ws vs r) (h : Header) (eh : h ≡ headerOf tree) (j : ℕ)
           (ej : j ≡ picksAt (h .regions) (h .junctions) + r)
-          (stored : ws′ ≡ byYards (regionCount tree) (junctionCount tree) (fIn code (toCrews road (u16At tree place) crews))
-          (boundIn code table (landmarkCount tree) crews (toCrews road (u16At tree place) crews)) (listAt tree place n) (set ws j p)) where
-        parts : Parts (length places) (junctionCount tree) ws′
+          (stored : vs′ ≡ byYards (fIn code (toCrews road (u16At tree place) crews))
+          (boundIn code table (landmarkCount tree) crews (toCrews road (u16At tree place) crews)) (listAt tree place n) vs) where
+        parts : Parts (length places) (junctionCount tree) (set ws j p)
             (regionKeysIn (length places) (junctionCount tree) ws)
             (yardKeysIn (length places) (junctionCount tree) ws)
             (firstsIn (length places) (junctionCount tree) ws)
             (set (picksIn (length places) (junctionCount tree) ws) r p)
-            (byYard (fIn code (toCrews road (u16At tree place) crews)) (listAt tree place n) (fsIn (length places) (junctionCount tree) ws))
-            (byYard (boundIn code table (landmarkCount tree) crews (toCrews road (u16At tree place) crews)) (listAt tree place n)
-            (boundsIn (length places) (junctionCount tree) ws))
             (goneIn (length places) (junctionCount tree) ws)
-        parts = rw (stored, ← ready .laid .count) (by-yards-parts (length places) (junctionCount tree)
-            (fIn code (toCrews road (u16At tree place) crews)) (boundIn code table (landmarkCount tree) crews (toCrews road (u16At tree place) crews))
-            (listAt tree place n) list-near (store-pick (parts-of (length places) (junctionCount tree) ws) j p r (pick-place r ws q h eh j ej) (slot r l)))
+        parts = store-pick (parts-of (length places) (junctionCount tree) ws) j p r (pick-place r ws vs q h eh j ej) (slot r l)
 
-        pub same-queue : SameQueue (length places) (junctionCount tree) ws ws′
+        values : Values (junctionCount tree) vs′
+            (byYard (fIn code (toCrews road (u16At tree place) crews)) (listAt tree place n) (fsIn (junctionCount tree) vs))
+            (byYard (boundIn code table (landmarkCount tree) crews (toCrews road (u16At tree place) crews)) (listAt tree place n)
+            (boundsIn (junctionCount tree) vs))
+        values = rw stored (by-yards-values (ready .laid .layout .junctions .1) (fIn code (toCrews road (u16At tree place) crews))
+            (boundIn code table (landmarkCount tree) crews (toCrews road (u16At tree place) crews)) (listAt tree place n) list-near
+            (values-of (junctionCount tree) vs))
+
+        pub same-queue : SameQueue (length places) (junctionCount tree) ws (set ws j p)
         same-queue = record { keys = parts .keys-are; yards = parts .yards-are; firsts = parts .firsts-are; gone = parts .gone-are }
 
-        pub open-leaf : OpenLeaf i (picksIn (length places) (junctionCount tree) ws′) (fsIn (length places) (junctionCount tree) ws′)
-            (boundsIn (length places) (junctionCount tree) ws′) r p
-        open-leaf = rw (parts .picks-are, parts .fs-are, parts .bounds-are) (opens
-            (picksIn (length places) (junctionCount tree) ws) (fsIn (length places) (junctionCount tree) ws)
-            (boundsIn (length places) (junctionCount tree) ws)
-            (byYard (fIn code (toCrews road (u16At tree place) crews)) (listAt tree place n) (fsIn (length places) (junctionCount tree) ws))
+        pub open-leaf : OpenLeaf i (picksIn (length places) (junctionCount tree) (set ws j p)) (fsIn (junctionCount tree) vs′)
+            (boundsIn (junctionCount tree) vs′) r p
+        open-leaf = rw (parts .picks-are, values .fs-are, values .bounds-are) (opens
+            (picksIn (length places) (junctionCount tree) ws) (fsIn (junctionCount tree) vs) (boundsIn (junctionCount tree) vs)
+            (byYard (fIn code (toCrews road (u16At tree place) crews)) (listAt tree place n) (fsIn (junctionCount tree) vs))
             (byYard (boundIn code table (landmarkCount tree) crews (toCrews road (u16At tree place) crews)) (listAt tree place n)
-            (boundsIn (length places) (junctionCount tree) ws))
+            (boundsIn (junctionCount tree) vs))
             (q .cached) refl refl (λ e. omega (arith, pick-small)))

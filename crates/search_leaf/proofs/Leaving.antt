@@ -113,16 +113,16 @@ module _ (road tree : List ℕ) (code : ℕ) (k : Rule) (crews drives places tab
         st = record { regionKeys = keys; yardKeys = yards; firsts = firsts; gone = gone; held = held; measured = newest measured counted }
 
   -- the words before, when the leaf is open, and when its next yard and the leaf are queued
-  module _ (ws ws′ : List ℕ) (q : Leafed i (length places) (junctionCount tree) ws r)
+  module _ (ws vs ws′ vs′ : List ℕ) (q : Leafed i (length places) (junctionCount tree) ws vs r)
       (same : SameQueue (length places) (junctionCount tree) ws ws′)
-      (o : OpenLeaf i (picksIn (length places) (junctionCount tree) ws′) (fsIn (length places) (junctionCount tree) ws′)
-      (boundsIn (length places) (junctionCount tree) ws′) r p) where
+      (o : OpenLeaf i (picksIn (length places) (junctionCount tree) ws′) (fsIn (junctionCount tree) vs′)
+      (boundsIn (junctionCount tree) vs′) r p) where
     waits : Waiting i (regionKeysIn regions junctions ws′) (yardKeysIn regions junctions ws′) (firstsIn regions junctions ws′)
         (goneIn regions junctions ws′) r
     waits = rw (same .keys, same .yards, same .firsts, same .gone) (q .waiting)
 
     y : ℕ
-    y = nextIn (fsIn regions junctions ws′) (goneIn regions junctions ws′) es n .yard
+    y = nextIn (fsIn junctions vs′) (goneIn regions junctions ws′) es n .yard
 
     y-inside : y < junctions
     unfolding y
@@ -130,9 +130,9 @@ module _ (road tree : List ℕ) (code : ℕ) (k : Rule) (crews drives places tab
       arith,
       tree-junctions road tree code k crews drives places table ready,
       well road tree code k crews drives places table ready .shape .yards r (chosen i r)
-          (nextIn (fsIn regions junctions ws′) (goneIn regions junctions ws′) es n) (l .is)
+          (nextIn (fsIn junctions vs′) (goneIn regions junctions ws′) es n) (l .is)
           (chosen-mark road tree code k crews drives places table ready r l at e)
-          (next-mem i (chosen i r) (fsIn regions junctions ws′) (boundsIn regions junctions ws′) (o .opened)
+          (next-mem i (chosen i r) (fsIn junctions vs′) (boundsIn junctions vs′) (o .opened)
           (goneIn regions junctions ws′) n es count list-is list-some),
     )
 
@@ -149,23 +149,22 @@ module _ (road tree : List ℕ) (code : ℕ) (k : Rule) (crews drives places tab
         state-by (parts-of regions junctions ws) held measured counted ∙ rw (same .keys, same .yards, same .firsts, same .gone) refl
 
     module _ (ws″ : List ℕ) (h : Header) (eh : h ≡ headerOf tree)
-        (stored : ws″ ≡ leafQueued (h .regions) (h .junctions) (readList list n 0) n ws′ r) where
-      is : ws″ ≡ leafQueued regions junctions es n ws′ r
+        (stored : ws″ ≡ leafQueued (h .regions) (h .junctions) (readList list n 0) n ws′ vs′ r) where
+      is : ws″ ≡ leafQueued regions junctions es n ws′ vs′ r
       is = rw (ready .laid .count, header-regions-are tree h eh, header-junctions-are tree h eh) stored
 
       parts : Parts regions junctions ws″
           (set (regionKeysIn regions junctions ws′) r (againKey (getD (firstsIn regions junctions ws′) r 0)
-          (nextWord (fsIn regions junctions ws′) (set (goneIn regions junctions ws′) y true) es n)))
-          (set (yardKeysIn regions junctions ws′) y (max (getD (boundsIn regions junctions ws′) y 0) (getD (firstsIn regions junctions ws′) r 0)))
-          (firstsIn regions junctions ws′) (picksIn regions junctions ws′) (fsIn regions junctions ws′) (boundsIn regions junctions ws′)
-          (set (goneIn regions junctions ws′) y true)
+          (nextWord (fsIn junctions vs′) (set (goneIn regions junctions ws′) y true) es n)))
+          (set (yardKeysIn regions junctions ws′) y (max (getD (boundsIn junctions vs′) y 0) (getD (firstsIn regions junctions ws′) r 0)))
+          (firstsIn regions junctions ws′) (picksIn regions junctions ws′) (set (goneIn regions junctions ws′) y true)
       unfolding y
-      parts = rw is (leaf-queued regions junctions es n ws′ r (slot road tree code k crews drives places table ready r l) y
-          (sym (leaving-by regions junctions es n ws′)) y-inside)
+      parts = rw is (leaf-queued regions junctions es n ws′ vs′ r (slot road tree code k crews drives places table ready r l) y
+          (sym (leaving-by regions junctions es n ws′ vs′)) y-inside)
 
-      pub leaf-cached : Cached i (picksIn (length places) (junctionCount tree) ws″) (fsIn (length places) (junctionCount tree) ws″)
-          (boundsIn (length places) (junctionCount tree) ws″)
-      leaf-cached = rw (parts .picks-are, parts .fs-are, parts .bounds-are) (o .cached)
+      pub leaf-cached : Cached i (picksIn (length places) (junctionCount tree) ws″) (fsIn (junctionCount tree) vs′)
+          (boundsIn (junctionCount tree) vs′)
+      leaf-cached = rw (parts .picks-are) (o .cached)
 
       pub leaf-taken : (held : List Element) (measured : List ℕ) (counted : ℕ)
           → stateOf (length places) (junctionCount tree) ws″ held measured counted
@@ -173,6 +172,6 @@ module _ (road tree : List ℕ) (code : ℕ) (k : Rule) (crews drives places tab
       unfolding y
       leaf-taken held measured counted =
           state-by parts held measured counted
-          ∙ (leaf-state (fsIn regions junctions ws′) (boundsIn regions junctions ws′) (regionKeysIn regions junctions ws′)
+          ∙ (leaf-state (fsIn junctions vs′) (boundsIn junctions vs′) (regionKeysIn regions junctions ws′)
           (yardKeysIn regions junctions ws′) (firstsIn regions junctions ws′) (goneIn regions junctions ws′) (o .opened) waits held measured counted
           ∙ sym (ap (λ (s : SearchState). openLeaf i s r) (same-state held measured counted)))

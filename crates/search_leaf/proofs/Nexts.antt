@@ -61,80 +61,76 @@ next-word fs gone es n place word p q = q ∙ rw p refl
 
 -- ---- what is stored
 
-module _ (regions junctions : ℕ) (p : List ℕ) (n : ℕ) (ws : List ℕ) where
+module _ (regions junctions : ℕ) (p : List ℕ) (n : ℕ) (ws vs : List ℕ) where
   -- the yard that was read is the one that leaves
-  pub leaving-is : 1 ≤ n → (place : ℕ) → place ≡ pick (wordsOf (fsIn regions junctions ws) (goneIn regions junctions ws) (readList p n 0)) n
-      → (e : Listed) → e ≡ listedAt p place → e .yard .number ≡ leaving regions junctions (readList p n 0) n ws
+  pub leaving-is : 1 ≤ n → (place : ℕ) → place ≡ pick (wordsOf (fsIn junctions vs) (goneIn regions junctions ws) (readList p n 0)) n
+      → (e : Listed) → e ≡ listedAt p place → e .yard .number ≡ leaving regions junctions (readList p n 0) n ws vs
   unfolding leaving
-  leaving-is some place picked e q = next-yard p (fsIn regions junctions ws) (goneIn regions junctions ws) n place some picked e q
+  leaving-is some place picked e q = next-yard p (fsIn junctions vs) (goneIn regions junctions ws) n place some picked e q
 
   -- the words with the yard and then the leaf queued, by the places and numbers that were computed
-  module _ (r y : ℕ) (ey : y ≡ leaving regions junctions (readList p n 0) n ws) (a b g k : ℕ)
-      (ea : a ≡ firstsAt regions junctions + r) (eb : b ≡ boundsAt regions junctions + y) (eg : g ≡ goneAt regions junctions + y)
-      (ek : k ≡ yardKeysAt regions junctions + y) (v : ℕ) (ev : v ≡ max (getD ws b 0) (getD ws a 0)) where
+  module _ (r y : ℕ) (ey : y ≡ leaving regions junctions (readList p n 0) n ws vs) (a b g k : ℕ)
+      (ea : a ≡ firstsAt regions junctions + r) (eb : b ≡ boundsAt + y) (eg : g ≡ goneAt regions junctions + y)
+      (ek : k ≡ yardKeysAt regions junctions + y) (v : ℕ) (ev : v ≡ max (getD vs b 0) (getD ws a 0)) where
     yard-is : set (set ws g 0) k v
-        ≡ yardQueued regions junctions (readList p n 0) n ws r (leaving regions junctions (readList p n 0) n ws)
+        ≡ yardQueued regions junctions (readList p n 0) n ws vs r (leaving regions junctions (readList p n 0) n ws vs)
     unfolding yardQueued
     yard-is = rw (← ey, ← ea, ← eb, ← eg, ← ek, ev) refl
 
     pub queued-is : (place word x : ℕ)
-        → place ≡ pick (wordsOf (fsIn regions junctions (set (set ws g 0) k v)) (goneIn regions junctions (set (set ws g 0) k v)) (readList p n 0)) n
-        → word ≡ wordAt (wordsOf (fsIn regions junctions (set (set ws g 0) k v)) (goneIn regions junctions (set (set ws g 0) k v)) (readList p n 0)) place
-        → x ≡ againKey (getD ws a 0) word → set (set (set ws g 0) k v) r x ≡ leafQueued regions junctions (readList p n 0) n ws r
+        → place ≡ pick (wordsOf (fsIn junctions vs) (goneIn regions junctions (set (set ws g 0) k v)) (readList p n 0)) n
+        → word ≡ wordAt (wordsOf (fsIn junctions vs) (goneIn regions junctions (set (set ws g 0) k v)) (readList p n 0)) place
+        → x ≡ againKey (getD ws a 0) word → set (set (set ws g 0) k v) r x ≡ leafQueued regions junctions (readList p n 0) n ws vs r
     unfolding leafQueued
     queued-is place word x picked w e = rw (
       ← yard-is,
       ← ea,
       e,
-      next-word (fsIn regions junctions (set (set ws g 0) k v)) (goneIn regions junctions (set (set ws g 0) k v)) (readList p n 0) n place word picked w,
+      next-word (fsIn junctions vs) (goneIn regions junctions (set (set ws g 0) k v)) (readList p n 0) n place word picked w,
     ) refl
 
 -- ---- its parts
 
-key-queued : {regions junctions : ℕ} {ws keys yards firsts picks fs bounds : List ℕ} {gone : List Bool}
-    → Parts regions junctions ws keys yards firsts picks fs bounds gone → (r x key : ℕ) → r < regions → x ≡ key
-    → Parts regions junctions (set ws r x) (set keys r key) yards firsts picks fs bounds gone
+key-queued : {regions junctions : ℕ} {ws keys yards firsts picks : List ℕ} {gone : List Bool}
+    → Parts regions junctions ws keys yards firsts picks gone → (r x key : ℕ) → r < regions → x ≡ key
+    → Parts regions junctions (set ws r x) (set keys r key) yards firsts picks gone
 key-queued p r x key h e = rw (← e) (store-key p r x r refl h)
 
-again-is : (es : List Element) (n first first′ : ℕ) (fs fs′ : List ℕ) (gone gone′ : List Bool) → first ≡ first′ → fs ≡ fs′ → gone ≡ gone′
-    → againKey first (nextWord fs gone es n) ≡ againKey first′ (nextWord fs′ gone′ es n)
-again-is es n first first′ fs fs′ gone gone′ a b c = rw (a, b, c) refl
+again-is : (es : List Element) (n first first′ : ℕ) (fs : List ℕ) (gone gone′ : List Bool) → first ≡ first′ → gone ≡ gone′
+    → againKey first (nextWord fs gone es n) ≡ againKey first′ (nextWord fs gone′ es n)
+again-is es n first first′ fs gone gone′ a b = rw (a, b) refl
 
-module _ (regions junctions : ℕ) (es : List Element) (n : ℕ) (ws : List ℕ) (r : ℕ) (hr : r < regions) where
+module _ (regions junctions : ℕ) (es : List Element) (n : ℕ) (ws vs : List ℕ) (r : ℕ) (hr : r < regions) where
   first-at : getD ws (firstsAt regions junctions + r) 0 ≡ getD (firstsIn regions junctions ws) r 0
   first-at = sym (part-at ws (firstsAt regions junctions) regions r (firstsAt regions junctions + r) 0 refl hr)
 
-  yard-parts : (y : ℕ) → y < junctions → Parts regions junctions (yardQueued regions junctions es n ws r y) (regionKeysIn regions junctions ws)
-      (set (yardKeysIn regions junctions ws) y (max (getD (boundsIn regions junctions ws) y 0) (getD (firstsIn regions junctions ws) r 0)))
-      (firstsIn regions junctions ws) (picksIn regions junctions ws) (fsIn regions junctions ws) (boundsIn regions junctions ws)
-      (set (goneIn regions junctions ws) y true)
+  yard-parts : (y : ℕ) → y < junctions → Parts regions junctions (yardQueued regions junctions es n ws vs r y) (regionKeysIn regions junctions ws)
+      (set (yardKeysIn regions junctions ws) y (max (getD (boundsIn junctions vs) y 0) (getD (firstsIn regions junctions ws) r 0)))
+      (firstsIn regions junctions ws) (picksIn regions junctions ws) (set (goneIn regions junctions ws) y true)
   unfolding yardQueued
-  yard-parts y hy = rw (first-at, ← part-at ws (boundsAt regions junctions) junctions y (boundsAt regions junctions + y) 0 refl hy)
+  yard-parts y hy = rw (first-at, ← part-at vs boundsAt junctions y (boundsAt + y) 0 refl hy)
       (store-yard (store-gone (parts-of regions junctions ws) (goneAt regions junctions + y) y refl hy) (yardKeysAt regions junctions + y)
-      (max (getD (boundsIn regions junctions ws) y 0) (getD (firstsIn regions junctions ws) r 0)) y refl hy)
+      (max (getD (boundsIn junctions vs) y 0) (getD (firstsIn regions junctions ws) r 0)) y refl hy)
 
   -- the leaf's yard y has left, and both are queued
-  pub leaf-queued : (y : ℕ) → y ≡ leaving regions junctions es n ws → y < junctions
-      → Parts regions junctions (leafQueued regions junctions es n ws r)
+  pub leaf-queued : (y : ℕ) → y ≡ leaving regions junctions es n ws vs → y < junctions
+      → Parts regions junctions (leafQueued regions junctions es n ws vs r)
       (set (regionKeysIn regions junctions ws) r (againKey (getD (firstsIn regions junctions ws) r 0)
-      (nextWord (fsIn regions junctions ws) (set (goneIn regions junctions ws) y true) es n)))
-      (set (yardKeysIn regions junctions ws) y (max (getD (boundsIn regions junctions ws) y 0) (getD (firstsIn regions junctions ws) r 0)))
-      (firstsIn regions junctions ws) (picksIn regions junctions ws) (fsIn regions junctions ws) (boundsIn regions junctions ws)
-      (set (goneIn regions junctions ws) y true)
+      (nextWord (fsIn junctions vs) (set (goneIn regions junctions ws) y true) es n)))
+      (set (yardKeysIn regions junctions ws) y (max (getD (boundsIn junctions vs) y 0) (getD (firstsIn regions junctions ws) r 0)))
+      (firstsIn regions junctions ws) (picksIn regions junctions ws) (set (goneIn regions junctions ws) y true)
   unfolding leafQueued
   leaf-queued y e hy =
       let p = yard-parts y hy in
       rw (← e) (key-queued p r
-      (againKey (getD ws (firstsAt regions junctions + r) 0) (nextWord (fsIn regions junctions (yardQueued regions junctions es n ws r y))
-      (goneIn regions junctions (yardQueued regions junctions es n ws r y)) es n))
-      (againKey (getD (firstsIn regions junctions ws) r 0) (nextWord (fsIn regions junctions ws) (set (goneIn regions junctions ws) y true) es n)) hr
-      (again-is es n (getD ws (firstsAt regions junctions + r) 0) (getD (firstsIn regions junctions ws) r 0)
-      (fsIn regions junctions (yardQueued regions junctions es n ws r y)) (fsIn regions junctions ws)
-      (goneIn regions junctions (yardQueued regions junctions es n ws r y)) (set (goneIn regions junctions ws) y true)
-      first-at (p .fs-are) (p .gone-are)))
+      (againKey (getD ws (firstsAt regions junctions + r) 0) (nextWord (fsIn junctions vs)
+      (goneIn regions junctions (yardQueued regions junctions es n ws vs r y)) es n))
+      (againKey (getD (firstsIn regions junctions ws) r 0) (nextWord (fsIn junctions vs) (set (goneIn regions junctions ws) y true) es n)) hr
+      (again-is es n (getD ws (firstsAt regions junctions + r) 0) (getD (firstsIn regions junctions ws) r 0) (fsIn junctions vs)
+      (goneIn regions junctions (yardQueued regions junctions es n ws vs r y)) (set (goneIn regions junctions ws) y true) first-at (p .gone-are)))
 
 -- the yard that leaves, by the parts
-pub leaving-by : (regions junctions : ℕ) (es : List Element) (n : ℕ) (ws : List ℕ)
-    → leaving regions junctions es n ws ≡ nextIn (fsIn regions junctions ws) (goneIn regions junctions ws) es n .yard
+pub leaving-by : (regions junctions : ℕ) (es : List Element) (n : ℕ) (ws vs : List ℕ)
+    → leaving regions junctions es n ws vs ≡ nextIn (fsIn junctions vs) (goneIn regions junctions ws) es n .yard
 unfolding leaving
-leaving-by regions junctions es n ws = refl
+leaving-by regions junctions es n ws vs = refl

@@ -2,7 +2,7 @@
 use mathlib.Core.Path.{_≡_, refl, sym, ap, _∙_}
 use mathlib.Core.Bool.{Bool}
 use mathlib.Core.List.{List, [], _∷_, List·Memᴰ as Mem, List·Memᴰ·head as head, List·Memᴰ·tail as tail}
-use Prim.Native.Nat.{ℕ, zero, suc, _+_, _*_, _-_, _≤_, _<_}
+use Prim.Native.Nat.{ℕ, zero, suc, _+_, _*_, _≤_, _<_}
 use native.Mathlib.Numerals.{add-one}
 use native.Mathlib.Omega.{arith}
 use lib.ListN.{length, getD}
@@ -22,23 +22,23 @@ use Rattle.search_rules.specs.Queue.{unqueued, wordAt, pick}
 use Rattle.search_rules.specs.Step.{left, waiting, nextPlace, nextF}
 use Rattle.search_rules.proofs.Turns.{word-at, pick-none, pick-more}
 use Rattle.search_rules.proofs.Measures.{left-is, waiting-none, waiting-cons, next-place-is, next-f-is}
-use Rattle.search_state.specs.code.State.{wordCount, fsAt, goneAt, fsIn, goneIn}
+use Rattle.search_state.specs.code.State.{wordCount, goneAt, fsIn, goneIn}
 use Rattle.search_state.proofs.Cells.{part-at, gone-at}
 use Rattle.search_leaf.specs.code.Leaves.{elementWord, wordsOf}
 
 -- ---- a word
 
-module _ (r n : ℕ) (ws : List ℕ) (y : ℕ) (count : length ws ≡ wordCount r n) (h : y < n) (g : ℕ) (eg : g ≡ goneAt r n + y) where
-  pub word-gone : getD ws g 0 ≡ 0 → unqueued ≡ elementWord (fsIn r n ws) (goneIn r n ws) y
+module _ (r n : ℕ) (ws vs : List ℕ) (y : ℕ) (count : length ws ≡ wordCount r n) (h : y < n) (g : ℕ) (eg : g ≡ goneAt r n + y) where
+  pub word-gone : getD ws g 0 ≡ 0 → unqueued ≡ elementWord (fsIn n vs) (goneIn r n ws) y
   unfolding elementWord
-  word-gone e = sym (choose-yes (left (goneIn r n ws) y) unqueued (getD (fsIn r n ws) y 0)
+  word-gone e = sym (choose-yes (left (goneIn r n ws) y) unqueued (getD (fsIn n vs) y 0)
       (true-T (left-is (goneIn r n ws) y ∙ (gone-at r n ws y g 0 count eg h ∙ eq-eqb (getD ws g 0) 0 e))))
 
-  pub word-there : (getD ws g 0 ≡ 0 → ⊥) → (i : ℕ) → i ≡ fsAt r n + y → getD ws i 0 ≡ elementWord (fsIn r n ws) (goneIn r n ws) y
+  pub word-there : (getD ws g 0 ≡ 0 → ⊥) → (x : ℕ) → x ≡ getD vs y 0 → x ≡ elementWord (fsIn n vs) (goneIn r n ws) y
   unfolding elementWord
-  word-there e i ei = sym (choose-no (left (goneIn r n ws) y) unqueued (getD (fsIn r n ws) y 0)
+  word-there e x ex = ex ∙ sym (choose-no (left (goneIn r n ws) y) unqueued (getD (fsIn n vs) y 0)
       (false-T (left-is (goneIn r n ws) y ∙ (gone-at r n ws y g 0 count eg h ∙ ne-eqb (getD ws g 0) 0 e)))
-      ∙ part-at ws (fsAt r n) n y i 0 ei h)
+      ∙ part-at vs 0 n y y 0 (omega arith) h)
 
 -- ---- the words
 

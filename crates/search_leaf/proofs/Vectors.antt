@@ -1,7 +1,7 @@
 -- Worked examples: the definitions run. Assumes nothing.
 use mathlib.Core.Path.{_≡_, refl}
 use mathlib.Core.Bool.{true, false}
-use mathlib.Core.List.{List, [], _∷_}
+use mathlib.Core.List.{List, [], _∷_, _++_}
 use Prim.Native.Nat.{ℕ, _+_}
 use lib.ListN.{replicate}
 use Rattle.book.specs.Choose.{choose}
@@ -21,9 +21,9 @@ at-yards : byYard (λ e. e .distance) three (7 ∷ 7 ∷ 7 ∷ 7 ∷ []) ≡ 10 
 unfolding byYard three pair
 at-yards = refl
 
--- of one region and two junctions, the f's stand from word 5 on and the bounds from word 7 on
-at-both : byYards 1 2 (λ e. e .distance) (λ e. e .distance + 1) (pair 2 1 ∷ pair 9 0 ∷ []) (replicate 11 7)
-    ≡ 7 ∷ 7 ∷ 7 ∷ 7 ∷ 7 ∷ 9 ∷ 2 ∷ 10 ∷ 3 ∷ 7 ∷ 7 ∷ []
+-- the f's stand at their yards, and the bounds 1,024 places further
+at-both : byYards (λ e. e .distance) (λ e. e .distance + 1) (pair 2 1 ∷ pair 9 0 ∷ []) (replicate 1026 7)
+    ≡ 9 ∷ 2 ∷ replicate 1022 7 ++ 10 ∷ 3 ∷ []
 unfolding byYards pair
 at-both = refl
 

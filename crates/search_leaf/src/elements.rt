@@ -2,6 +2,7 @@
 use crate::Next;
 use crate::parts;
 use book::Junction;
+use search_bounds::numbers::wide;
 use search_queue::UNQUEUED;
 use tree_layout::Header;
 use tree_layout::records;
@@ -11,43 +12,44 @@ ghost use Prim.Native.Nat.{ℕ, _+_, _*_, _≤_, _<_};
 ghost use lib.ListN.{length};
 ghost use Rattle.book.specs.Bytes.{u16At};
 ghost use Rattle.road_layout.specs.Road.{junctions};
-ghost use Rattle.tree_layout.specs.Decode.{readList, junctionCount, regionCount, landmarkCount};
+ghost use Rattle.tree_layout.specs.Decode.{readList, landmarkCount};
 ghost use Rattle.search_rules.specs.Queue.{wordAt, pick};
 ghost use Rattle.search_bounds.specs.code.Rows.{Rows};
 ghost use Rattle.search_bounds.specs.code.Bounds.{Crews};
-ghost use Rattle.search_bounds.specs.code.Measures.{Driven, IsDriven, toCrews};
-ghost use Rattle.search_state.specs.code.State.{wordCount, fsIn, goneIn};
-ghost use Rattle.search_leaf.specs.code.Leaves.{Near, byYards, fIn, boundIn, elementWord, wordsOf, listAt};
+ghost use Rattle.search_bounds.specs.code.Measures.{Short, Driven, IsDriven, toCrews};
+ghost use Rattle.search_state.specs.code.State.{wordCount, valueCount, fsIn, goneIn};
+ghost use Rattle.search_leaf.specs.code.Leaves.{Near, byYards, ShortList, fIn, boundIn, elementWord};
+ghost use Rattle.search_leaf.specs.code.Leaves.{wordsOf, listAt};
 
 // Sets f and the bound of each yard of a landmark's list, given the landmark's distances to the crews.
 fn fill(
     list: &[u8],
     yards: usize,
     table: &[u32],
+    rows: usize,
     crews: &[u16],
     out: &[u32],
     code: u8,
-    h: Header,
-    words: &mut [u64],
+    values: &mut [u32],
 )
-    requires { ⌜ (6 * yards ≤ length (now list)) × Rows (now table) (h .landmarks) × Crews (now crews)
-        × (length (now out) ≡ length (now crews)) × Near (h .junctions) (readList (now list) yards 0)
-        × (h .junctions ≤ 1024) × (length (now words) ≡ wordCount (h .regions) (h .junctions)) ⌝ }
-    ensures { λ _. ⌜ now (words .exit) ≡ byYards (h .regions) (h .junctions) (fIn code (now (out .entry)))
-        (boundIn code (now (table .entry)) (h .landmarks) (now (crews .entry)) (now (out .entry)))
-        (readList (now (list .entry)) yards 0) (now (words .entry)) ⌝ }
+    requires { ⌜ (6 * yards ≤ length (now list)) × Rows (now table) rows × Crews (now crews)
+        × (length (now out) ≡ length (now crews)) × Short (now out) × Near 1024 (readList (now list) yards 0)
+        × ShortList (now table) rows (now crews) (readList (now list) yards 0)
+        × (length (now values) ≡ valueCount) ⌝ }
+    ensures { λ _. ⌜ now (values .exit) ≡ byYards (fIn code (now (out .entry)))
+        (boundIn code (now (table .entry)) rows (now (crews .entry)) (now (out .entry)))
+        (readList (now (list .entry)) yards 0) (now (values .entry)) ⌝ }
 {
-    let rows = h.landmarks as usize;
     let mut k: usize = 0;
     while k < yards {
         let e = records::element(list, k);
         let y = e.yard;
         let f = search_bounds::yards::f_of(out, code, e.distance);
         let bound = search_bounds::yards::yard_bound(table, rows, crews, out, code, y, e.distance);
-        let f_place = parts::f_at(h, y);
-        let bound_place = parts::bound_at(h, y);
-        words[f_place] = f;
-        words[bound_place] = bound;
+        let f_place = parts::f_at(y);
+        let bound_place = parts::bound_at(y);
+        values[f_place] = f;
+        values[bound_place] = bound;
         k += 1;
     }
 }
@@ -61,58 +63,60 @@ pub fn open(
     drives: &[u32],
     crews: &[u16],
     code: u8,
-    words: &mut [u64],
+    values: &mut [u32],
 )
     requires { ⌜ IsDriven (now crews) (now drives) (u16At (now tree) at) × Rows (now table) (landmarkCount (now tree))
-        × (12 ≤ length (now tree)) × (at + (2 + 6 * yards) ≤ length (now tree)) × (junctionCount (now tree) ≤ 1024)
-        × Near (junctionCount (now tree)) (listAt (now tree) at yards)
-        × (length (now words) ≡ wordCount (regionCount (now tree)) (junctionCount (now tree))) ⌝ }
+        × (12 ≤ length (now tree)) × (at + (2 + 6 * yards) ≤ length (now tree))
+        × Near 1024 (listAt (now tree) at yards)
+        × ShortList (now table) (landmarkCount (now tree)) (now crews) (listAt (now tree) at yards)
+        × (length (now values) ≡ valueCount) ⌝ }
     ensures { λ _. ⌜ ((road : List ℕ) → Driven road (now (crews .entry)) (now (drives .entry))
         → u16At (now (tree .entry)) at < junctions road
-        → now (words .exit) ≡ byYards (regionCount (now (tree .entry))) (junctionCount (now (tree .entry)))
-        (fIn code (toCrews road (u16At (now (tree .entry)) at) (now (crews .entry))))
+        → now (values .exit) ≡ byYards (fIn code (toCrews road (u16At (now (tree .entry)) at) (now (crews .entry))))
         (boundIn code (now (table .entry)) (landmarkCount (now (tree .entry))) (now (crews .entry))
         (toCrews road (u16At (now (tree .entry)) at) (now (crews .entry))))
-        (listAt (now (tree .entry)) at yards) (now (words .entry))) ⌝ }
+        (listAt (now (tree .entry)) at yards) (now (values .entry))) ⌝ }
 {
     let mut out = [0u32; 16];
     let q = crews.len();
     let l = records::junction(tree, at);
     search_bounds::yards::to_crews(drives, crews, l, &mut out[..q]);
     let list = records::list(tree, at, yards);
-    let h = records::header(tree);
-    fill(list, yards, table, crews, &out[..q], code, h, words);
+    let rows = records::header(tree).landmarks as usize;
+    fill(list, yards, table, rows, crews, &out[..q], code, values);
 }
 
 // A yard's f, or UNQUEUED if it has left.
-fn word_of(h: Header, words: &[u64], y: Junction) -> u64
-    requires { ⌜ (y .number < h .junctions) × (length (now words) ≡ wordCount (h .regions) (h .junctions)) ⌝ }
-    ensures { λ r. ⌜ r ≡ elementWord (fsIn (h .regions) (h .junctions) (now (words .entry)))
+fn word_of(h: Header, words: &[u64], values: &[u32], y: Junction) -> u64
+    requires { ⌜ (y .number < h .junctions) × (length (now words) ≡ wordCount (h .regions) (h .junctions))
+        × (h .junctions ≤ 1024) × (length (now values) ≡ valueCount) ⌝ }
+    ensures { λ r. ⌜ r ≡ elementWord (fsIn (h .junctions) (now (values .entry)))
         (goneIn (h .regions) (h .junctions) (now (words .entry))) (y .number) ⌝ }
 {
     let g = parts::gone_at(h, y);
     if words[g] == 0 {
         return UNQUEUED;
     }
-    let i = parts::f_at(h, y);
-    words[i]
+    let i = parts::f_at(y);
+    wide(values[i])
 }
 
 // "Its list's elements leave by f .., then by place": the next of at least one.
-pub fn next_element(list: &[u8], yards: usize, h: Header, words: &[u64]) -> Next
+pub fn next_element(list: &[u8], yards: usize, h: Header, words: &[u64], values: &[u32]) -> Next
     requires { ⌜ (1 ≤ yards) × (6 * yards ≤ length (now list)) × Near (h .junctions) (readList (now list) yards 0)
-        × (length (now words) ≡ wordCount (h .regions) (h .junctions)) ⌝ }
-    ensures { λ r. ⌜ (r .place ≡ pick (wordsOf (fsIn (h .regions) (h .junctions) (now (words .entry)))
+        × (length (now words) ≡ wordCount (h .regions) (h .junctions))
+        × (h .junctions ≤ 1024) × (length (now values) ≡ valueCount) ⌝ }
+    ensures { λ r. ⌜ (r .place ≡ pick (wordsOf (fsIn (h .junctions) (now (values .entry)))
         (goneIn (h .regions) (h .junctions) (now (words .entry))) (readList (now (list .entry)) yards 0)) yards)
-        × (r .f ≡ wordAt (wordsOf (fsIn (h .regions) (h .junctions) (now (words .entry)))
+        × (r .f ≡ wordAt (wordsOf (fsIn (h .junctions) (now (values .entry)))
         (goneIn (h .regions) (h .junctions) (now (words .entry))) (readList (now (list .entry)) yards 0))
         (r .place)) ⌝ }
 {
     let mut place: usize = 0;
-    let mut f = word_of(h, words, records::element(list, 0).yard);
+    let mut f = word_of(h, words, values, records::element(list, 0).yard);
     let mut k: usize = 1;
     while k < yards {
-        let w = word_of(h, words, records::element(list, k).yard);
+        let w = word_of(h, words, values, records::element(list, k).yard);
         if w < f {
             place = k;
             f = w;

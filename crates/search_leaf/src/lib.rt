@@ -35,6 +35,7 @@ pub fn take(
     crews: &[u16],
     asked: Asked,
     words: &mut [u64],
+    values: &mut [u32],
     r: Region,
 )
     requires { ⌜ Readied (now tree) (asked .aggregate) (ruleOf (asked .rule))
@@ -43,14 +44,14 @@ pub fn take(
         → Ready road (now tree) (asked .aggregate) (ruleOf (asked .rule))
         (now crews) (now drives) (now places) (now table)
         → Leafed (searchOf road (now tree) (asked .aggregate) (ruleOf (asked .rule)) (now crews))
-        (length (now places)) (junctionCount (now tree)) (now words) (r .number)) ⌝ }
+        (length (now places)) (junctionCount (now tree)) (now words) (now values) (r .number)) ⌝ }
     ensures cached { λ _. ⌜ ((road : List ℕ)
         → Ready road (now (tree .entry)) (asked .aggregate) (ruleOf (asked .rule))
         (now (crews .entry)) (now (drives .entry)) (now (places .entry)) (now (table .entry))
         → Cached (searchOf road (now (tree .entry)) (asked .aggregate) (ruleOf (asked .rule)) (now (crews .entry)))
         (picksIn (length (now (places .entry))) (junctionCount (now (tree .entry))) (now (words .exit)))
-        (fsIn (length (now (places .entry))) (junctionCount (now (tree .entry))) (now (words .exit)))
-        (boundsIn (length (now (places .entry))) (junctionCount (now (tree .entry))) (now (words .exit)))) ⌝ }
+        (fsIn (junctionCount (now (tree .entry))) (now (values .exit)))
+        (boundsIn (junctionCount (now (tree .entry))) (now (values .exit)))) ⌝ }
     ensures state { λ _. ⌜ ((road : List ℕ)
         → Ready road (now (tree .entry)) (asked .aggregate) (ruleOf (asked .rule))
         (now (crews .entry)) (now (drives .entry)) (now (places .entry)) (now (table .entry))
@@ -61,11 +62,11 @@ pub fn take(
         (stateOf (length (now (places .entry))) (junctionCount (now (tree .entry))) (now (words .entry))
         held measured count) (r .number)) ⌝ }
 {
-    let p = opening::landmark(tree, places, table, drives, crews, asked, words, r);
+    let p = opening::landmark(tree, places, table, drives, crews, asked, words, values, r);
     let at = places[r.number as usize];
     let yards = records::fields(tree, at).yards as usize;
     let place = landmarks::mark_place(tree, at, p);
     let list = records::list(tree, place, yards);
     let h = records::header(tree);
-    queueing::queue_next(list, yards, h, words, r);
+    queueing::queue_next(list, yards, h, words, values, r);
 }

@@ -24,6 +24,7 @@ fn open(
     crews: &[u16],
     asked: Asked,
     words: &mut [u64],
+    values: &mut [u32],
     r: Region,
 ) -> usize
     requires { ⌜ Readied (now tree) (asked .aggregate) (ruleOf (asked .rule))
@@ -32,7 +33,7 @@ fn open(
         → Ready road (now tree) (asked .aggregate) (ruleOf (asked .rule))
         (now crews) (now drives) (now places) (now table)
         → Leafed (searchOf road (now tree) (asked .aggregate) (ruleOf (asked .rule)) (now crews))
-        (length (now places)) (junctionCount (now tree)) (now words) (r .number)) ⌝ }
+        (length (now places)) (junctionCount (now tree)) (now words) (now values) (r .number)) ⌝ }
     ensures same { λ _. ⌜ SameQueue (length (now (places .entry))) (junctionCount (now (tree .entry)))
         (now (words .entry)) (now (words .exit)) ⌝ }
     ensures open { λ p. ⌜ ((road : List ℕ)
@@ -40,8 +41,8 @@ fn open(
         (now (crews .entry)) (now (drives .entry)) (now (places .entry)) (now (table .entry))
         → OpenLeaf (searchOf road (now (tree .entry)) (asked .aggregate) (ruleOf (asked .rule)) (now (crews .entry)))
         (picksIn (length (now (places .entry))) (junctionCount (now (tree .entry))) (now (words .exit)))
-        (fsIn (length (now (places .entry))) (junctionCount (now (tree .entry))) (now (words .exit)))
-        (boundsIn (length (now (places .entry))) (junctionCount (now (tree .entry))) (now (words .exit)))
+        (fsIn (junctionCount (now (tree .entry))) (now (values .exit)))
+        (boundsIn (junctionCount (now (tree .entry))) (now (values .exit)))
         (r .number) p) ⌝ }
 {
     let h = records::header(tree);
@@ -59,7 +60,7 @@ fn open(
         drives,
         crews,
         asked.aggregate,
-        words,
+        values,
     );
     p
 }
@@ -73,6 +74,7 @@ pub fn landmark(
     crews: &[u16],
     asked: Asked,
     words: &mut [u64],
+    values: &mut [u32],
     r: Region,
 ) -> usize
     requires { ⌜ Readied (now tree) (asked .aggregate) (ruleOf (asked .rule))
@@ -81,7 +83,7 @@ pub fn landmark(
         → Ready road (now tree) (asked .aggregate) (ruleOf (asked .rule))
         (now crews) (now drives) (now places) (now table)
         → Leafed (searchOf road (now tree) (asked .aggregate) (ruleOf (asked .rule)) (now crews))
-        (length (now places)) (junctionCount (now tree)) (now words) (r .number)) ⌝ }
+        (length (now places)) (junctionCount (now tree)) (now words) (now values) (r .number)) ⌝ }
     ensures same { λ _. ⌜ SameQueue (length (now (places .entry))) (junctionCount (now (tree .entry)))
         (now (words .entry)) (now (words .exit)) ⌝ }
     ensures open { λ p. ⌜ ((road : List ℕ)
@@ -89,13 +91,13 @@ pub fn landmark(
         (now (crews .entry)) (now (drives .entry)) (now (places .entry)) (now (table .entry))
         → OpenLeaf (searchOf road (now (tree .entry)) (asked .aggregate) (ruleOf (asked .rule)) (now (crews .entry)))
         (picksIn (length (now (places .entry))) (junctionCount (now (tree .entry))) (now (words .exit)))
-        (fsIn (length (now (places .entry))) (junctionCount (now (tree .entry))) (now (words .exit)))
-        (boundsIn (length (now (places .entry))) (junctionCount (now (tree .entry))) (now (words .exit)))
+        (fsIn (junctionCount (now (tree .entry))) (now (values .exit)))
+        (boundsIn (junctionCount (now (tree .entry))) (now (values .exit)))
         (r .number) p) ⌝ }
 {
     let p = words[parts::pick_at(records::header(tree), r)];
     if p != search_queue::UNQUEUED {
         return p as usize;
     }
-    open(tree, places, table, drives, crews, asked, words, r)
+    open(tree, places, table, drives, crews, asked, words, values, r)
 }

@@ -1,10 +1,10 @@
-// Where a search's words stand.
+// Where a search's words stand, and the values of its yards.
 use book::Junction;
 use tree_layout::Header;
 use tree_layout::Region;
 ghost use mathlib.Core.Path.{_≡_};
-ghost use Prim.Native.Nat.{ℕ, _+_};
-ghost use Rattle.search_state.specs.code.State.{yardKeysAt, firstsAt, picksAt, fsAt, boundsAt, goneAt};
+ghost use Prim.Native.Nat.{_+_};
+ghost use Rattle.search_state.specs.code.State.{yardKeysAt, firstsAt, picksAt, goneAt, boundsAt};
 
 // Yard y's key.
 pub fn key_at(h: Header, y: Junction) -> usize
@@ -27,23 +27,23 @@ pub fn pick_at(h: Header, r: Region) -> usize
     2 * (h.regions as usize) + h.junctions as usize + r.number as usize
 }
 
-// Yard y's f.
-pub fn f_at(h: Header, y: Junction) -> usize
-    ensures { λ r. ⌜ r ≡ fsAt (h .regions) (h .junctions) + y .number ⌝ }
-{
-    3 * (h.regions as usize) + h.junctions as usize + y.number as usize
-}
-
-// Yard y's bound.
-pub fn bound_at(h: Header, y: Junction) -> usize
-    ensures { λ r. ⌜ r ≡ boundsAt (h .regions) (h .junctions) + y .number ⌝ }
-{
-    3 * (h.regions as usize) + 2 * (h.junctions as usize) + y.number as usize
-}
-
 // Whether yard y has left.
 pub fn gone_at(h: Header, y: Junction) -> usize
     ensures { λ r. ⌜ r ≡ goneAt (h .regions) (h .junctions) + y .number ⌝ }
 {
-    3 * (h.regions as usize) + 3 * (h.junctions as usize) + y.number as usize
+    3 * (h.regions as usize) + h.junctions as usize + y.number as usize
+}
+
+// Yard y's f, among the values.
+pub fn f_at(y: Junction) -> usize
+    ensures { λ r. ⌜ r ≡ y .number ⌝ }
+{
+    y.number as usize
+}
+
+// Yard y's bound, among the values.
+pub fn bound_at(y: Junction) -> usize
+    ensures { λ r. ⌜ r ≡ boundsAt + y .number ⌝ }
+{
+    1024 + y.number as usize
 }

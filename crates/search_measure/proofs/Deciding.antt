@@ -1,8 +1,8 @@
 -- What the code decides by: the ceiling, and the crews' distances so far. Assumes nothing.
 use mathlib.Core.Path.{_≡_, refl, sym, ap, _∙_}
 use mathlib.Core.Bool.{Bool, true, false, not}
-use mathlib.Core.List.{List}
-use Prim.Native.Nat.{ℕ, max, _+_, _≤_, _<_}
+use mathlib.Core.List.{List, List·Memᴰ as Mem}
+use Prim.Native.Nat.{ℕ, min, max, _+_, _≤_, _<_}
 use native.Mathlib.Numerals.{add-one}
 use native.Mathlib.Omega.{arith}
 use lib.ListN.{length, getD, take}
@@ -10,11 +10,14 @@ use lib.Seq.{take-all}
 use lib.Dec.{T, ltb}
 use Rattle.book.proofs.Lists.{getD-mem}
 use Rattle.adjacency.specs.Adjacency.{countIn, IsAdjacency}
+use Rattle.road.specs.Dijkstra.{at}
+use Rattle.road.proofs.Shortening.{at-inside}
 use Rattle.search_rules.specs.Bounds.{aggregate}
 use Rattle.search_rules.specs.Ceiling.{exceeds}
 use Rattle.search_rules.proofs.Turns.{aggregate-take}
 use Rattle.search_rules.proofs.Equations.{aggregate-none, combine-max}
 use Rattle.search_bounds.specs.code.Bounds.{Crews}
+use Rattle.search_bounds.specs.code.Measures.{longest}
 use Rattle.search_measure.specs.declared.Ceiling.{Ceiling}
 use Rattle.search_measure.specs.declared.Ceiling.the-variants.{None, Seconds}
 use Rattle.search_measure.specs.code.Cases.{ceilingOf, IsMeasurable}
@@ -59,6 +62,16 @@ crews-below m = record { few = m .measurable .few; there = λ q k. omega (arith,
 -- a crew stands at one of 1,024 junctions
 pub crew-in : {crews : List ℕ} → Crews crews → (j : ℕ) → j < length crews → getD crews j 0 < 1024
 crew-in {crews} k j h = k .there (getD crews j 0) (getD-mem crews j 0 h)
+
+-- its distance so far, and what it is reckoned at
+module _ (row crews : List ℕ) (j : ℕ) (e : length row ≡ 1024) (k : Crews crews) (h : j < length crews) where
+  pub row-at : getD row (getD crews j 0) 0 ≡ at row (getD crews j 0)
+  row-at = at-inside row (getD crews j 0) (omega (arith, crew-in k j h))
+
+pub lesser-short : (row crews : List ℕ) (frontier j x : ℕ) → length row ≡ 1024 → Crews crews → ((q : ℕ) → Mem q crews → min (at row q) frontier ≤ longest)
+    → j < length crews → x ≡ min (getD row (getD crews j 0) 0) frontier → x ≤ longest
+lesser-short row crews frontier j x e k short h f =
+    rw (f, row-at row crews j e k h) (short (getD crews j 0) (getD-mem crews j 0 h))
 
 -- a test that was answered
 pub over-yes : (r x : Bool) → r ≡ x → r ≡ true → T x

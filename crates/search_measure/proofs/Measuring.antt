@@ -124,7 +124,7 @@ module _ (road : List ℕ) (roads : Passing road) (code : ℕ) (crews : List ℕ
     st = at-round k
 
     -- no crew is nearer than it is reckoned
-    reckoned-low : (q : ℕ) → q < n → reckoned road st q ≤ dist road q yard
+    pub reckoned-low : (q : ℕ) → q < n → reckoned road st q ≤ dist road q yard
     unfolding reckoned
     reckoned-low q h = way k .floor q (dist road q yard) (leg q h .walk)
 

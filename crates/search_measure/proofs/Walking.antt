@@ -2,7 +2,7 @@
 use mathlib.Core.Path.{_≡_, refl, sym, ap, _∙_}
 use mathlib.Core.Bool.{Bool, not}
 use mathlib.Core.Option.{Option}
-use mathlib.Core.List.{List}
+use mathlib.Core.List.{List, List·Memᴰ as Mem}
 use Prim.Native.Nat.{ℕ, suc, min, _+_, _-_, _/_, _≤_, _<_}
 use native.Mathlib.Numerals.{add-one}
 use native.Mathlib.Omega.{arith}
@@ -12,7 +12,7 @@ use Rattle.tournament.specs.code.Tournament.{top}
 use Rattle.road_layout.specs.Road.{junctions}
 use Rattle.adjacency.specs.Arcs.{net}
 use Rattle.adjacency.specs.Adjacency.{countIn, IsAdjacency}
-use Rattle.road.specs.Dijkstra.{far, at, dist, WalkState, rounds, startWalk, pickNearest, roundAt}
+use Rattle.road.specs.Dijkstra.{far, at, WalkState, rounds, startWalk, pickNearest, roundAt}
 use Rattle.road.specs.UnderWay.{frontier}
 use Rattle.road.specs.code.Queue.{state, absent, WalkingIn, IsWalking, Roomy}
 use Rattle.road.proofs.Theorems.{metric}
@@ -21,11 +21,11 @@ use Rattle.road.proofs.UnderWay.{round-tally}
 use Rattle.road.proofs.Stepping.{walking-sizes, walking-few, walking-frontier}
 use Rattle.search_rules.specs.Bounds.{aggregate}
 use Rattle.search_rules.specs.Ceiling.{exceeds, Measured, exact, above, measuredBy}
-use Rattle.search_rules.proofs.Limits.{aggregate-most}
+use Rattle.search_bounds.specs.code.Measures.{longest}
 use Rattle.search_measure.specs.Measuring.{reckoned, reckoning, reached, decided, walkStep, walkSteps, walkRun, measureYard}
 use Rattle.search_measure.specs.Facts.{Measures}
 use Rattle.search_measure.specs.code.Cases.{Measurable, IsMeasurable}
-use Rattle.search_measure.proofs.Measuring.{neither, way, reckoning-low, undecided-left, step-round, start-round, steps-stay, measures}
+use Rattle.search_measure.proofs.Measuring.{neither, way, reckoned-low, undecided-left, step-round, start-round, steps-stay, measures}
 
 -- after some rounds from a yard, none of which was decided before
 pub record Walks (adj crews : List ℕ) (code : ℕ) (ceiling : Option ℕ) (yard : ℕ) (row : List ℕ) (done : List Bool) (queue : List ℕ) : Type 0 where
@@ -70,16 +70,16 @@ module _ (adj crews : List ℕ) (yard : ℕ) (m : IsMeasurable adj crews yard) w
       unfolding reckoning reckoned
       reckon-is road s = rw (ahead road s) refl
 
-      -- and that is no more than sixteen times the greatest distance
-      pub reckon-fits : aggregate code (λ q. min (at row q) t) crews < 4294967296
-      reckon-fits =
+      -- and none is reckoned at more than the longest distance
+      pub reckon-short : (q : ℕ) → Mem q crews → min (at row q) t ≤ longest
+      unfolding reckoned
+      reckon-short q k =
           let s = m .measurable in
-          let low = reckoning-low (m .road) (s .roads) code crews (s .there) ceiling yard (s .junction) (w .count) in
-          let most = aggregate-most code 67042305 crews (λ q. dist (m .road) q yard) (s .few)
-          (λ q k. omega (arith, metric (m .road) (s .roads) .bounded q yard (s .there q k) (s .junction))) in
-          let is : reckoning (m .road) code crews (state row done) ≡ reckoning (m .road) code crews (rounds (net (m .road)) (junctions (m .road)) (w
-          .count) (startWalk yard)) = ap (reckoning (m .road) code crews) (w .walking (m .road) (s .adjacent) .rounded) in
-          omega (arith, reckon-is (m .road) s)
+          let low = reckoned-low (m .road) (s .roads) code crews (s .there) ceiling yard (s .junction) (w .count) q (s .there q k) in
+          let most = metric (m .road) (s .roads) .bounded q yard (s .there q k) (s .junction) in
+          let is : reckoned (m .road) (state row done) q ≡ reckoned (m .road) (rounds (net (m .road)) (junctions (m .road)) (w .count) (startWalk yard)) q =
+          ap (λ (x : WalkState). reckoned (m .road) x q) (w .walking (m .road) (s .adjacent) .rounded) in
+          rw (ahead (m .road) s) (omega (arith, is))
 
       module _ (total furthest : ℕ) (a : total ≡ aggregate code (λ q. min (at row q) t) crews) (f : furthest ≡ aggregate 1 (at row) crews) where
         over : (road : List ℕ) (s : Measurable road adj crews yard) → exceeds ceiling total ≡ exceeds ceiling (reckoning road code crews (state row done))

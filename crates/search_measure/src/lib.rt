@@ -3,16 +3,16 @@
 use book::Junction;
 use road::walk;
 use search_bounds::numbers;
-use search_bounds::numbers::wide;
 ghost use mathlib.Core.Path.{_≡_};
-ghost use mathlib.Core.List.{List};
-ghost use Prim.Native.Nat.{ℕ, min, _<_};
+ghost use mathlib.Core.List.{List, List·Memᴰ as Mem};
+ghost use Prim.Native.Nat.{ℕ, min, _≤_};
 ghost use lib.ListN.{length};
 ghost use Rattle.road.specs.Dijkstra.{at};
 ghost use Rattle.road.specs.code.Queue.{state};
 ghost use Rattle.search_rules.specs.Bounds.{aggregate};
 ghost use Rattle.search_rules.specs.Ceiling.{exceeds};
 ghost use Rattle.search_bounds.specs.code.Bounds.{Crews};
+ghost use Rattle.search_bounds.specs.code.Measures.{longest};
 ghost use Rattle.search_measure.specs.Measuring.{walkRun};
 ghost use Rattle.search_measure.specs.Facts.{Measures};
 ghost use Rattle.search_measure.specs.code.Cases.{ceilingOf, measuredOf, Measurable, IsMeasurable};
@@ -58,25 +58,22 @@ fn lesser(distance: u32, frontier: u32) -> u32
 // The aggregate of the crews' distances so far, those still out at the frontier, and the furthest of them.
 fn reckon(row: &[u32], crews: &[u16], code: u8, frontier: u32) -> Reckoning
     requires { ⌜ (length (now row) ≡ 1024) × Crews (now crews)
-        × (aggregate code (λ q. min (at (now row) q) frontier) (now crews) < 4294967296) ⌝ }
+        × ((q : ℕ) → Mem q (now crews) → min (at (now row) q) frontier ≤ longest) ⌝ }
     ensures total { λ r. ⌜ r .total
         ≡ aggregate code (λ q. min (at (now (row .entry)) q) frontier) (now (crews .entry)) ⌝ }
     ensures furthest { λ r. ⌜ r .furthest ≡ aggregate 1 (at (now (row .entry))) (now (crews .entry)) ⌝ }
 {
-    let mut total: u64 = 0;
+    let mut total: u32 = 0;
     let mut furthest: u32 = 0;
     let mut j: usize = 0;
     while j < crews.len() {
         let q = crews[j] as usize;
         let d = row[q];
-        total = numbers::combine(code, total, wide(lesser(d, frontier)));
+        total = numbers::combine(code, total, lesser(d, frontier));
         furthest = numbers::greater(furthest, d);
         j += 1;
     }
-    Reckoning {
-        total: total as u32,
-        furthest,
-    }
+    Reckoning { total, furthest }
 }
 
 // Measures a yard for some crews. The walk's distances and the junctions that it has walked on from stand in row and

@@ -1,27 +1,26 @@
 -- The limits of bounds and aggregates, whatever the tree's numbers say. Assumes nothing.
-use mathlib.Core.Path.{_≡_, refl}
+use mathlib.Core.Path.{refl}
 use mathlib.Core.List.{List, [], _∷_, List·Memᴰ as Mem, List·Memᴰ·head as head}
-use Prim.Native.Nat.{ℕ, zero, suc, _+_, _*_, _≤_, _<_}
+use Prim.Native.Nat.{ℕ, suc, _+_, _*_, _≤_, _<_}
 use native.Mathlib.Nat.{suc-mul, mul-le-mul-right}
 use native.Mathlib.Omega.{arith}
 use lib.ListN.{length}
 use lib.Dec.{T, leb, eqb}
-use Rattle.book.specs.Choose.{choose}
 use Rattle.book.proofs.Choosing.{choose-case}
 use Rattle.tree_layout.specs.Values.{Element, Mark}
-use Rattle.search_rules.specs.Instance.{Instance, children, marks, leaf}
+use Rattle.search_rules.specs.Instance.{Instance, marks, leaf}
 use Rattle.search_rules.specs.Bounds.{absDiff, combine, aggregate, greatestOf, leastFrom, leastOf, crewBound, tableAt, lower, upper, over, total}
 use Rattle.search_rules.specs.Bounds.{markBound}
-use Rattle.search_rules.specs.Bounds.{bound, weight, chosen, listAbsDiff, f, yardBound}
-use Rattle.search_rules.specs.Facts.{Shape, Small, WellFormed}
-use Rattle.search_rules.proofs.Bounds.{greatestOf-le, aggregate-mono, over-mono}
+use Rattle.search_rules.specs.Bounds.{bound, weight, listAbsDiff, f, yardBound}
+use Rattle.search_rules.specs.Facts.{WellFormed}
+use Rattle.search_rules.proofs.Bounds.{greatestOf-le, aggregate-mono}
 
 crewBound-most : (lb ub a b most : ℕ) → lb ≤ most → a ≤ most → crewBound lb ub a b ≤ most
 unfolding crewBound
 crewBound-most lb ub a b most h k = choose-case (λ z. z ≤ most) (leb b lb) (λ t. omega arith) (λ t. choose-case (λ z. z ≤ most) (leb ub a) (λ s. omega arith)
     (λ s. omega arith))
 
-abs-diff-most : (a b most : ℕ) → a ≤ most → b ≤ most → absDiff a b ≤ most
+pub abs-diff-most : (a b most : ℕ) → a ≤ most → b ≤ most → absDiff a b ≤ most
 unfolding absDiff
 abs-diff-most a b most h k = omega arith
 

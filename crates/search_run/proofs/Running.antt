@@ -20,7 +20,7 @@ use Rattle.search_rules.proofs.Equations.{search-of}
 use Rattle.search_rules.proofs.Theorems.{decided}
 use Rattle.search_rules.proofs.Turns.{run-on}
 use Rattle.search_held.specs.code.Rules.{heldBy, countBy, Fits}
-use Rattle.search_state.specs.code.State.{wordCount, picksIn, fsIn, boundsIn, stateOf, settledBy}
+use Rattle.search_state.specs.code.State.{wordCount, valueCount, picksIn, fsIn, boundsIn, stateOf, settledBy}
 use Rattle.search_state.proofs.Cells.{part-all}
 use Rattle.search_state.proofs.Choosing.{picked-word}
 use Rattle.search_state.proofs.Settling.{settled-of}
@@ -34,19 +34,20 @@ use Rattle.search_run.specs.code.Answers.{answerOf}
 use Rattle.search_run.proofs.Answering.{answer-is}
 
 -- the state of a search after so many steps, none of which was taken when it was settled, with what is kept of the leaves
-pub record Runs (i : Instance) (r n : ℕ) (words : List ℕ) (st : SearchState) (taken : ℕ) : Type 0 where
-  pub cached : Cached i (picksIn r n words) (fsIn r n words) (boundsIn r n words)
+pub record Runs (i : Instance) (r n : ℕ) (words values : List ℕ) (st : SearchState) (taken : ℕ) : Type 0 where
+  pub cached : Cached i (picksIn r n words) (fsIn n values) (boundsIn n values)
   pub is : st ≡ run i taken .state
   pub counts : taken ≡ run i taken .taken
 
 -- what the steps change: of the search by every road book beside which it is ready, and within the limit and the room
-pub record Steps (tree : List ℕ) (code : ℕ) (goal : Rule) (crews drives places table : List ℕ) (limit room : ℕ) (words list measured : List ℕ)
+pub record Steps (tree : List ℕ) (code : ℕ) (goal : Rule) (crews drives places table : List ℕ) (limit room : ℕ) (words values list measured : List ℕ)
     (progress : Progress) (taken : ℕ) : Type 0 where
   pub size : length words ≡ wordCount (length places) (junctionCount tree)
+  pub value-size : length values ≡ valueCount
   pub same : length measured ≡ room
   pub list-size : length list ≡ 512
   pub runs : (road : List ℕ) → Ready road tree code goal crews drives places table
-      → Runs (searchOf road tree code goal crews) (length places) (junctionCount tree) words
+      → Runs (searchOf road tree code goal crews) (length places) (junctionCount tree) words values
       (stateOf (length places) (junctionCount tree) words (heldBy goal (progress .kept) list) measured (progress .measured)) taken
   pub few : Fits goal (progress .kept)
   pub low : countBy goal (progress .kept) ≤ progress .measured
@@ -61,8 +62,8 @@ pub least-of : (r n : ℕ) (ws : List ℕ) (queue p : ℕ) → queue ≡ r + n �
     → p ≡ pick (take queue ws) (length (take queue ws)) → FirstLeast r n ws p
 least-of r n ws queue p e s h = h ∙ (ap (pick (take queue ws)) (length-take-le queue ws (omega arith) ∙ e) ∙ rw (e, part-all ws (r + n)) refl)
 
-module _ {tree : List ℕ} {code : ℕ} {goal : Rule} {crews drives places table : List ℕ} {limit room : ℕ} {words list measured : List ℕ} {progress : Progress} {taken : ℕ}
-    (steps : Steps tree code goal crews drives places table limit room words list measured progress taken)
+module _ {tree : List ℕ} {code : ℕ} {goal : Rule} {crews drives places table : List ℕ} {limit room : ℕ} {words values list measured : List ℕ} {progress : Progress} {taken : ℕ}
+    (steps : Steps tree code goal crews drives places table limit room words values list measured progress taken)
     (p : ℕ) (e : FirstLeast (length places) (junctionCount tree) words p) (b : Bool) (q : b ≡ settledBy goal (getD words p 0) (heldBy goal (progress .kept) list)) where
   abbrev r : ℕ
   r = length places
@@ -77,7 +78,7 @@ module _ {tree : List ℕ} {code : ℕ} {goal : Rule} {crews drives places table
     abbrev i : Instance
     i = searchOf road tree code goal crews
 
-    abbrev s : Runs i r n words st taken
+    abbrev s : Runs i r n words values st taken
     s = steps .runs road ready
 
     -- what the test says
@@ -90,13 +91,13 @@ module _ {tree : List ℕ} {code : ℕ} {goal : Rule} {crews drives places table
         ∙ settled-of i r n words (heldBy goal (progress .kept) list) measured (progress .measured)))
 
     -- one step more is taken
-    pub going : b ≡ false → Going i r n words st
-    going z = record { cached = s .cached; unsettled = record { steps = taken; is = s .is; unsettled = false-T (sym settled-is ∙ z) } }
+    pub going : b ≡ false → Going i r n words values st
+    going z = record { value-count = steps .value-size; cached = s .cached; unsettled = record { steps = taken; is = s .is; unsettled = false-T (sym settled-is ∙ z) } }
 
-    goes-on : b ≡ false → (words′ list′ measured′ : List ℕ) (progress′ : Progress) → Cached i (picksIn r n words′) (fsIn r n words′) (boundsIn r n words′)
+    goes-on : b ≡ false → (words′ values′ list′ measured′ : List ℕ) (progress′ : Progress) → Cached i (picksIn r n words′) (fsIn n values′) (boundsIn n values′)
         → stateOf r n words′ (heldBy goal (progress′ .kept) list′) measured′ (progress′ .measured) ≡ step i st
-        → Runs i r n words′ (stateOf r n words′ (heldBy goal (progress′ .kept) list′) measured′ (progress′ .measured)) (taken + 1)
-    goes-on z words′ list′ measured′ progress′ c t =
+        → Runs i r n words′ values′ (stateOf r n words′ (heldBy goal (progress′ .kept) list′) measured′ (progress′ .measured)) (taken + 1)
+    goes-on z words′ values′ list′ measured′ progress′ c t =
         let o = run-on i taken (rw (s .is) at (going z .unsettled .unsettled)) in
         rw add-one (record {
           cached = c;
@@ -123,20 +124,22 @@ module _ {tree : List ℕ} {code : ℕ} {goal : Rule} {crews drives places table
         (record { kept = progress .kept; measured = progress .measured; taken = taken; settled = false })
         (s .is) (s .counts) (rw (← s .is) (sym z ∙ settled-is)))
 
-  pub steps-on : b ≡ false → taken < limit → (words′ list′ measured′ : List ℕ) (progress′ : Progress) → length words′ ≡ length words
+  pub steps-on : b ≡ false → taken < limit → (words′ values′ list′ measured′ : List ℕ) (progress′ : Progress) → length words′ ≡ length words
+      → length values′ ≡ length values
       → length list′ ≡ length list
       → length measured′ ≡ length measured
       → ((road : List ℕ) → Ready road tree code goal crews drives places table
-      → Cached (searchOf road tree code goal crews) (picksIn r n words′) (fsIn r n words′) (boundsIn r n words′))
+      → Cached (searchOf road tree code goal crews) (picksIn r n words′) (fsIn n values′) (boundsIn n values′))
       → ((road : List ℕ) → Ready road tree code goal crews drives places table
       → stateOf r n words′ (heldBy goal (progress′ .kept) list′) measured′ (progress′ .measured) ≡ step (searchOf road tree code goal crews) st)
       → Fits goal (progress′ .kept) × (countBy goal (progress′ .kept) ≤ progress′ .measured) × (progress′ .measured ≤ 256)
-      → Steps tree code goal crews drives places table limit room words′ list′ measured′ progress′ (taken + 1)
-  steps-on z l words′ list′ measured′ progress′ sw sh sm c t f = record {
+      → Steps tree code goal crews drives places table limit room words′ values′ list′ measured′ progress′ (taken + 1)
+  steps-on z l words′ values′ list′ measured′ progress′ sw sv sh sm c t f = record {
     size = sw ∙ steps .size;
+    value-size = sv ∙ steps .value-size;
     same = sm ∙ steps .same;
     list-size = sh ∙ steps .list-size;
-    runs = λ road ready. goes-on road ready z words′ list′ measured′ progress′ (c road ready) (t road ready);
+    runs = λ road ready. goes-on road ready z words′ values′ list′ measured′ progress′ (c road ready) (t road ready);
     few = f .0;
     low = f .1;
     most = f .2;

@@ -23,8 +23,9 @@ use Rattle.search_rules.proofs.Turns.{run-start}
 use Rattle.search_held.specs.declared.Kept.{Kept}
 use Rattle.search_held.specs.code.Rules.{heldBy, countBy, Fits, Small}
 use Rattle.search_held.proofs.Ruling.{none-held}
-use Rattle.search_state.specs.code.State.{wordCount, firstsAt, stateOf}
+use Rattle.search_state.specs.code.State.{wordCount, valueCount, firstsAt, fsIn, boundsIn, stateOf}
 use Rattle.search_state.proofs.Cells.{Parts, parts-replicate, store-key, store-first, state-by, part-replicate, part-all}
+use Rattle.search_state.proofs.Values.{values-count}
 use Rattle.search_state.proofs.Newest.{newest-none}
 use Rattle.search_bounds.specs.code.Bounds.{rowsBound}
 use Rattle.search_bounds.proofs.Searching.{bound-of}
@@ -35,11 +36,12 @@ use Rattle.search_run.specs.code.Answers.{putRoot}
 use Rattle.search_run.proofs.Running.{Runs, Steps}
 
 -- before a leaf is taken nothing is kept
-cached-none : (i : Instance) (r n : ℕ) → size i ≡ r → i .tree .junctions ≡ n → Cached i (replicate r unqueued) (replicate n unqueued) (replicate n unqueued)
-cached-none i r n er en = record {
+cached-none : (i : Instance) (r n : ℕ) (values : List ℕ) → size i ≡ r → i .tree .junctions ≡ n → n ≤ 1024 → length values ≡ valueCount
+    → Cached i (replicate r unqueued) (fsIn n values) (boundsIn n values)
+cached-none i r n values er en few e = record {
   picks-count = length-replicate r unqueued ∙ sym er;
-  fs-count = length-replicate n unqueued ∙ sym en;
-  bounds-count = length-replicate n unqueued ∙ sym en;
+  fs-count = values-count n values few e .0 ∙ sym en;
+  bounds-count = values-count n values few e .1 ∙ sym en;
   picked = λ v k t o. absurd (o (marked v k));
   opened = λ v k t o. absurd (o (marked v k));
 }
@@ -48,7 +50,7 @@ cached-none i r n er en = record {
     marked v k = getD-replicate r v unqueued 0 (omega arith)
 
 module _ {road tree : List ℕ} {code : ℕ} {goal : Rule} {crews drives places table : List ℕ} (ready : Ready road tree code goal crews drives places table)
-    (words list measured : List ℕ) (kept : Kept) (none : (kept .held .count ≡ 0) × (kept .listed ≡ 0)) where
+    (words values list measured : List ℕ) (kept : Kept) (none : (kept .held .count ≡ 0) × (kept .listed ≡ 0)) where
   abbrev i : Instance
   i = searchOf road tree code goal crews
 
@@ -63,7 +65,7 @@ module _ {road tree : List ℕ} {code : ℕ} {goal : Rule} {crews drives places 
 
   module _ (e : words ≡ putRoot r n key (replicate (wordCount r n) unqueued)) where
     start-parts : Parts r n words (set (replicate r unqueued) 0 key) (replicate n unqueued) (set (replicate r unqueued) 0 key)
-        (replicate r unqueued) (replicate n unqueued) (replicate n unqueued) (replicate n false)
+        (replicate r unqueued) (replicate n false)
     unfolding putRoot
     start-parts = rw e (store-first (store-key (parts-replicate r n unqueued (λ z. absurd (omega arith))) 0 key 0 refl (some-region ready))
         (firstsAt r n) key 0 (omega arith) (some-region ready))
@@ -80,9 +82,9 @@ module _ {road tree : List ℕ} {code : ℕ} {goal : Rule} {crews drives places 
         ) refl
         ∙ sym (ap (λ (o : Ended). o .state) (run-start i) ∙ start-is i))
 
-    starts : Runs i r n words (stateOf r n words (heldBy goal kept list) measured 0) 0
-    starts = record {
-      cached = cached-by start-parts (cached-none i r n (regions-of ready) (junctions-are ready));
+    starts : length values ≡ valueCount → Runs i r n words values (stateOf r n words (heldBy goal kept list) measured 0) 0
+    starts v = record {
+      cached = cached-by start-parts (cached-none i r n values (regions-of ready) (junctions-are ready) (ready .laid .layout .junctions .1) v);
       is = start-state;
       counts = sym (ap (λ (o : Ended). o .taken) (run-start i));
     }
@@ -96,18 +98,19 @@ none-low : (rule : Rule) (kept : Kept) → (kept .held .count ≡ 0) × (kept .l
 none-low (nearest k) kept z = omega (arith, z .0)
 none-low (inDrive seconds) kept z = omega (arith, z .1)
 
-pub steps-start : (tree : List ℕ) (code : ℕ) (goal : Rule) (crews drives places table : List ℕ) (limit : ℕ) (words₀ words list measured : List ℕ) (kept : Kept)
+pub steps-start : (tree : List ℕ) (code : ℕ) (goal : Rule) (crews drives places table : List ℕ) (limit : ℕ) (words₀ words values list measured : List ℕ) (kept : Kept)
     → words₀ ≡ replicate (wordCount (length places) (junctionCount tree)) unqueued
     → words ≡ putRoot (length places) (junctionCount tree)
     (rowsBound table (landmarkCount tree) code crews (regionAt (decode tree .regions) 0 .marks)) words₀
-    → length list ≡ 512 → Small goal → (kept .held .count ≡ 0) × (kept .listed ≡ 0)
-    → Steps tree code goal crews drives places table limit (length measured) words list measured (record { kept = kept; measured = 0 }) 0
+    → length values ≡ valueCount → length list ≡ 512 → Small goal → (kept .held .count ≡ 0) × (kept .listed ≡ 0)
+    → Steps tree code goal crews drives places table limit (length measured) words values list measured (record { kept = kept; measured = 0 }) 0
 unfolding putRoot
-steps-start tree code goal crews drives places table limit words₀ words list measured kept z e h small none = record {
+steps-start tree code goal crews drives places table limit words₀ words values list measured kept z e v h small none = record {
   size = long;
+  value-size = v;
   same = refl;
   list-size = h;
-  runs = λ road ready. starts ready words list measured kept none (rw z at e);
+  runs = λ road ready. starts ready words values list measured kept none (rw z at e) v;
   few = none-fits goal kept none small;
   low = none-low goal kept none;
   most = omega arith;
@@ -134,7 +137,7 @@ pub queue-count : (tree : List ℕ) (h : Header) (r : ℕ) → h ≡ headerOf tr
 queue-count tree h r e = ap (λ (x : Header). r + x .junctions) e ∙ ap (λ (j : ℕ). r + j) (header-junctions tree)
 
 -- the first words of an array that has the word of what is not queued throughout
-pub first-words : (tree places : List ℕ) (h : Header) (m count : ℕ) → h ≡ headerOf tree → count ≡ 3 * length places + 4 * h .junctions → count ≤ m
+pub first-words : (tree places : List ℕ) (h : Header) (m count : ℕ) → h ≡ headerOf tree → count ≡ 3 * length places + 2 * h .junctions → count ≤ m
     → take count (replicate m unqueued) ≡ replicate (wordCount (length places) (junctionCount tree)) unqueued
 first-words tree places h m count e c k =
     let j : h .junctions ≡ junctionCount tree = ap (λ (x : Header). x .junctions) e ∙ header-junctions tree in
@@ -145,8 +148,8 @@ first-words tree places h m count e c k =
 pub count-part : (m count : ℕ) → count ≤ m → count ≡ length (take count (replicate m unqueued))
 count-part m count k = sym (length-take-le count (replicate m unqueued) (omega (arith, length-replicate m unqueued)))
 
-pub most-words : (tree places : List ℕ) (h : Header) (count : ℕ) → Laid tree places → h ≡ headerOf tree → count ≡ 3 * length places + 4 * h .junctions
-    → count ≤ 5629
+pub most-words : (tree places : List ℕ) (h : Header) (count : ℕ) → Laid tree places → h ≡ headerOf tree → count ≡ 3 * length places + 2 * h .junctions
+    → count ≤ 3581
 most-words tree places h count laid e c =
     let j : h .junctions ≡ junctionCount tree = ap (λ (x : Header). x .junctions) e ∙ header-junctions tree in
     omega (arith, laid-few tree places laid, laid .layout .junctions .1)

@@ -18,14 +18,17 @@ ghost use Rattle.search_rules.specs.Run.{answer};
 ghost use Rattle.search_held.specs.code.Rules.{ruleOf, countBy, Fits, Small};
 ghost use Rattle.search_bounds.specs.code.Rows.{Rows};
 ghost use Rattle.search_bounds.specs.code.Bounds.{rowsBound, Crews};
-ghost use Rattle.search_state.specs.code.State.{wordCount};
+ghost use Rattle.search_state.specs.code.State.{wordCount, valueCount};
 ghost use Rattle.search_step.specs.code.Children.{Ended};
 ghost use Rattle.search_leaf.specs.code.Ready.{Ready};
 ghost use Rattle.search_step.specs.code.Prepared.{IsPrepared};
 ghost use Rattle.search_run.specs.code.Answers.{putRoot, answerOf};
 
 // The words of the greatest search: of 511 regions and 1,024 junctions.
-const MOST_WORDS: usize = 5629;
+const MOST_WORDS: usize = 3581;
+
+// The values of its yards: f and a bound for each junction.
+const VALUES: usize = 2048;
 
 // The most yards that a search measures.
 const MOST_YARDS: usize = 256;
@@ -73,6 +76,7 @@ fn steps(
     crews: &[u16],
     asked: Asked,
     words: &mut [u64],
+    values: &mut [u32],
     list: &mut [u32],
     measured: &mut [u16],
 ) -> Outcome
@@ -80,7 +84,8 @@ fn steps(
         (now crews) (now drives) (now places) (now table)
         × Ended (now tree) (now ends) × (length (now list) ≡ 512) × (256 ≤ length (now measured))
         × Small (ruleOf (asked .rule))
-        × (now words ≡ replicate (wordCount (length (now places)) (junctionCount (now tree))) unqueued) ⌝ }
+        × (now words ≡ replicate (wordCount (length (now places)) (junctionCount (now tree))) unqueued)
+        × (length (now values) ≡ valueCount) ⌝ }
     ensures answer { λ o. ⌜ ((road : List ℕ)
         → Ready road (now (tree .entry)) (asked .aggregate) (ruleOf (asked .rule))
         (now (crews .entry)) (now (drives .entry)) (now (places .entry)) (now (table .entry))
@@ -128,6 +133,7 @@ fn steps(
             crews,
             asked,
             words,
+            values,
             list,
             measured,
             progress,
@@ -162,9 +168,10 @@ pub fn run(
         × (countBy (ruleOf (asked .rule)) (o .kept) ≤ o .measured) × (o .measured ≤ 256) ⌝ }
 {
     let mut words = [search_queue::UNQUEUED; MOST_WORDS];
+    let mut values = [0u32; VALUES];
     let mut measured = [0u16; MOST_YARDS];
     let h = records::header(tree);
-    let count = 3 * places.len() + 4 * (h.junctions as usize);
+    let count = 3 * places.len() + 2 * (h.junctions as usize);
     steps(
         adj,
         tree,
@@ -175,6 +182,7 @@ pub fn run(
         crews,
         asked,
         &mut words[..count],
+        &mut values,
         list,
         &mut measured,
     )

@@ -9,8 +9,8 @@ use lib.ListN.{length, getD, take, drop, set, replicate, length-take, length-dro
 use lib.Seq.{take-set-le, take-set-lt, drop-set-lt, drop-set-add, getD-take, getD-drop}
 use lib.Dec.{eqb}
 use Rattle.tree_layout.specs.Values.{Element}
-use Rattle.search_state.specs.code.State.{wordCount, firstsAt, picksAt, fsAt, boundsAt, goneAt, part, zeros, newest, stateOf}
-use Rattle.search_state.specs.code.State.{regionKeysIn, yardKeysIn, firstsIn, picksIn, fsIn, boundsIn, goneIn}
+use Rattle.search_state.specs.code.State.{wordCount, firstsAt, picksAt, goneAt, part, zeros, newest, stateOf}
+use Rattle.search_state.specs.code.State.{regionKeysIn, yardKeysIn, firstsIn, picksIn, goneIn}
 
 -- ---- one part
 
@@ -25,15 +25,15 @@ module _ (ws : List ℕ) (at n : ℕ) where
   part-at i j d e h = rw e (getD-take n (drop at ws) i d h ∙ getD-drop at ws i d)
 
   -- a store to its word number i, before it, and past it
-  part-in : (i j x : ℕ) → j ≡ at + i → i < n → part (set ws j x) at n ≡ set (part ws at n) i x
+  pub part-in : (i j x : ℕ) → j ≡ at + i → i < n → part (set ws j x) at n ≡ set (part ws at n) i x
   unfolding part
   part-in i j x e h = rw (e, drop-set-add at ws i x, take-set-lt n (drop at ws) i x h) refl
 
-  part-before : (j x : ℕ) → j < at → part (set ws j x) at n ≡ part ws at n
+  pub part-before : (j x : ℕ) → j < at → part (set ws j x) at n ≡ part ws at n
   unfolding part
   part-before j x h = rw (drop-set-lt at ws j x h) refl
 
-  part-past : (j x : ℕ) → at + n ≤ j → part (set ws j x) at n ≡ part ws at n
+  pub part-past : (j x : ℕ) → at + n ≤ j → part (set ws j x) at n ≡ part ws at n
   unfolding part
   part-past j x h = go (j - at) (omega arith) (omega arith)
     where
@@ -87,21 +87,19 @@ zeros-replicate (suc n) x h = rw (ne-eqb x 0 h, zeros-replicate n x h) refl
 -- ---- all parts
 
 -- what the parts of some words are
-pub record Parts (r n : ℕ) (ws keys yards firsts picks fs bounds : List ℕ) (gone : List Bool) : Type 0 where
+pub record Parts (r n : ℕ) (ws keys yards firsts picks : List ℕ) (gone : List Bool) : Type 0 where
   pub keys-are : regionKeysIn r n ws ≡ keys
   pub yards-are : yardKeysIn r n ws ≡ yards
   pub firsts-are : firstsIn r n ws ≡ firsts
   pub picks-are : picksIn r n ws ≡ picks
-  pub fs-are : fsIn r n ws ≡ fs
-  pub bounds-are : boundsIn r n ws ≡ bounds
   pub gone-are : goneIn r n ws ≡ gone
 
 pub parts-of : (r n : ℕ) (ws : List ℕ)
-    → Parts r n ws (regionKeysIn r n ws) (yardKeysIn r n ws) (firstsIn r n ws) (picksIn r n ws) (fsIn r n ws) (boundsIn r n ws) (goneIn r n ws)
-parts-of r n ws = record { keys-are = refl; yards-are = refl; firsts-are = refl; picks-are = refl; fs-are = refl; bounds-are = refl; gone-are = refl }
+    → Parts r n ws (regionKeysIn r n ws) (yardKeysIn r n ws) (firstsIn r n ws) (picksIn r n ws) (goneIn r n ws)
+parts-of r n ws = record { keys-are = refl; yards-are = refl; firsts-are = refl; picks-are = refl; gone-are = refl }
 
 -- the state by its parts
-pub state-by : {r n : ℕ} {ws keys yards firsts picks fs bounds : List ℕ} {gone : List Bool} → Parts r n ws keys yards firsts picks fs bounds gone
+pub state-by : {r n : ℕ} {ws keys yards firsts picks : List ℕ} {gone : List Bool} → Parts r n ws keys yards firsts picks gone
     → (held : List Element) (measured : List ℕ) (count : ℕ) → stateOf r n ws held measured count ≡ record {
       regionKeys = keys;
       yardKeys = yards;
@@ -114,97 +112,63 @@ unfolding stateOf
 state-by p held measured count = rw (p .keys-are, p .yards-are, p .firsts-are, p .gone-are) refl
 
 -- one store, at a place j that holds the word of a region or of a junction
-module _ {r n : ℕ} {ws keys yards firsts picks fs bounds : List ℕ} {gone : List Bool} (p : Parts r n ws keys yards firsts picks fs bounds gone) (j x : ℕ) where
-  pub store-key : (v : ℕ) → j ≡ v → v < r → Parts r n (set ws j x) (set keys v x) yards firsts picks fs bounds gone
+module _ {r n : ℕ} {ws keys yards firsts picks : List ℕ} {gone : List Bool} (p : Parts r n ws keys yards firsts picks gone) (j x : ℕ) where
+  pub store-key : (v : ℕ) → j ≡ v → v < r → Parts r n (set ws j x) (set keys v x) yards firsts picks gone
   store-key v e h = record {
     keys-are = part-in ws 0 r v j x (omega arith) h ∙ ap (λ (l : List ℕ). set l v x) (p .keys-are);
     yards-are = part-before ws r n j x (omega arith) ∙ p .yards-are;
     firsts-are = part-before ws (firstsAt r n) r j x (omega arith) ∙ p .firsts-are;
     picks-are = part-before ws (picksAt r n) r j x (omega arith) ∙ p .picks-are;
-    fs-are = part-before ws (fsAt r n) n j x (omega arith) ∙ p .fs-are;
-    bounds-are = part-before ws (boundsAt r n) n j x (omega arith) ∙ p .bounds-are;
     gone-are = ap zeros (part-before ws (goneAt r n) n j x (omega arith)) ∙ p .gone-are;
   }
 
-  pub store-yard : (v : ℕ) → j ≡ r + v → v < n → Parts r n (set ws j x) keys (set yards v x) firsts picks fs bounds gone
+  pub store-yard : (v : ℕ) → j ≡ r + v → v < n → Parts r n (set ws j x) keys (set yards v x) firsts picks gone
   store-yard v e h = record {
     keys-are = part-past ws 0 r j x (omega arith) ∙ p .keys-are;
     yards-are = part-in ws r n v j x e h ∙ ap (λ (l : List ℕ). set l v x) (p .yards-are);
     firsts-are = part-before ws (firstsAt r n) r j x (omega arith) ∙ p .firsts-are;
     picks-are = part-before ws (picksAt r n) r j x (omega arith) ∙ p .picks-are;
-    fs-are = part-before ws (fsAt r n) n j x (omega arith) ∙ p .fs-are;
-    bounds-are = part-before ws (boundsAt r n) n j x (omega arith) ∙ p .bounds-are;
     gone-are = ap zeros (part-before ws (goneAt r n) n j x (omega arith)) ∙ p .gone-are;
   }
 
-  pub store-first : (v : ℕ) → j ≡ firstsAt r n + v → v < r → Parts r n (set ws j x) keys yards (set firsts v x) picks fs bounds gone
+  pub store-first : (v : ℕ) → j ≡ firstsAt r n + v → v < r → Parts r n (set ws j x) keys yards (set firsts v x) picks gone
   store-first v e h = record {
     keys-are = part-past ws 0 r j x (omega arith) ∙ p .keys-are;
     yards-are = part-past ws r n j x (omega arith) ∙ p .yards-are;
     firsts-are = part-in ws (firstsAt r n) r v j x e h ∙ ap (λ (l : List ℕ). set l v x) (p .firsts-are);
     picks-are = part-before ws (picksAt r n) r j x (omega arith) ∙ p .picks-are;
-    fs-are = part-before ws (fsAt r n) n j x (omega arith) ∙ p .fs-are;
-    bounds-are = part-before ws (boundsAt r n) n j x (omega arith) ∙ p .bounds-are;
     gone-are = ap zeros (part-before ws (goneAt r n) n j x (omega arith)) ∙ p .gone-are;
   }
 
-  pub store-pick : (v : ℕ) → j ≡ picksAt r n + v → v < r → Parts r n (set ws j x) keys yards firsts (set picks v x) fs bounds gone
+  pub store-pick : (v : ℕ) → j ≡ picksAt r n + v → v < r → Parts r n (set ws j x) keys yards firsts (set picks v x) gone
   store-pick v e h = record {
     keys-are = part-past ws 0 r j x (omega arith) ∙ p .keys-are;
     yards-are = part-past ws r n j x (omega arith) ∙ p .yards-are;
     firsts-are = part-past ws (firstsAt r n) r j x (omega arith) ∙ p .firsts-are;
     picks-are = part-in ws (picksAt r n) r v j x e h ∙ ap (λ (l : List ℕ). set l v x) (p .picks-are);
-    fs-are = part-before ws (fsAt r n) n j x (omega arith) ∙ p .fs-are;
-    bounds-are = part-before ws (boundsAt r n) n j x (omega arith) ∙ p .bounds-are;
-    gone-are = ap zeros (part-before ws (goneAt r n) n j x (omega arith)) ∙ p .gone-are;
-  }
-
-  pub store-f : (v : ℕ) → j ≡ fsAt r n + v → v < n → Parts r n (set ws j x) keys yards firsts picks (set fs v x) bounds gone
-  store-f v e h = record {
-    keys-are = part-past ws 0 r j x (omega arith) ∙ p .keys-are;
-    yards-are = part-past ws r n j x (omega arith) ∙ p .yards-are;
-    firsts-are = part-past ws (firstsAt r n) r j x (omega arith) ∙ p .firsts-are;
-    picks-are = part-past ws (picksAt r n) r j x (omega arith) ∙ p .picks-are;
-    fs-are = part-in ws (fsAt r n) n v j x e h ∙ ap (λ (l : List ℕ). set l v x) (p .fs-are);
-    bounds-are = part-before ws (boundsAt r n) n j x (omega arith) ∙ p .bounds-are;
-    gone-are = ap zeros (part-before ws (goneAt r n) n j x (omega arith)) ∙ p .gone-are;
-  }
-
-  pub store-bound : (v : ℕ) → j ≡ boundsAt r n + v → v < n → Parts r n (set ws j x) keys yards firsts picks fs (set bounds v x) gone
-  store-bound v e h = record {
-    keys-are = part-past ws 0 r j x (omega arith) ∙ p .keys-are;
-    yards-are = part-past ws r n j x (omega arith) ∙ p .yards-are;
-    firsts-are = part-past ws (firstsAt r n) r j x (omega arith) ∙ p .firsts-are;
-    picks-are = part-past ws (picksAt r n) r j x (omega arith) ∙ p .picks-are;
-    fs-are = part-past ws (fsAt r n) n j x (omega arith) ∙ p .fs-are;
-    bounds-are = part-in ws (boundsAt r n) n v j x e h ∙ ap (λ (l : List ℕ). set l v x) (p .bounds-are);
     gone-are = ap zeros (part-before ws (goneAt r n) n j x (omega arith)) ∙ p .gone-are;
   }
 
 -- yard v leaves its leaf
-pub store-gone : {r n : ℕ} {ws keys yards firsts picks fs bounds : List ℕ} {gone : List Bool} → Parts r n ws keys yards firsts picks fs bounds gone
-    → (j v : ℕ) → j ≡ goneAt r n + v → v < n → Parts r n (set ws j 0) keys yards firsts picks fs bounds (set gone v true)
+pub store-gone : {r n : ℕ} {ws keys yards firsts picks : List ℕ} {gone : List Bool} → Parts r n ws keys yards firsts picks gone
+    → (j v : ℕ) → j ≡ goneAt r n + v → v < n → Parts r n (set ws j 0) keys yards firsts picks (set gone v true)
 store-gone {r} {n} {ws} p j v e h = record {
   keys-are = part-past ws 0 r j 0 (omega arith) ∙ p .keys-are;
   yards-are = part-past ws r n j 0 (omega arith) ∙ p .yards-are;
   firsts-are = part-past ws (firstsAt r n) r j 0 (omega arith) ∙ p .firsts-are;
   picks-are = part-past ws (picksAt r n) r j 0 (omega arith) ∙ p .picks-are;
-  fs-are = part-past ws (fsAt r n) n j 0 (omega arith) ∙ p .fs-are;
-  bounds-are = part-past ws (boundsAt r n) n j 0 (omega arith) ∙ p .bounds-are;
   gone-are = ap zeros (part-in ws (goneAt r n) n v j 0 e h) ∙ (zeros-set (part ws (goneAt r n) n) v ∙ ap (λ (l : List Bool). set l v true) (p .gone-are));
 }
 
 -- every word is that of what is not queued
 pub parts-replicate : (r n x : ℕ) → (x ≡ 0 → ⊥)
     → Parts r n (replicate (wordCount r n) x) (replicate r x) (replicate n x) (replicate r x)
-    (replicate r x) (replicate n x) (replicate n x) (replicate n false)
+    (replicate r x) (replicate n false)
 parts-replicate r n x h = record {
   keys-are = part-replicate (wordCount r n) x 0 r (omega arith);
   yards-are = part-replicate (wordCount r n) x r n (omega arith);
   firsts-are = part-replicate (wordCount r n) x (firstsAt r n) r (omega arith);
   picks-are = part-replicate (wordCount r n) x (picksAt r n) r (omega arith);
-  fs-are = part-replicate (wordCount r n) x (fsAt r n) n (omega arith);
-  bounds-are = part-replicate (wordCount r n) x (boundsAt r n) n (omega arith);
   gone-are = ap zeros (part-replicate (wordCount r n) x (goneAt r n) n (omega arith)) ∙ zeros-replicate n x h;
 }
 
@@ -215,8 +179,6 @@ pub record Counts (r n : ℕ) (ws : List ℕ) : Type 0 where
   pub yards : length (yardKeysIn r n ws) ≡ n
   pub firsts : length (firstsIn r n ws) ≡ r
   pub picks : length (picksIn r n ws) ≡ r
-  pub fs : length (fsIn r n ws) ≡ n
-  pub bounds : length (boundsIn r n ws) ≡ n
   pub gone : length (goneIn r n ws) ≡ n
 
 pub counts-of : (r n : ℕ) (ws : List ℕ) → length ws ≡ wordCount r n → Counts r n ws
@@ -225,8 +187,6 @@ counts-of r n ws e = record {
   yards = part-length ws r n (omega arith);
   firsts = part-length ws (firstsAt r n) r (omega arith);
   picks = part-length ws (picksAt r n) r (omega arith);
-  fs = part-length ws (fsAt r n) n (omega arith);
-  bounds = part-length ws (boundsAt r n) n (omega arith);
   gone = zeros-length (part ws (goneAt r n) n) ∙ part-length ws (goneAt r n) n (omega arith);
 }
 

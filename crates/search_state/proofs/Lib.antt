@@ -1,4 +1,5 @@
 pub mod Cells
+pub mod Values
 pub mod Choosing
 pub mod Settling
 pub mod Newest

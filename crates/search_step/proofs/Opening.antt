@@ -34,9 +34,8 @@ use Rattle.search_step.specs.code.Regions.{RegionQueued}
 
 -- what is kept of the leaves, where no part that keeps it has changed
 pub cached-by : {i : Instance} {r n : ℕ} {words keys yards firsts picks fs bounds : List ℕ} {gone : List Bool}
-    → Parts r n words keys yards firsts picks fs bounds gone
-    → Cached i picks fs bounds → Cached i (picksIn r n words) (fsIn r n words) (boundsIn r n words)
-cached-by p c = rw (p .picks-are, p .fs-are, p .bounds-are) c
+    → Parts r n words keys yards firsts picks gone → Cached i picks fs bounds → Cached i (picksIn r n words) fs bounds
+cached-by p c = rw (p .picks-are) c
 
 module _ {road tree : List ℕ} {code : ℕ} {goal : Rule} {crews drives places table : List ℕ} (ready : Ready road tree code goal crews drives places table) where
   abbrev i : Instance
@@ -63,7 +62,7 @@ module _ {road tree : List ℕ} {code : ℕ} {goal : Rule} {crews drives places 
       pub leaf-no : (f .children ≡ 0 → ⊥) → T (not (leaf i v))
       leaf-no z = rw leaf-test (ne→neqb (regionAt (decode tree .regions) v .children) 0 (λ q. z (sym (children-is tree v f e) ∙ q)))
 
-    module _ (words : List ℕ) (q : RegionQueued i (length places) (junctionCount tree) words v) where
+    module _ (words values : List ℕ) (q : RegionQueued i (length places) (junctionCount tree) words values v) where
       abbrev r : ℕ
       r = length places
 
@@ -74,9 +73,10 @@ module _ {road tree : List ℕ} {code : ℕ} {goal : Rule} {crews drives places 
       region-slot = omega (arith, q .inside, regions-of)
 
       -- a leaf
-      pub leaf-ready : T (leaf i v) → Leafed i r n words v
+      pub leaf-ready : T (leaf i v) → Leafed i r n words values v
       leaf-ready t = let k = counts-of r n words (q .count) in record {
         count = q .count;
+        value-count = q .value-count;
         cached = q .cached;
         isLeaf = record { inside = q .inside; is = t };
         waiting = record {
@@ -112,11 +112,11 @@ module _ {road tree : List ℕ} {code : ℕ} {goal : Rule} {crews drives places 
             (ready .passed) (landmarkCount tree) table (ready .tableed) c x refl)
 
         inner-parts : Parts r n words′ (queueChildren i a (children i v) (set (regionKeysIn r n words) v unqueued)) (yardKeysIn r n words)
-            (queueChildren i a (children i v) (firstsIn r n words)) (picksIn r n words) (fsIn r n words) (boundsIn r n words) (goneIn r n words)
+            (queueChildren i a (children i v) (firstsIn r n words)) (picksIn r n words) (goneIn r n words)
         inner-parts = rw (e, children-at) (put-parts i a (keyOf tree table (landmarkCount tree) code crews a) r n
             (childrenOf (decode tree .regions) v) child-key (inner-slots .children) (store-key (parts-of r n words) v unqueued v refl region-slot))
 
-        pub inner-cached : Cached i (picksIn r n words′) (fsIn r n words′) (boundsIn r n words′)
+        pub inner-cached : Cached i (picksIn r n words′) (fsIn n values) (boundsIn n values)
         inner-cached = cached-by inner-parts (q .cached)
 
         pub inner-is-taken : T (not (leaf i v)) → (held : List Element) (measured : List ℕ) (count : ℕ)

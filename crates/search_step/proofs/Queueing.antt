@@ -46,8 +46,8 @@ put-more g r n c cs ws = refl
 
 -- with the search's keys of a region's children, whose parent's key is a: the parts of the words
 pub put-parts : (i : Instance) (a : ℕ) (g : ℕ → ℕ) (r n : ℕ) (cs : List ℕ) → ((c : ℕ) → g c ≡ max (bound i c) a) → ((c : ℕ) → Mem c cs → c < r)
-    → {ws keys yards firsts picks fs bounds : List ℕ} {gone : List Bool} → Parts r n ws keys yards firsts picks fs bounds gone
-    → Parts r n (putKeys g r n cs ws) (queueChildren i a cs keys) yards (queueChildren i a cs firsts) picks fs bounds gone
+    → {ws keys yards firsts picks : List ℕ} {gone : List Bool} → Parts r n ws keys yards firsts picks gone
+    → Parts r n (putKeys g r n cs ws) (queueChildren i a cs keys) yards (queueChildren i a cs firsts) picks gone
 put-parts i a g r n [] e h {ws = ws} {keys = keys} {firsts = firsts} p = rw (put-none g r n ws, queue-none i a keys, queue-none i a firsts) p
 put-parts i a g r n (c ∷ cs) e h {ws = ws} {keys = keys} {firsts = firsts} p =
     let s : c < r = h c (head refl) in

@@ -111,7 +111,7 @@ module _ {adj tree : List ℕ} {code : ℕ} {goal : Rule} {crews drives places t
 -- ---- what the step does
 
 module _ {road tree : List ℕ} {code : ℕ} {goal : Rule} {crews drives places table : List ℕ} (ready : Ready road tree code goal crews drives places table)
-    (words : List ℕ) (held : List Element) (measured : List ℕ) (count : ℕ) where
+    (words values : List ℕ) (held : List Element) (measured : List ℕ) (count : ℕ) where
   abbrev i : Instance
   i = searchOf road tree code goal crews
 
@@ -124,7 +124,7 @@ module _ {road tree : List ℕ} {code : ℕ} {goal : Rule} {crews drives places 
   abbrev st : SearchState
   st = stateOf r n words held measured count
 
-  module _ (s : length words ≡ wordCount r n) (g : Going i r n words st) (p : ℕ) (e : FirstLeast r n words p) where
+  module _ (s : length words ≡ wordCount r n) (g : Going i r n words values st) (p : ℕ) (e : FirstLeast r n words p) where
     abbrev u : Unsettled i st
     u = g .unsettled
 
@@ -149,9 +149,10 @@ module _ {road tree : List ℕ} {code : ℕ} {goal : Rule} {crews drives places 
       low : getD words p 0 < unqueued
       low = omega (arith, unsettled-key i st (u .unsettled), word)
 
-      pub region-queued : RegionQueued i r n words p
+      pub region-queued : RegionQueued i r n words values p
       region-queued = record {
         count = s;
+        value-count = g .value-count;
         cached = g .cached;
         inside = omega (arith, regions-of ready);
         waits = λ t. rw (ap (λ (x : SearchState). x .gone) (state-by (parts-of r n words) held measured count)) at (leaf-waits i formed st
@@ -203,12 +204,12 @@ module _ {road tree : List ℕ} {code : ℕ} {goal : Rule} {crews drives places 
           accepted = accepted-of road tree code goal crews (ready .passed)
 
       yard-parts : Parts r n (set words p unqueued) (regionKeysIn r n words) (set (yardKeysIn r n words) y unqueued)
-          (firstsIn r n words) (picksIn r n words) (fsIn r n words) (boundsIn r n words) (goneIn r n words)
+          (firstsIn r n words) (picksIn r n words) (goneIn r n words)
       unfolding y
       yard-parts = store-yard (parts-of r n words) p unqueued (p - r) (omega arith)
           (omega (arith, picked-inside r n words s (some-region ready) (some-junction ready) p e))
 
-      pub yard-cached : Cached i (picksIn r n (set words p unqueued)) (fsIn r n (set words p unqueued)) (boundsIn r n (set words p unqueued))
+      pub yard-cached : Cached i (picksIn r n (set words p unqueued)) (fsIn n values) (boundsIn n values)
       yard-cached = cached-by yard-parts (g .cached)
 
       pub yard-is-taken : (measured′ : List ℕ) (held′ : List Element) (count′ : ℕ) → count′ ≡ count + 1

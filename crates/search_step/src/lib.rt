@@ -38,6 +38,7 @@ pub fn step(
     crews: &[u16],
     asked: Asked,
     words: &mut [u64],
+    values: &mut [u32],
     list: &mut [u32],
     measured: &mut [u16],
     progress: Progress,
@@ -50,7 +51,7 @@ pub fn step(
         → Ready road (now tree) (asked .aggregate) (ruleOf (asked .rule))
         (now crews) (now drives) (now places) (now table)
         → Going (searchOf road (now tree) (asked .aggregate) (ruleOf (asked .rule)) (now crews))
-        (length (now places)) (junctionCount (now tree)) (now words)
+        (length (now places)) (junctionCount (now tree)) (now words) (now values)
         (stateOf (length (now places)) (junctionCount (now tree)) (now words)
         (heldBy (ruleOf (asked .rule)) (progress .kept) (now list)) (now measured) (progress .measured)))
         × (length (now words) ≡ wordCount (length (now places)) (junctionCount (now tree)))
@@ -63,8 +64,8 @@ pub fn step(
         (now (crews .entry)) (now (drives .entry)) (now (places .entry)) (now (table .entry))
         → Cached (searchOf road (now (tree .entry)) (asked .aggregate) (ruleOf (asked .rule)) (now (crews .entry)))
         (picksIn (length (now (places .entry))) (junctionCount (now (tree .entry))) (now (words .exit)))
-        (fsIn (length (now (places .entry))) (junctionCount (now (tree .entry))) (now (words .exit)))
-        (boundsIn (length (now (places .entry))) (junctionCount (now (tree .entry))) (now (words .exit)))) ⌝ }
+        (fsIn (junctionCount (now (tree .entry))) (now (values .exit)))
+        (boundsIn (junctionCount (now (tree .entry))) (now (values .exit)))) ⌝ }
     ensures state { λ o. ⌜ ((road : List ℕ)
         → Ready road (now (tree .entry)) (asked .aggregate) (ruleOf (asked .rule))
         (now (crews .entry)) (now (drives .entry)) (now (places .entry)) (now (table .entry))
@@ -90,6 +91,7 @@ pub fn step(
             crews,
             asked,
             words,
+            values,
             region,
             a,
         );

@@ -26,6 +26,7 @@ pub fn take(
     crews: &[u16],
     asked: Asked,
     words: &mut [u64],
+    values: &mut [u32],
     r: Region,
     a: u64,
 )
@@ -36,14 +37,14 @@ pub fn take(
         → Ready road (now tree) (asked .aggregate) (ruleOf (asked .rule))
         (now crews) (now drives) (now places) (now table)
         → RegionQueued (searchOf road (now tree) (asked .aggregate) (ruleOf (asked .rule)) (now crews))
-        (length (now places)) (junctionCount (now tree)) (now words) (r .number)) ⌝ }
+        (length (now places)) (junctionCount (now tree)) (now words) (now values) (r .number)) ⌝ }
     ensures cached { λ _. ⌜ ((road : List ℕ)
         → Ready road (now (tree .entry)) (asked .aggregate) (ruleOf (asked .rule))
         (now (crews .entry)) (now (drives .entry)) (now (places .entry)) (now (table .entry))
         → Cached (searchOf road (now (tree .entry)) (asked .aggregate) (ruleOf (asked .rule)) (now (crews .entry)))
         (picksIn (length (now (places .entry))) (junctionCount (now (tree .entry))) (now (words .exit)))
-        (fsIn (length (now (places .entry))) (junctionCount (now (tree .entry))) (now (words .exit)))
-        (boundsIn (length (now (places .entry))) (junctionCount (now (tree .entry))) (now (words .exit)))) ⌝ }
+        (fsIn (junctionCount (now (tree .entry))) (now (values .exit)))
+        (boundsIn (junctionCount (now (tree .entry))) (now (values .exit)))) ⌝ }
     ensures state { λ _. ⌜ ((road : List ℕ)
         → Ready road (now (tree .entry)) (asked .aggregate) (ruleOf (asked .rule))
         (now (crews .entry)) (now (drives .entry)) (now (places .entry)) (now (table .entry))
@@ -56,7 +57,7 @@ pub fn take(
 {
     let f = tree::regions::fields(tree, places, r);
     if f.children == 0 {
-        search_leaf::take(tree, places, table, drives, crews, asked, words, r);
+        search_leaf::take(tree, places, table, drives, crews, asked, words, values, r);
         return;
     }
     inner::open_inner(

@@ -23,7 +23,7 @@ pub struct Step {
 
 /// A measured yard's seconds, its place among the held yards, counted from 0, and the yard that it put off them.
 pub struct Measured {
-    pub seconds: u64,
+    pub seconds: u32,
     pub place: Option<usize>,
     pub put_off: Option<u16>,
 }
@@ -38,7 +38,7 @@ pub struct Trace {
 /// What steps are told by, of one state.
 struct Seen {
     queue: BTreeSet<(u64, Item)>,
-    held: Vec<(u64, u16)>,
+    held: Vec<(u32, u16)>,
 }
 
 impl Seen {
@@ -76,11 +76,12 @@ impl Trace {
     /// List and counts are those of the proved call; a settled list is brute force's too.
     fn is_proved(&self, answer: &Answer) -> Result<(), Fault> {
         let list = answer.searched.list.iter();
-        let list: Vec<(u64, u16)> = list.map(|&(yard, d)| (u64::from(d), yard)).collect();
+        let list: Vec<(u32, u16)> = list.map(|&(yard, d)| (d, yard)).collect();
         let counts = found(&self.outcome) == answer.searched.found;
         let settled = self.outcome.settled;
         let plain = !settled || self.outcome.state.held == list;
-        let brute = !settled || self.brute(&answer.books)? == list;
+        let wide = list.iter().map(|&(d, yard)| (u64::from(d), yard));
+        let brute = !settled || wide.eq(self.brute(&answer.books)?);
         match (counts && plain, brute) {
             (true, true) => Ok(()),
             (false, _) => Err(differs("the plain finder's")),

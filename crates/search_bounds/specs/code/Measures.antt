@@ -10,6 +10,14 @@ use Rattle.road.specs.code.Rows.{Rowed}
 use Rattle.search_rules.specs.Bounds.{absDiff, combine, aggregate}
 use Rattle.search_bounds.specs.code.Rows.{rowsLower}
 
+-- the longest that a least walk can be: 1,023 roads of 65,535 seconds
+abbrev pub longest : ℕ
+longest = 67042305
+
+-- some distances are no longer
+abbrev pub Short : List ℕ → Type 0
+Short ds = (x : ℕ) → Mem x ds → x ≤ longest
+
 -- at most sixteen crews, at junctions of a road book that passes, with a row of distances for each
 pub record Driven (road crews drives : List ℕ) : Type 0 where
   pub roads : Passing road

@@ -2,7 +2,7 @@
 use mathlib.Core.Path.{_≡_}
 use mathlib.Core.Bool.{Bool}
 use mathlib.Core.List.{List, [], _∷_, List·Memᴰ as Mem}
-use Prim.Native.Nat.{ℕ, _+_, _<_}
+use Prim.Native.Nat.{ℕ, _+_, _≤_, _<_}
 use lib.ListN.{length, getD, set}
 use Rattle.book.specs.Choose.{choose}
 use Rattle.tree_layout.specs.Values.{Element, Mark}
@@ -11,8 +11,9 @@ use Rattle.search_rules.specs.Instance.{Instance}
 use Rattle.search_rules.specs.Bounds.{f, yardBound}
 use Rattle.search_rules.specs.Queue.{unqueued}
 use Rattle.search_rules.specs.Step.{left}
-use Rattle.search_bounds.specs.code.Measures.{fBy, yardBoundBy}
-use Rattle.search_state.specs.code.State.{fsAt, boundsAt}
+use Rattle.search_bounds.specs.code.Rows.{rowsLower}
+use Rattle.search_bounds.specs.code.Measures.{longest, fBy, yardBoundBy}
+use Rattle.search_state.specs.code.State.{boundsAt}
 
 -- every yard of a list is below n
 abbrev pub Near : ℕ → List Element → Type 0
@@ -23,12 +24,17 @@ unfoldable pub byYard : (Element → ℕ) → List Element → List ℕ → List
 byYard g [] ws = ws
 byYard g (e ∷ es) ws = byYard g es (set ws (e .yard) (g e))
 
--- a search's words, with g of each element of a list set at its yard among the f's, and b of it among the bounds
-unfoldable pub byYards : (regions junctions : ℕ) → (g b : Element → ℕ) → List Element → List ℕ → List ℕ
-byYards regions junctions g b [] ws = ws
-byYards regions junctions g b (e ∷ es) ws =
-    byYards regions junctions g b es
-    (set (set ws (fsAt regions junctions + e .yard) (g e)) (boundsAt regions junctions + e .yard) (b e))
+-- the values of a search's yards, with g of each element of a list set at its yard among the f's, and b of it among
+-- the bounds
+unfoldable pub byYards : (g b : Element → ℕ) → List Element → List ℕ → List ℕ
+byYards g b [] vs = vs
+byYards g b (e ∷ es) vs = byYards g b es (set (set vs (e .yard) (g e)) (boundsAt + e .yard) (b e))
+
+-- what f and the bound of each element of a list are computed of is short: its distance, and LB of its yard and each
+-- crew by the landmark table's rows
+pub record ShortList (table : List ℕ) (rows : ℕ) (crews : List ℕ) (es : List Element) : Type 0 where
+  pub distances : (e : Element) → Mem e es → e .distance ≤ longest
+  pub lowers : (e : Element) → Mem e es → (q : ℕ) → Mem q crews → rowsLower table rows (e .yard) q ≤ longest
 
 -- an element's f, and its yard's bound: out has the landmark's distances to the crews
 abbrev pub fIn : ℕ → List ℕ → Element → ℕ

@@ -17,21 +17,21 @@ nextIn fs gone es n = getD es (pick (wordsOf fs gone es) n) noElement
 unfoldable pub nextWord : List ℕ → List Bool → List Element → ℕ → ℕ
 nextWord fs gone es n = wordAt (wordsOf fs gone es) (pick (wordsOf fs gone es) n)
 
--- of a leaf's list of n elements, and the words of a search
-module _ (regions junctions : ℕ) (es : List Element) (n : ℕ) (ws : List ℕ) where
+-- of a leaf's list of n elements, and the words and the yards' values of a search
+module _ (regions junctions : ℕ) (es : List Element) (n : ℕ) (ws vs : List ℕ) where
   -- the yard that leaves next
   unfoldable pub leaving : ℕ
-  leaving = nextIn (fsIn regions junctions ws) (goneIn regions junctions ws) es n .yard
+  leaving = nextIn (fsIn junctions vs) (goneIn regions junctions ws) es n .yard
 
   -- "A leaf queues its next yard": yard y of leaf r. "Its key is the greater of its bound and the leaf's first key."
   unfoldable pub yardQueued : (r y : ℕ) → List ℕ
   yardQueued r y =
       set (set ws (goneAt regions junctions + y) 0) (yardKeysAt regions junctions + y)
-      (max (getD ws (boundsAt regions junctions + y) 0) (getD ws (firstsAt regions junctions + r) 0))
+      (max (getD vs (boundsAt + y) 0) (getD ws (firstsAt regions junctions + r) 0))
 
 -- "A leaf queues its next yard and, if any remain, itself": leaf r
-unfoldable pub leafQueued : (regions junctions : ℕ) → List Element → ℕ → List ℕ → ℕ → List ℕ
-leafQueued regions junctions es n ws r =
-    let after = yardQueued regions junctions es n ws r (leaving regions junctions es n ws) in
+unfoldable pub leafQueued : (regions junctions : ℕ) → List Element → ℕ → (ws vs : List ℕ) → ℕ → List ℕ
+leafQueued regions junctions es n ws vs r =
+    let after = yardQueued regions junctions es n ws vs r (leaving regions junctions es n ws vs) in
     set after r (againKey (getD ws (firstsAt regions junctions + r) 0)
-    (nextWord (fsIn regions junctions after) (goneIn regions junctions after) es n))
+    (nextWord (fsIn junctions vs) (goneIn regions junctions after) es n))

@@ -19,7 +19,7 @@ use Rattle.search_rules.specs.Queue.{unqueued}
 use Rattle.search_rules.specs.Step.{nextF}
 use Rattle.search_bounds.specs.code.Tables.{LandmarkTable}
 use Rattle.search_state.specs.code.State.{wordCount, regionKeysIn, yardKeysIn, firstsIn, picksIn}
-use Rattle.search_state.specs.code.State.{fsIn, boundsIn, goneIn}
+use Rattle.search_state.specs.code.State.{goneIn, valueCount, fsIn, boundsIn}
 use Rattle.search_leaf.specs.code.Leaves.{Opened}
 
 -- number p is that of the landmark that region r picks, among its own
@@ -72,10 +72,11 @@ pub record Waiting (i : Instance) (keys yards firsts : List ℕ) (gone : List Bo
   pub waits : nextF i gone (chosen i r) < unqueued
 
 -- of a search of r regions and n junctions: region l is a leaf of which some yard remains,
--- and the words keep what was taken before
-pub record Leafed (i : Instance) (r n : ℕ) (words : List ℕ) (l : ℕ) : Type 0 where
+-- and the words and the yards' values keep what was taken before
+pub record Leafed (i : Instance) (r n : ℕ) (words values : List ℕ) (l : ℕ) : Type 0 where
   pub count : length words ≡ wordCount r n
-  pub cached : Cached i (picksIn r n words) (fsIn r n words) (boundsIn r n words)
+  pub value-count : length values ≡ valueCount
+  pub cached : Cached i (picksIn r n words) (fsIn n values) (boundsIn n values)
   pub isLeaf : IsLeaf i l
   pub waiting : Waiting i (regionKeysIn r n words) (yardKeysIn r n words) (firstsIn r n words) (goneIn r n words) l
 

@@ -11,7 +11,7 @@ use Rattle.road.proofs.Picking.{tally}
 use Rattle.road.proofs.Stepping.{walking-sizes, walking-start}
 use Rattle.search_measure.specs.code.Cases.{ceilingOf, IsMeasurable}
 use Rattle.search_measure.proofs.Deciding.{over-yes, over-no, yard-below, adjacency-of, crews-below}
-use Rattle.search_measure.proofs.Walking.{Walks, walks-start, walks-sizes, walks-few, reckon-fits, above-ends, above-measures, exact-ends, exact-measures, round-left, walks-on, tally-falls}
+use Rattle.search_measure.proofs.Walking.{Walks, walks-start, walks-sizes, walks-few, reckon-short, above-ends, above-measures, exact-ends, exact-measures, round-left, walks-on, tally-falls}
 use Rattle.search_measure.proofs.measure.Statement.{statement}
 use Rattle.search_measure.proofs.measure.Tie as tie
 
@@ -54,7 +54,7 @@ reckon-requires c κs =
     let w = walking-start (s .args .adj .now) (c .before .before .before .before .before .before .before .before .before .start .ensures) in
     let l = c .before .before .before .loop .inv .1 _ (s .pre .0) w in
     let t = c .before .frontier .ensures in
-    (walks-sizes _ _ _ (s .pre .0) _ _ _ _ _ l .distances, crews-below (s .pre .0), reckon-fits _ _ _ (s .pre .0) _ _ _ _ _ l _ t)
+    (walks-sizes _ _ _ (s .pre .0) _ _ _ _ _ l .distances, crews-below (s .pre .0), reckon-short _ _ _ (s .pre .0) _ _ _ _ _ l _ t)
 
 exceeds-requires : tie.Need-exceeds-requires Inv-loop μ-loop
 exceeds-requires c κs = tt

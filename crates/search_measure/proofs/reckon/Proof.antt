@@ -2,22 +2,22 @@ use borrow.Author.Needs.{needs}
 use mathlib.Core.Path.{ap, _∙_}
 use Prim.Native.Nat.{ℕ, _-_, min}
 use native.Mathlib.Omega.{arith}
-use lib.ListN.{length, getD}
+use lib.ListN.{length}
 use Rattle.road.specs.Dijkstra.{at}
-use Rattle.road.proofs.Shortening.{at-inside}
+use Rattle.search_bounds.specs.code.Measures.{longest}
 use Rattle.search_bounds.proofs.Folds.{Summed, summed-none, summed-room, summed-turn, summed-all}
-use Rattle.search_measure.proofs.Deciding.{crew-in, Furthest, furthest-none, furthest-turn, furthest-all}
+use Rattle.search_measure.proofs.Deciding.{crew-in, row-at, lesser-short, Furthest, furthest-none, furthest-turn, furthest-all}
 use Rattle.search_measure.proofs.reckon.Statement.{statement}
 use Rattle.search_measure.proofs.reckon.Tie as tie
 
 abbrev Inv-loop : tie.InvT-loop
-Inv-loop row crews code frontier total₀ furthest₀ j₀ total furthest j = Summed code (λ q. min (at row q) frontier) crews j total × Furthest (at row) crews j furthest
+Inv-loop row crews code frontier total₀ furthest₀ j₀ total furthest j = Summed longest code (λ q. min (at row q) frontier) crews j total × Furthest (at row) crews j furthest
 
 abbrev μ-loop : tie.MeasureT-loop
 μ-loop row crews code frontier total₀ furthest₀ j₀ total furthest j = length crews - j
 
 loop-holds : tie.Need-loop-holds Inv-loop μ-loop
-loop-holds c = let a = c .before .before .args in (summed-none _ _ _, furthest-none (at (a .row .now)) (a .crews .now))
+loop-holds c = let a = c .before .before .args in (summed-none _ _ _ _, furthest-none (at (a .row .now)) (a .crews .now))
 
 mul-q : tie.Need-mul-q Inv-loop μ-loop
 mul-q c = search needs
@@ -37,12 +37,15 @@ shared-slice-read-d c = omega (arith, crew-in (c .before .before .before .before
 lesser-requires : tie.Need-lesser-requires Inv-loop μ-loop
 lesser-requires c κs = tt
 
-wide-requires : tie.Need-wide-requires Inv-loop μ-loop
-wide-requires c κs = tt
-
 combine-requires : tie.Need-combine-requires Inv-loop μ-loop
 combine-requires c κs =
-    summed-room _ _ _ _ _ (c .before .before .before .before .before .loop .inv .0) (c .before .before .before .before .before .before .before .before .pre .1 .few) _ (c .wide .ensures .1)
+    let s = c .before .before .before .before .before .before .before in
+    let less = c .before .before .before .loop-test .taken in
+    omega (
+      arith,
+      summed-room _ _ _ _ _ _ (c .before .before .before .before .loop .inv .0) (s .pre .1 .few) less _
+          (lesser-short (s .args .row .now) _ (s .args .frontier) _ _ (s .pre .0) (s .pre .1) (s .pre .2) less (c .lesser .ensures)),
+    )
 
 greater-requires : tie.Need-greater-requires Inv-loop μ-loop
 greater-requires c κs = tt
@@ -55,22 +58,19 @@ loop-less c = search needs
 
 loop-again : tie.Need-loop-again Inv-loop μ-loop
 loop-again c =
-    let a = c .before .before .before .before .before .before .before .before .before .before .args in
-    let l = c .before .before .before .before .before .before .before .loop .inv in
-    let less = c .before .before .before .before .before .before .loop-test .taken in
-    let d = at-inside (a .row .now) (getD (a .crews .now) (c .before .before .before .before .before .before .before .loop .j) 0) (omega (arith, crew-in (c .before .before .before .before .before .before .before .before .before .before .pre .1) _ less, c .before .before .before .before .before .before .before .before .before .before .pre .0)) in (
-      summed-turn _ _ _ _ _ (l .0) less _ _ (c .before .before .wide .ensures .1)
-          (c .before .before .wide .ensures .0 ∙ c .before .before .before .lesser .ensures ∙ ap (λ (x : ℕ). min x (a .frontier)) d) (c .before .combine .ensures),
-      furthest-turn (at (a .row .now)) (a .crews .now) _ _ _ _ (l .1) less d (c .greater .ensures),
+    let s = c .before .before .before .before .before .before .before .before .before in
+    let l = c .before .before .before .before .before .before .loop in
+    let less = c .before .before .before .before .before .loop-test .taken in
+    let d = row-at (s .args .row .now) _ _ (s .pre .0) (s .pre .1) less in
+    let e = c .before .before .lesser .ensures in (
+      summed-turn _ _ _ _ _ _ (l .inv .0) less _ _ (lesser-short (s .args .row .now) _ (s .args .frontier) _ _ (s .pre .0) (s .pre .1) (s .pre .2) less e)
+          (e ∙ ap (λ (x : ℕ). min x (s .args .frontier)) d) (c .before .combine .ensures),
+      furthest-turn (at (s .args .row .now)) (s .args .crews .now) _ _ _ _ (l .inv .1) less d (c .greater .ensures),
     )
-
-cast-t17 : tie.Need-cast-t17 Inv-loop μ-loop
-cast-t17 c =
-    omega (arith, summed-all _ _ _ _ _ (c .before .loop .inv .0) (c .loop-test .left), c .before .before .before .before .pre .2)
 
 returns : tie.Need-returns Inv-loop μ-loop
 returns c =
-    (summed-all _ _ _ _ _ (c .before .loop .inv .0) (c .loop-test .left), furthest-all _ _ _ _ (c .before .loop .inv .1) (c .loop-test .left))
+    (summed-all _ _ _ _ _ _ (c .before .loop .inv .0) (c .loop-test .left), furthest-all _ _ _ _ (c .before .loop .inv .1) (c .loop-test .left))
 
 pub reckon-spec : {M : Type 1} → statement M
 reckon-spec =
@@ -85,11 +85,9 @@ reckon-spec =
     mul-d
     shared-slice-read-d
     lesser-requires
-    wide-requires
     combine-requires
     greater-requires
     add-j
     loop-less
     loop-again
-    cast-t17
     returns)

@@ -25,29 +25,32 @@ array-borrow-prefix-words : tie.Need-array-borrow-prefix-words
 array-borrow-prefix-words c = most-words _ _ _ _ (c .before .before .before .before .before .before .before .before .before .before .pre .0 .ready .laid) (c .before .header .ensures) refl
 
 slice-aggregate-steps : tie.Need-slice-aggregate-steps
-slice-aggregate-steps c = count-part 5629 _ (most-words _ _ _ _ (c .before .before .before .before .before .before .before .before .before .before .before .pre .0 .ready .laid) (c .before .before .header .ensures) refl)
+slice-aggregate-steps c = count-part 3581 _ (most-words _ _ _ _ (c .before .before .before .before .before .before .before .before .before .before .before .pre .0 .ready .laid) (c .before .before .header .ensures) refl)
 
 slice-aggregate-steps-2 : tie.Need-slice-aggregate-steps-2
 slice-aggregate-steps-2 c = search needs
 
+slice-aggregate-steps-3 : tie.Need-slice-aggregate-steps-3
+slice-aggregate-steps-3 c = search needs
+
 steps-requires : tie.Need-steps-requires
 steps-requires c κs =
-    let start = c .before .before .before .before .before .before .before .before .before .before .before .before .before in
-    let s = start .pre in
-    let h = c .before .before .before .before .header .ensures in (
-      s .0,
-      s .1,
-      s .2,
+    let s = c .before .before .before .before .before .before .before .before .before .before .before .before .before .before in
+    let h = c .before .before .before .before .before .header .ensures in (
+      s .pre .0,
+      s .pre .1,
+      s .pre .2,
       search needs,
-      s .3,
-      first-words (start .args .tree .now) (start .args .places .now) _ 5629 _ h refl (most-words _ _ _ _ (s .0 .ready .laid) h refl),
+      s .pre .3,
+      first-words (s .args .tree .now) (s .args .places .now) _ 3581 _ h refl (most-words _ _ _ _ (s .pre .0 .ready .laid) h refl),
+      search needs,
     )
 
 same-length : tie.Need-same-length
 same-length c = search needs
 
 returns : tie.Need-returns
-returns c = c .before .before .before .before .steps .ensures
+returns c = c .before .before .before .before .before .steps .ensures
 
 pub run-spec : {M : Type 1} → statement M
 run-spec =
@@ -61,6 +64,7 @@ run-spec =
     array-borrow-prefix-words
     slice-aggregate-steps
     slice-aggregate-steps-2
+    slice-aggregate-steps-3
     steps-requires
     same-length
     returns)

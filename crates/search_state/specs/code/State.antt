@@ -1,10 +1,10 @@
--- A search's state in one array of words, and when it is settled. Assumes nothing: these are definitions.
+-- A search's state in an array of words, its yards' values in another, and when it is settled. Assumes nothing: these are definitions.
 use mathlib.Core.Path.{_≡_}
-use mathlib.Core.Bool.{Bool, not, _&&_, _||_}
+use mathlib.Core.Bool.{Bool, not, _||_}
 use mathlib.Core.List.{List, [], _∷_}
 use Prim.Native.Nat.{ℕ, zero, suc, _+_, _*_}
-use lib.ListN.{length, getD, take, drop}
-use lib.Dec.{T, ltb, eqb}
+use lib.ListN.{getD, take, drop}
+use lib.Dec.{T, eqb}
 use Rattle.search_rules.specs.Instance.{Instance}
 use Rattle.search_rules.specs.Queue.{queued}
 use Rattle.search_rules.specs.Rule.{Rule}
@@ -14,10 +14,10 @@ use Rattle.search_rules.specs.Run.{run}
 use Rattle.tree_layout.specs.Values.{Element}
 
 -- The words of a search of r regions and n junctions, each part one word for each of them, one part after the other:
--- regions' keys, yards' keys, regions' first keys, the landmarks that leaves picked, yards' f, yards' bounds, and which
--- yards have left (0 if so).
+-- regions' keys, yards' keys, regions' first keys, the landmarks that leaves picked, and which yards have left (0 if
+-- so).
 abbrev pub wordCount : ℕ → ℕ → ℕ
-wordCount r n = 3 * r + 4 * n
+wordCount r n = 3 * r + 2 * n
 
 -- where each part begins
 abbrev pub yardKeysAt : ℕ → ℕ → ℕ
@@ -29,14 +29,15 @@ firstsAt r n = r + n
 abbrev pub picksAt : ℕ → ℕ → ℕ
 picksAt r n = 2 * r + n
 
-abbrev pub fsAt : ℕ → ℕ → ℕ
-fsAt r n = 3 * r + n
-
-abbrev pub boundsAt : ℕ → ℕ → ℕ
-boundsAt r n = 3 * r + 2 * n
-
 abbrev pub goneAt : ℕ → ℕ → ℕ
-goneAt r n = 3 * r + 3 * n
+goneAt r n = 3 * r + n
+
+-- The values of its yards, of 32 bits each: the f of each of up to 1,024 junctions, and then their bounds.
+abbrev pub valueCount : ℕ
+valueCount = 2048
+
+abbrev pub boundsAt : ℕ
+boundsAt = 1024
 
 -- n words from a place on
 unfoldable pub part : List ℕ → ℕ → ℕ → List ℕ
@@ -60,14 +61,16 @@ module _ (r n : ℕ) (ws : List ℕ) where
   abbrev pub picksIn : List ℕ
   picksIn = part ws (picksAt r n) r
 
-  abbrev pub fsIn : List ℕ
-  fsIn = part ws (fsAt r n) n
-
-  abbrev pub boundsIn : List ℕ
-  boundsIn = part ws (boundsAt r n) n
-
   abbrev pub goneIn : List Bool
   goneIn = zeros (part ws (goneAt r n) n)
+
+-- of n junctions
+module _ (n : ℕ) (vs : List ℕ) where
+  abbrev pub fsIn : List ℕ
+  fsIn = part vs 0 n
+
+  abbrev pub boundsIn : List ℕ
+  boundsIn = part vs boundsAt n
 
 -- the first n numbers of an array, the last one first
 unfoldable pub newest : List ℕ → ℕ → List ℕ

@@ -10,13 +10,13 @@ use Rattle.search_bounds.proofs.picks.weight.Tie as tie
 
 abbrev Inv-loop : tie.InvT-loop
 Inv-loop table rows crews l x₀ j₀ x j =
-    Summed 0 (rowsLower table rows (l .number)) crews j x
+    Summed 4294967295 0 (rowsLower table rows (l .number)) crews j x
 
 abbrev μ-loop : tie.MeasureT-loop
 μ-loop table rows crews l x₀ j₀ x j = length crews - j
 
 loop-holds : tie.Need-loop-holds Inv-loop μ-loop
-loop-holds c = summed-none _ _ _
+loop-holds c = summed-none _ _ _ _
 
 mul-t9 : tie.Need-mul-t9 Inv-loop μ-loop
 mul-t9 c = search needs
@@ -29,13 +29,13 @@ lower-requires c κs =
     let s = c .before .before .before .before .before in
     (s .pre .0, s .pre .2, crew-there _ (s .pre .1) _ (c .before .loop-test .taken))
 
-cast-combine : tie.Need-cast-combine Inv-loop μ-loop
-cast-combine c = search needs
+cast-combine64 : tie.Need-cast-combine64 Inv-loop μ-loop
+cast-combine64 c = search needs
 
-combine-requires : tie.Need-combine-requires Inv-loop μ-loop
-combine-requires c κs =
+combine64-requires : tie.Need-combine64-requires Inv-loop μ-loop
+combine64-requires c κs =
     let s = c .before .before .before .before .before .before in
-    summed-room _ _ _ _ _ (c .before .before .before .loop .inv) (s .pre .1 .few) _ (omega arith)
+    omega (arith, summed-room _ _ _ _ _ _ (c .before .before .before .loop .inv) (s .pre .1 .few) (c .before .before .loop-test .taken) (c .lower .result) (omega arith))
 
 add-j : tie.Need-add-j Inv-loop μ-loop
 add-j c = search needs
@@ -45,11 +45,11 @@ loop-less c = search needs
 
 loop-again : tie.Need-loop-again Inv-loop μ-loop
 loop-again c =
-    summed-turn _ _ _ _ _ (c .before .before .before .before .loop .inv) (c .before .before .before .loop-test .taken) _ _ (omega arith)
-    (c .before .lower .ensures) (c .combine .ensures)
+    summed-turn _ _ _ _ _ _ (c .before .before .before .before .loop .inv) (c .before .before .before .loop-test .taken) _ _ (omega arith)
+    (c .before .lower .ensures) (c .combine64 .ensures)
 
 returns : tie.Need-returns Inv-loop μ-loop
-returns c = weight-made _ _ _ _ _ (summed-all _ _ _ _ _ (c .before .loop .inv) (c .loop-test .left))
+returns c = weight-made _ _ _ _ _ (summed-all _ _ _ _ _ _ (c .before .loop .inv) (c .loop-test .left))
 
 pub weight-spec : {M : Type 1} → statement M
 weight-spec =
@@ -61,8 +61,8 @@ weight-spec =
     mul-t9
     shared-slice-read-t12
     lower-requires
-    cast-combine
-    combine-requires
+    cast-combine64
+    combine64-requires
     add-j
     loop-less
     loop-again

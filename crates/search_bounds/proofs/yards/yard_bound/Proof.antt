@@ -1,7 +1,7 @@
 use Prim.Native.Nat.{_-_}
 use native.Mathlib.Omega.{arith}
 use lib.ListN.{length}
-use Rattle.search_bounds.proofs.Aggregating.{Bounding, bounding-none, bounding-more, bounding-all}
+use Rattle.search_bounds.proofs.Aggregating.{crew-short, Bounding, bounding-none, bounding-more, bounding-all}
 use borrow.Author.Needs.{needs}
 use Rattle.search_bounds.proofs.yards.yard_bound.Statement.{statement}
 use Rattle.search_bounds.proofs.yards.yard_bound.Tie as tie
@@ -18,18 +18,12 @@ loop-holds c = bounding-none _ _ _ _ _ _ _
 crew-abs-diff-requires : tie.Need-crew-abs-diff-requires Inv-loop μ-loop
 crew-abs-diff-requires c κs = search needs
 
-wide-requires : tie.Need-wide-requires Inv-loop μ-loop
-wide-requires c κs = search needs
-
 combine-requires : tie.Need-combine-requires Inv-loop μ-loop
-combine-requires c κs = omega (
-  arith,
-  c .wide .ensures .1,
-  c .before .before .before .loop .inv .low,
-  c .before .before .before .before .before .before .before
-      .pre .1 .few,
-  c .before .before .loop-test .taken,
-)
+combine-requires c κs =
+    let s = c .before .before .before .before .before .before in
+    let less = c .before .loop-test .taken in
+    let short = crew-short _ _ _ _ _ _ _ _ (c .crew-abs-diff .ensures) (s .pre .4) (s .pre .5) (s .pre .6) (s .pre .2) less in
+    omega (arith, short, c .before .before .loop .inv .low, s .pre .1 .few)
 
 add-j : tie.Need-add-j Inv-loop μ-loop
 add-j c = search needs
@@ -38,8 +32,12 @@ loop-less : tie.Need-loop-less Inv-loop μ-loop
 loop-less c = search needs
 
 loop-again : tie.Need-loop-again Inv-loop μ-loop
-loop-again c = bounding-more _ _ _ _ _ _ _ _ _ (c .before .before .before .before .loop .inv) _ _ _ (c .before .before .before .loop-test .taken) (c .before
-    .before .crew-abs-diff .ensures) (c .before .wide .ensures .0) (c .before .wide .ensures .1) (c .combine .ensures)
+loop-again c =
+    let s = c .before .before .before .before .before .before .before in
+    let less = c .before .before .loop-test .taken in
+    let e = c .before .crew-abs-diff .ensures in
+    let short = crew-short _ _ _ _ _ _ _ _ e (s .pre .4) (s .pre .5) (s .pre .6) (s .pre .2) less in
+    bounding-more _ _ _ _ _ _ _ _ _ (c .before .before .before .loop .inv) _ _ less e short (c .combine .ensures)
 
 returns : tie.Need-returns Inv-loop μ-loop
 returns c = bounding-all _ _ _ _ _ _ _ _ _ (c .before .loop .inv) (c .loop-test .left)
@@ -52,7 +50,6 @@ yard-bound-spec =
     μ-loop
     loop-holds
     crew-abs-diff-requires
-    wide-requires
     combine-requires
     add-j
     loop-less

@@ -11,23 +11,23 @@ use Rattle.search_leaf.proofs.elements.next_element.Statement.{statemen
 use Rattle.search_leaf.proofs.elements.next_element.Tie as tie
 
 abbrev Inv-loop : tie.InvT-loop
-Inv-loop list yards h words place₀ f₀ k₀ place f k =
-    (k ≤ yards) × Scanned (wordsOf (fsIn (h .regions) (h .junctions) words) (goneIn (h .regions) (h .junctions) words) (readList list yards 0)) k place f
+Inv-loop list yards h words values place₀ f₀ k₀ place f k =
+    (k ≤ yards) × Scanned (wordsOf (fsIn (h .junctions) values) (goneIn (h .regions) (h .junctions) words) (readList list yards 0)) k place f
 
 abbrev μ-loop : tie.MeasureT-loop
-μ-loop list yards h words place₀ f₀ k₀ place f k = yards - k
+μ-loop list yards h words values place₀ f₀ k₀ place f k = yards - k
 
 element-requires : tie.Need-element-requires Inv-loop μ-loop
 element-requires c κs = search needs
 
 word-of-requires : tie.Need-word-of-requires Inv-loop μ-loop
 word-of-requires c κs =
-    let s = c .before .before .before in
-    (yard-near _ _ 0 _ _ (s .pre .0) (c .element .ensures) (s .pre .2), s .pre .3)
+    let s = c .before .before .before .before in
+    (yard-near _ _ 0 _ _ (s .pre .0) (c .element .ensures) (s .pre .2), s .pre .3, s .pre .4, s .pre .5)
 
 loop-holds : tie.Need-loop-holds Inv-loop μ-loop
 loop-holds c =
-    let s = c .before .before .before .before in
+    let s = c .before .before .before .before .before in
     (s .pre .0, scanned-first _ _ (words-by _ _ _ _ 0 _ _ (s .pre .0) (c .before .element .ensures) (c .word-of .ensures)))
 
 element-requires-2 : tie.Need-element-requires-2 Inv-loop μ-loop
@@ -35,8 +35,8 @@ element-requires-2 c κs = search needs
 
 word-of-requires-2 : tie.Need-word-of-requires-2 Inv-loop μ-loop
 word-of-requires-2 c κs =
-    let s = c .before .before .before .before .before .before .before in
-    (yard-near _ _ _ _ _ (c .before .loop-test .taken) (c .element2 .ensures) (s .pre .2), s .pre .3)
+    let s = c .before .before .before .before .before .before .before .before in
+    (yard-near _ _ _ _ _ (c .before .loop-test .taken) (c .element2 .ensures) (s .pre .2), s .pre .3, s .pre .4, s .pre .5)
 
 add-k : tie.Need-add-k Inv-loop μ-loop
 add-k c = search needs

@@ -1,8 +1,8 @@
-use mathlib.Core.Path.{sym, _∙_}
+use mathlib.Core.Path.{refl, sym, _∙_}
 use native.Mathlib.Omega.{arith}
 use lib.Seq.{length-take-le}
-use Rattle.search_leaf.proofs.ElementsOpening.{driven-at, list-near, list-whole, header-junctions-are, header-words, header-rows, crews-wide}
-use Rattle.search_leaf.proofs.ElementsOpening.{front-room, front-length, opened-words}
+use Rattle.search_leaf.proofs.ElementsOpening.{driven-at, list-near, list-short, list-whole, header-landmarks-are, header-rows, crews-wide}
+use Rattle.search_leaf.proofs.ElementsOpening.{front-room, front-length, front-short, opened-values}
 use borrow.Author.Needs.{needs}
 use Rattle.search_leaf.proofs.elements.open.Statement.{statement}
 use Rattle.search_leaf.proofs.elements.open.Tie as tie
@@ -27,35 +27,39 @@ list-requires c κs = search needs
 header-requires : tie.Need-header-requires
 header-requires c κs = search needs
 
+cast-rows : tie.Need-cast-rows
+cast-rows c = search needs
+
 array-share-prefix-out : tie.Need-array-share-prefix-out
 array-share-prefix-out c =
-    let at-to-crews = c .before .before .before in
-    let start = at-to-crews .before .before .before .before .before .before .before .before in
-    front-room (start .args .crews .now) (at-to-crews .to-crews .last .1 .1 .1 .0) _
-    (at-to-crews .to-crews .kept .1 .1 .1 .0 ∙ length-take-le _ _ (start .pre .0 .driven .few))
+    let t = c .before .before .before .before .to-crews in
+    let s = c .before .before .before .before .before .before .before .before .before .before .before .before in
+    front-room (s .args .crews .now) (t .last .1 .1 .1 .0) _ (t .kept .1 .1 .1 .0 ∙ length-take-le _ _ (s .pre .0 .driven .few))
 
 slice-aggregate-fill : tie.Need-slice-aggregate-fill
 slice-aggregate-fill c =
-    let at-to-crews = c .before .before .before .before in
-    let start = at-to-crews .before .before .before .before .before .before .before .before in
-    sym (front-length (start .args .crews .now) (at-to-crews .to-crews .last .1 .1 .1 .0) _
-    (at-to-crews .to-crews .kept .1 .1 .1 .0 ∙ length-take-le _ _ (start .pre .0 .driven .few)))
+    let t = c .before .before .before .before .before .to-crews in
+    let s = c .before .before .before .before .before .before .before .before .before .before .before .before .before in
+    sym (front-length (s .args .crews .now) (t .last .1 .1 .1 .0) _ (t .kept .1 .1 .1 .0 ∙ length-take-le _ _ (s .pre .0 .driven .few)))
 
 fill-requires : tie.Need-fill-requires
 fill-requires c κs =
-    let at-list = c .before .before .before in
-    let at-to-crews = at-list .before .before in
-    let start = at-to-crews .before .before .before .before .before .before .before .before in
-    let h = c .before .before .header .ensures in
-    let l = at-list .list .ensures in (
-      list-whole _ (start .args .at) _ _ l (start .pre .3),
-      header-rows _ _ h _ (start .pre .1),
-      crews-wide _ _ _ (start .pre .0 .driven),
-      front-length (start .args .crews .now) (at-to-crews .to-crews .last .1 .1 .1 .0) _
-          (at-to-crews .to-crews .kept .1 .1 .1 .0 ∙ length-take-le _ _ (start .pre .0 .driven .few)),
-      list-near _ (start .args .at) _ _ l _ _ (header-junctions-are _ _ h) (start .pre .5),
-      omega (arith, header-junctions-are _ _ h, start .pre .4),
-      header-words _ _ h (start .args .words .now) (start .pre .6),
+    let t = c .before .before .before .before .before .before .to-crews in
+    let s = c .before .before .before .before .before .before .before .before .before .before .before .before .before .before in
+    let d = s .pre .0 .driven in
+    let h = c .before .before .before .header .ensures in
+    let l = c .before .before .before .before .list .ensures in
+    let same = t .kept .1 .1 .1 .0 ∙ length-take-le _ _ (d .few) in
+    let j = c .before .before .before .before .before .before .before .before .junction .ensures in (
+      list-whole _ (s .args .at) _ _ l (s .pre .3),
+      header-rows _ _ h _ (s .pre .1),
+      crews-wide _ _ _ d,
+      front-length (s .args .crews .now) (t .last .1 .1 .1 .0) _ same,
+      front-short (s .args .crews .now) (t .last .1 .1 .1 .0) _ same _ _ (d .roads) (omega (arith, j, s .pre .0 .junction)) (d .there)
+          (t .ensures _ d (omega (arith, j, s .pre .0 .junction))),
+      list-near _ (s .args .at) _ _ l _ _ refl (s .pre .4),
+      list-short _ (s .args .at) _ _ l _ _ _ _ (header-landmarks-are _ _ h) (s .pre .5),
+      s .pre .6,
     )
 
 same-length : tie.Need-same-length
@@ -63,15 +67,12 @@ same-length c = search needs
 
 returns : tie.Need-returns
 returns c =
-    let at-header = c .before .before .before .before .before in
-    let at-to-crews = at-header .before .before .before in
-    let at-junction = at-to-crews .before .before in
-    let start = at-junction .before .before .before .before .before .before in
-    λ road d n. opened-words _ (start .args .at) _ _ (at-header .before .list .ensures) _ (at-header .header .ensures) (start .args .code)
-    (start .args .table .now) (start .args .crews .now) (at-to-crews .to-crews .last .1 .1 .1 .0) _
-    (at-to-crews .to-crews .kept .1 .1 .1 .0 ∙ length-take-le _ _ (start .pre .0 .driven .few)) _ _
-    (c .before .before .fill .ensures) road _ (at-junction .junction .ensures)
-    (at-to-crews .to-crews .ensures road d (omega (arith, at-junction .junction .ensures)))
+    let t = c .before .before .before .before .before .before .before .before .before .to-crews in
+    let s = c .before .before .before .before .before .before .before .before .before .before .before .before .before .before .before .before .before in
+    let j = c .before .before .before .before .before .before .before .before .before .before .before .junction .ensures in
+    λ road d n. opened-values _ (s .args .at) _ _ (c .before .before .before .before .before .before .before .list .ensures) _ (c .before .before .before .before .before .before .header .ensures) (s .args .code)
+    (s .args .table .now) (s .args .crews .now) (t .last .1 .1 .1 .0) _ (t .kept .1 .1 .1 .0 ∙ length-take-le _ _ (s .pre .0 .driven .few)) _ _
+    (c .before .before .fill .ensures) road _ j (t .ensures road d (omega (arith, j)))
 
 pub open-spec : {M : Type 1} → statement M
 open-spec =
@@ -83,6 +84,7 @@ open-spec =
     to-crews-requires
     list-requires
     header-requires
+    cast-rows
     array-share-prefix-out
     slice-aggregate-fill
     fill-requires

@@ -1,3 +1,4 @@
+use native.Mathlib.Omega.{arith}
 use Rattle.search_leaf.proofs.Scanning.{word-gone, word-there}
 use borrow.Author.Needs.{needs}
 use Rattle.search_leaf.proofs.elements.word_of.Statement.{statement}
@@ -14,23 +15,25 @@ shared-slice-read-if1 c = search needs
 
 returns : tie.Need-returns
 returns c =
-    let s = c .before .before .before .before in
-    word-gone _ _ _ _ (s .pre .1) (s .pre .0) _ (c .before .before .gone-at .ensures) (c .if1 .taken)
+    let s = c .before .before .before .before .before in
+    word-gone _ _ _ _ _ (s .pre .1) (s .pre .0) _ (c .before .before .gone-at .ensures) (c .if1 .taken)
 
 f-at-requires : tie.Need-f-at-requires
 f-at-requires c κs = search needs
 
-mul-result : tie.Need-mul-result
-mul-result c = search needs
+mul-wide : tie.Need-mul-wide
+mul-wide c = search needs
 
-shared-slice-read-result : tie.Need-shared-slice-read-result
-shared-slice-read-result c = search needs
+shared-slice-read-wide : tie.Need-shared-slice-read-wide
+shared-slice-read-wide c = let s = c .before .before .before .before .before .before .before in omega (arith, c .before .f-at .ensures, s .pre .0, s .pre .2, s .pre .3)
+
+wide-requires : tie.Need-wide-requires
+wide-requires c κs = search needs
 
 returns-2 : tie.Need-returns-2
 returns-2 c =
-    let at-gone-at = c .before .before .before .before in
-    let s = at-gone-at .before .before in
-    word-there _ _ _ _ (s .pre .1) (s .pre .0) _ (at-gone-at .gone-at .ensures) (c .before .before .if1 .left) _ (c .before .f-at .ensures)
+    let s = c .before .before .before .before .before .before .before .before in
+    word-there _ _ _ (s .args .values .now) _ (s .pre .1) (s .pre .0) _ (c .before .before .before .before .before .gone-at .ensures) (c .before .before .before .if1 .left) _ (rw (← c .before .before .f-at .ensures) (c .wide .ensures .0))
 
 pub word-of-spec : {M : Type 1} → statement M
 word-of-spec =
@@ -41,6 +44,7 @@ word-of-spec =
     shared-slice-read-if1
     returns
     f-at-requires
-    mul-result
-    shared-slice-read-result
+    mul-wide
+    shared-slice-read-wide
+    wide-requires
     returns-2)

@@ -6,7 +6,7 @@ use Rattle.search_leaf.proofs.opening.landmark.Tie as tie
 
 header-requires : tie.Need-header-requires
 header-requires c κs =
-    let s = c .before .before .before .before .before .before in
+    let s = c .before .before .before .before .before .before .before in
     let ready = s .pre .0 .ready in
     record-here _ _ _ _ _ _ _ _ ready _ (s .pre .1 _ ready .isLeaf) _ refl .header
 
@@ -18,27 +18,28 @@ mul-p c = search needs
 
 slice-read-p : tie.Need-slice-read-p
 slice-read-p c =
-    let s = c .before .before .before .before .before .before .before .before .before in
+    let s = c .before .before .before .before .before .before .before .before .before .before in
     let ready = s .pre .0 .ready in
-    pick-room _ _ _ _ _ _ _ _ ready _ _ (s .pre .1 _ ready) _ (c .before .before .header .ensures) _ (c .before .pick-at .ensures)
+    pick-room _ _ _ _ _ _ _ _ ready _ _ _ (s .pre .1 _ ready) _ (c .before .before .header .ensures) _ (c .before .pick-at .ensures)
 
 returns : tie.Need-returns
 returns c =
-    let at-header = c .before .before .before in
-    let start = at-header .before .before .before .before .before .before .before in (
+    let s = c .before .before .before .before .before .before .before .before .before .before .before in (
       same-none _ _ _,
-      λ road z. open-already _ _ _ _ _ _ _ _ z _ _ (start .pre .1 road z) _ (at-header .header .ensures) _ (c .before .before .pick-at .ensures) _
-          refl (c .if1 .taken),
+      λ road z. open-already _ _ _ _ _ _ _ _ z _ _ _ (s .pre .1 road z) _ (c .before .before .before .header .ensures) _ (c .before .before .pick-at .ensures) _ refl (c .if1 .taken),
     )
 
 open-requires : tie.Need-open-requires
-open-requires c κs = let s = c .before .before .before .before .before .before .before .before .before .before .before in (s .pre .0, s .pre .1)
+open-requires c κs = let s = c .before .before .before .before .before .before .before .before .before .before .before .before .before in (s .pre .0, s .pre .1)
 
 same-length : tie.Need-same-length
 same-length c = search needs
 
+same-length-2 : tie.Need-same-length-2
+same-length-2 c = search needs
+
 returns-2 : tie.Need-returns-2
-returns-2 c = c .before .before .open .ensures
+returns-2 c = c .before .before .before .before .open .ensures
 
 pub landmark-spec : {M : Type 1} → statement M
 landmark-spec =
@@ -51,4 +52,5 @@ landmark-spec =
     returns
     open-requires
     same-length
+    same-length-2
     returns-2)

@@ -20,26 +20,23 @@ next-element-requires c κs = search needs
 
 element-requires : tie.Need-element-requires
 element-requires c κs =
-    let start = c .before .before .before .before .before .before in
-    omega (arith, start .pre .1, next-inside _ _ _ _ _ (start .pre .0) (c .next-element .ensures .0))
+    let s = c .before .before .before .before .before .before .before in
+    omega (arith, s .pre .1, next-inside _ _ _ _ _ (s .pre .0) (c .next-element .ensures .0))
 
 bound-at-requires : tie.Need-bound-at-requires
 bound-at-requires c κs = search needs
 
-mul-bound : tie.Need-mul-bound
-mul-bound c = search needs
+mul-wide : tie.Need-mul-wide
+mul-wide c = search needs
 
-slice-read-bound : tie.Need-slice-read-bound
-slice-read-bound c =
-    let at-next-element = c .before .before .before .before in
-    let start = at-next-element .before .before .before .before .before .before in
-    omega (
-      arith,
-      start .pre .3,
-      c .before .bound-at .ensures,
-      yard-near _ _ _ _ _
-          (next-inside _ _ _ _ _ (start .pre .0) (at-next-element .next-element .ensures .0)) (c .before .before .before .element .ensures) (start .pre .2),
-    )
+shared-slice-read-wide : tie.Need-shared-slice-read-wide
+shared-slice-read-wide c =
+    let s = c .before .before .before .before .before .before .before .before .before .before .before in
+    let y = yard-near _ _ _ _ _ (next-inside _ _ _ _ _ (s .pre .0) (c .before .before .before .before .next-element .ensures .0)) (c .before .before .before .element .ensures) (s .pre .2) in
+    omega (arith, c .before .bound-at .ensures, y, s .pre .5, s .pre .6)
+
+wide-requires : tie.Need-wide-requires
+wide-requires c κs = search needs
 
 gone-at-requires : tie.Need-gone-at-requires
 gone-at-requires c κs = search needs
@@ -49,15 +46,9 @@ mul-words c = search needs
 
 slice-write-words : tie.Need-slice-write-words
 slice-write-words c =
-    let at-element = c .before .before .before .before in
-    let start = at-element .before .before .before .before .before .before .before in
-    omega (
-      arith,
-      start .pre .3,
-      c .gone-at .ensures,
-      yard-near _ _ _ _ _
-          (next-inside _ _ _ _ _ (start .pre .0) (at-element .before .next-element .ensures .0)) (at-element .element .ensures) (start .pre .2),
-    )
+    let s = c .before .before .before .before .before .before .before .before .before .before .before .before .before in
+    let y = yard-near _ _ _ _ _ (next-inside _ _ _ _ _ (s .pre .0) (c .before .before .before .before .before .before .next-element .ensures .0)) (c .before .before .before .before .before .element .ensures) (s .pre .2) in
+    omega (arith, s .pre .3, c .gone-at .ensures, y)
 
 key-at-requires : tie.Need-key-at-requires
 key-at-requires c κs = search needs
@@ -70,15 +61,9 @@ mul-words-2 c = search needs
 
 slice-write-words-2 : tie.Need-slice-write-words-2
 slice-write-words-2 c =
-    let at-element = c .before .before .before .before .before .before in
-    let start = at-element .before .before .before .before .before .before .before in
-    simp length-set (omega (
-      arith,
-      start .pre .3,
-      c .before .key-at .ensures,
-      yard-near _ _ _ _ _
-          (next-inside _ _ _ _ _ (start .pre .0) (at-element .before .next-element .ensures .0)) (at-element .element .ensures) (start .pre .2),
-    ))
+    let s = c .before .before .before .before .before .before .before .before .before .before .before .before .before .before .before in
+    let y = yard-near _ _ _ _ _ (next-inside _ _ _ _ _ (s .pre .0) (c .before .before .before .before .before .before .before .before .next-element .ensures .0)) (c .before .before .before .before .before .before .before .element .ensures) (s .pre .2) in
+    simp length-set (omega (arith, s .pre .3, c .before .key-at .ensures, y))
 
 next-element-requires-2 : tie.Need-next-element-requires-2
 next-element-requires-2 c κs = search needs
@@ -94,25 +79,23 @@ mul-words-3 c = search needs
 
 slice-write-words-3 : tie.Need-slice-write-words-3
 slice-write-words-3 c =
-    let start = c .before .before .before .before .before .before .before .before .before .before .before .before .before .before .before .before .before in
-    simp length-set (omega (arith, start .pre .3, start .pre .4))
+    let s = c .before .before .before .before .before .before .before .before .before .before .before .before .before .before .before .before .before .before .before in
+    simp length-set (omega (arith, s .pre .3, s .pre .4))
 
 same-length : tie.Need-same-length
 same-length c = search needs
 
 returns : tie.Need-returns
 returns c =
-    let at-next-element2 = c .before .before in
-    let at-key-at = at-next-element2 .before .before .before in
-    let at-bound-at = at-key-at .before .before .before in
-    let at-first-at = at-bound-at .before .before .before .before .before .before in
-    let start = at-first-at .before .before .before in
-    queued-is (start .args .h .regions) (start .args .h .junctions) _ _ (start .args .words .now) (start .args .r .number) _
-    (leaving-is _ _ _ _ (start .args .words .now) (start .pre .0) _ (at-bound-at .before .before .before .next-element .ensures .0) _
-    (at-bound-at .before .before .element .ensures))
-    _ _ _ _ (at-first-at .first-at .ensures) (at-bound-at .bound-at .ensures) (at-key-at .before .gone-at .ensures) (at-key-at .key-at .ensures) _
-    (at-next-element2 .before .before .greater64 .ensures)
-    _ _ _ (at-next-element2 .next-element2 .ensures .0) (at-next-element2 .next-element2 .ensures .1) (c .before .again-key .ensures)
+    let s = c .before .before .before .before .before .before .before .before .before .before .before .before .before .before .before .before .before .before .before in
+    let first = c .before .before .before .before .before .before .before .before .before .before .before .before .next-element .ensures in
+    let again = c .before .before .next-element2 .ensures in
+    let w = s .args .words .now in
+    queued-is (s .args .h .regions) (s .args .h .junctions) _ _ w (s .args .values .now) (s .args .r .number) _
+    (leaving-is _ _ _ _ w (s .args .values .now) (s .pre .0) _ (first .0) _ (c .before .before .before .before .before .before .before .before .before .before .before .element .ensures))
+    _ _ _ _ (c .before .before .before .before .before .before .before .before .before .before .before .before .before .before .before .first-at .ensures) (c .before .before .before .before .before .before .before .before .before .bound-at .ensures) (c .before .before .before .before .before .before .gone-at .ensures) (c .before .before .before .before .before .key-at .ensures) _
+    (rw (c .before .before .before .before .before .before .before .wide .ensures .0) at (c .before .before .before .before .greater64 .ensures))
+    _ _ _ (again .0) (again .1) (c .before .again-key .ensures)
 
 pub queue-next-spec : {M : Type 1} → statement M
 queue-next-spec =
@@ -124,8 +107,9 @@ queue-next-spec =
     next-element-requires
     element-requires
     bound-at-requires
-    mul-bound
-    slice-read-bound
+    mul-wide
+    shared-slice-read-wide
+    wide-requires
     gone-at-requires
     mul-words
     slice-write-words
