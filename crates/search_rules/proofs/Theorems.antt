@@ -25,7 +25,6 @@ use Rattle.search_rules.proofs.Ends.{enough, unsettled-taken, taken-wit
 use Rattle.search_rules.proofs.Level.{run-measured, run-within, run-bound-within}
 use Rattle.search_rules.proofs.Fitting.{run-fits}
 use Rattle.search_rules.proofs.Limits.{lower-most, upper-most, bound-most, weight-most, f-most, yardBound-most, total-most}
-use Rattle.search_rules.proofs.Bounds.{below-range}
 use Rattle.search_rules.proofs.Trees.{Accepted, tree-yards}
 
 -- the bounds of a true tree
@@ -131,14 +130,6 @@ listed-few i well limit t ys tree =
       ranked-length i (run i limit .state .measured),
       d .measured-few ys tree,
     )
-
--- what is listed fits in words of 32 bits
-pub listed-small : (i : Instance) → WellFormed i → (limit : ℕ) → T (answer i limit .settled) → (e : Element) → Mem e (answer i limit .listed)
-    → (e .distance ≤ 1072676880) × (e .yard < i .tree .junctions)
-listed-small i well limit t e k =
-    let l = answer-listing i well limit t in
-    let y = below-range i (well .shape) (l .in-tree e k) in
-    (rw (l .distances e k) (total-most i well (e .yard) y), y)
 
 -- ---- of a tree whose book is accepted
 
