@@ -1,4 +1,5 @@
--- A search's state in an array of words, its yards' values in another, and when it is settled. Assumes nothing: these are definitions.
+-- A search's state in an array of words, its yards' values in another, and when it is settled. Assumes nothing: these
+-- are definitions.
 use mathlib.Core.Path.{_≡_}
 use mathlib.Core.Bool.{Bool, not, _||_}
 use mathlib.Core.List.{List, [], _∷_}
