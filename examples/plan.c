@@ -33,8 +33,9 @@ int main(void)
     if (refusal != FINDER_ACCEPTED)
         return refused("check", refusal);
 
+    /* yards of any kind: these books tell none apart */
     struct finder_found found = finder_search(road, sizeof road, tree, built.length, query, sizeof query,
-                                              work, FINDER_WORK_WORDS, results, FINDER_RESULT_WORDS);
+                                              FINDER_ALL_KINDS, work, FINDER_WORK_WORDS, results, FINDER_RESULT_WORDS);
     if (found.refusal != FINDER_ACCEPTED)
         return refused("search", found.refusal);
     for (uint32_t i = 0; i < found.listed; i++)

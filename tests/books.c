@@ -7,7 +7,7 @@
 #include "books.h"
 
 static struct book road, yard, tree;
-static uint8_t built[FINDER_TREE_BYTES];
+static uint8_t built[FINDER_KINDS_TREE_BYTES];
 static uint32_t work[FINDER_WORK_WORDS];
 
 static void read_book(const char *path, struct book *book)

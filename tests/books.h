@@ -38,10 +38,22 @@ static inline void put32(struct book *book, size_t at, unsigned value)
 }
 
 /* The count is put when the book is closed. */
-static inline void open_book(struct book *book)
+static inline void open_version(struct book *book, unsigned version)
 {
     book->length = 4;
-    add8(book, FINDER_BOOK_VERSION);
+    add8(book, version);
+}
+
+static inline void open_book(struct book *book)
+{
+    open_version(book, FINDER_BOOK_VERSION);
+}
+
+/* The kinds of a yard or a region, which a book of version 1 has not. */
+static inline void add_kinds(struct book *book, unsigned kinds)
+{
+    if (book->bytes[4] == FINDER_KINDS_VERSION)
+        add8(book, kinds);
 }
 
 static inline void close_book(struct book *book)
@@ -69,15 +81,17 @@ static inline void write_chain(struct book *road, unsigned junctions, unsigned s
     close_book(road);
 }
 
-/* A yard at each of the first junctions. */
-static inline void write_yards(struct book *yard, unsigned yards)
+/* A yard of every kind at each of the first junctions. */
+static inline void write_yards(struct book *yard, unsigned version, unsigned yards)
 {
     unsigned v;
 
-    open_book(yard);
+    open_version(yard, version);
     add16(yard, yards);
-    for (v = 0; v < yards; v++)
+    for (v = 0; v < yards; v++) {
         add16(yard, v);
+        add_kinds(yard, FINDER_ALL_KINDS);
+    }
     close_book(yard);
 }
 
@@ -88,24 +102,26 @@ static inline void add_region(struct book *tree, unsigned first, unsigned after,
     add16(tree, after);
     add8(tree, children);
     add16(tree, yards);
+    add_kinds(tree, FINDER_ALL_KINDS);
     add16(tree, first);
 }
 
-/* A leaf of one junction, which is a yard. */
+/* A leaf of one junction, which is a yard of every kind. */
 static inline void add_leaf(struct book *tree, unsigned yard)
 {
     add_region(tree, yard, yard + 1, 0, 1);
     add32(tree, 0);
     add16(tree, yard);
+    add_kinds(tree, FINDER_ALL_KINDS);
 }
 
 /* The tree of so many levels, and as many yards, beside a chain of roads of 1 second: a region has the leaf of its
  * first junction and the region of all others as its children. */
-static inline void write_deep_tree(struct book *tree, unsigned junctions, unsigned levels)
+static inline void write_deep_tree(struct book *tree, unsigned version, unsigned junctions, unsigned levels)
 {
     unsigned v;
 
-    open_book(tree);
+    open_version(tree, version);
     add16(tree, junctions);
     add16(tree, 2 * levels - 1);
     add16(tree, levels);

@@ -1,6 +1,6 @@
 /* A small planner: builds a tree for net N, checks it, then damaged ones, searches it, for two yards and within drives,
- * and prints. In what it prints every returned field has a number of its own somewhere, so that no two can be exchanged
- * unseen. */
+ * does the same with a yard book of two kinds, and prints. In what it prints every returned field has a number of its
+ * own somewhere, so that no two can be exchanged unseen. */
 #include <stdio.h>
 
 #include "finder.h"
@@ -15,6 +15,18 @@ static const uint8_t road[] = {
 };
 static const uint8_t yard[] = {0, 0, 0, 9, 1, 0, 3, 0, 1, 0, 3, 0, 4};
 
+/* The same yards with kinds: yard 1 stocks chain, yard 3 slings, yard 4 both. */
+#define CHAIN 1
+#define SLINGS 2
+#define HOOKS 4 /* which no yard stocks */
+static const uint8_t kinds_yard[] = {
+    0, 0, 0, 12, FINDER_KINDS_VERSION, 0, 3, 0, 1, CHAIN, 0, 3, SLINGS, 0, 4, CHAIN | SLINGS,
+};
+
+/* The yard book that trees are built from and checked beside. */
+static const uint8_t *yards = yard;
+static size_t yards_length = sizeof yard;
+
 /* Sum, k 2, limit 4, crews at junctions 0 and 2. */
 static uint8_t query[] = {0, 0, 0, 12, FINDER_BOOK_VERSION, FINDER_SUM, 2, 0, 0, 0, 4, 2, 0, 0, 0, 2};
 #define AGGREGATE 5
@@ -26,7 +38,7 @@ static uint8_t query[] = {0, 0, 0, 12, FINDER_BOOK_VERSION, FINDER_SUM, 2, 0, 0,
  * is lent four result words, a drive search two for each of the tree's three yards. */
 #define RESULT_WORDS 4
 #define WITHIN_WORDS 6
-static uint8_t tree[FINDER_TREE_BYTES];
+static uint8_t tree[FINDER_KINDS_TREE_BYTES];
 static uint32_t work[FINDER_WORK_WORDS + 2];
 static uint32_t results[WITHIN_WORDS + 2];
 
@@ -60,7 +72,7 @@ static size_t build(const char *call, uint32_t m, uint32_t leaf_limit, size_t by
     struct finder_built built;
 
     fill_words();
-    built = finder_build(road, sizeof road, yard, sizeof yard, m, leaf_limit, work, FINDER_WORK_WORDS, tree, bytes);
+    built = finder_build(road, sizeof road, yards, yards_length, m, leaf_limit, work, FINDER_WORK_WORDS, tree, bytes);
     report(call, built.refusal);
     printf("  length %u\n", (unsigned)built.length);
     return built.length;
@@ -70,7 +82,7 @@ static size_t build(const char *call, uint32_t m, uint32_t leaf_limit, size_t by
 static void check(const char *call, size_t length, size_t words)
 {
     fill_words();
-    report(call, finder_check(road, sizeof road, yard, sizeof yard, tree, length, work, words));
+    report(call, finder_check(road, sizeof road, yards, yards_length, tree, length, work, words));
 }
 
 /* Prints the tree's bytes, and whether those after them are still 0. */
@@ -103,20 +115,33 @@ static void print_found(const char *call, struct finder_found found)
     printf("\n");
 }
 
-/* Searches the first bytes of the tree for what the query asks, with so many result words. */
-static void search(const char *call, size_t length, size_t words)
+/* Searches the first bytes of the tree for what the query asks, of the wanted kinds, with so many result words. */
+static void search_for(const char *call, size_t length, uint8_t wanted, size_t words)
 {
     fill_words();
-    print_found(call, finder_search(road, sizeof road, tree, length, query, sizeof query, work, FINDER_WORK_WORDS,
-                                    results, words));
+    print_found(call, finder_search(road, sizeof road, tree, length, query, sizeof query, wanted,
+                                    work, FINDER_WORK_WORDS, results, words));
 }
 
-/* Searches the first bytes of the tree for all yards within so many seconds, with so many result words. */
-static void within(const char *call, size_t length, uint32_t seconds, size_t words)
+/* The same for yards of any kind. */
+static void search(const char *call, size_t length, size_t words)
+{
+    search_for(call, length, FINDER_ALL_KINDS, words);
+}
+
+/* Searches the first bytes of the tree for all yards of the wanted kinds within so many seconds, with so many result
+ * words. */
+static void within_for(const char *call, size_t length, uint8_t wanted, uint32_t seconds, size_t words)
 {
     fill_words();
-    print_found(call, finder_within(road, sizeof road, tree, length, query, sizeof query, seconds,
+    print_found(call, finder_within(road, sizeof road, tree, length, query, sizeof query, wanted, seconds,
                                     work, FINDER_WORK_WORDS, results, words));
+}
+
+/* The same for yards of any kind. */
+static void within(const char *call, size_t length, uint32_t seconds, size_t words)
+{
+    within_for(call, length, FINDER_ALL_KINDS, seconds, words);
 }
 
 /* The query's searches: three are settled, one is spent, the others are refused. */
@@ -171,14 +196,71 @@ static void within_all(size_t length)
     query[K] = 2;
 }
 
+/* A tree byte changed for a check. */
+static void check_with(const char *call, size_t length, size_t at, uint8_t value)
+{
+    uint8_t before = tree[at];
+
+    tree[at] = value;
+    check(call, length, FINDER_WORK_WORDS);
+    tree[at] = before;
+}
+
+/* Where net N's tree with kinds has the version, the root's kinds, and those of yards 3 and 4. */
+#define VERSION 4
+#define ROOT_KINDS 19
+#define YARD_3_KINDS 35
+#define YARD_4_KINDS 42
+
+/* Builds and checks with the yard book of two kinds. */
+static size_t build_kinds(void)
+{
+    size_t length;
+
+    yards = kinds_yard;
+    yards_length = sizeof kinds_yard;
+    build("build with kinds into an area for none", 1, 3, FINDER_TREE_BYTES);
+    build("build with kinds into a short area", 1, 3, sizeof tree - 1);
+    length = build("build of net N's tree with kinds", 1, 3, sizeof tree);
+    print_tree(length);
+    check("check of it", length, FINDER_WORK_WORDS);
+    check_with("check of a root that lacks slings", length, ROOT_KINDS, CHAIN);
+    check_with("check of a root with hooks", length, ROOT_KINDS, CHAIN | SLINGS | HOOKS);
+    check_with("check of a yard that lacks chain", length, YARD_4_KINDS, SLINGS);
+    check_with("check of a yard of no kind", length, YARD_3_KINDS, 0);
+    check_with("check of a tree of version 3", length, VERSION, 3);
+    return length;
+}
+
+/* The query's searches for some kinds: those for hooks take no step, the last ones are refused. */
+static void search_kinds(size_t length)
+{
+    query[LIMIT] = 4;
+    search("search for two yards of any kind", length, RESULT_WORDS);
+    search_for("search for two yards with chain", length, CHAIN, RESULT_WORDS);
+    search_for("search for two yards with slings", length, SLINGS, RESULT_WORDS);
+    search_for("search for two yards with hooks", length, HOOKS, RESULT_WORDS);
+    search_for("search for two yards of no kind", length, 0, RESULT_WORDS);
+    search_for("search for two yards of no kind, short results", length, 0, RESULT_WORDS - 1);
+    within_for("yards with slings within 14 seconds", length, SLINGS, 14, WITHIN_WORDS);
+    within_for("yards with slings or hooks within any drive", length, SLINGS | HOOKS, UINT32_MAX, WITHIN_WORDS);
+    within_for("yards with hooks within any drive", length, HOOKS, UINT32_MAX, WITHIN_WORDS);
+    within_for("yards with chain within 14 seconds, results for them alone", length, CHAIN, 14, WITHIN_WORDS - 2);
+    within_for("yards of no kind within 14 seconds", length, 0, 14, WITHIN_WORDS);
+    query[K] = 65;
+    search_for("search for too many yards of no kind", length, 0, RESULT_WORDS);
+    within_for("yards of no kind within 14 seconds, k of 65", length, 0, 14, WITHIN_WORDS);
+    query[K] = 2;
+}
+
 int main(void)
 {
     size_t length;
 
-    build("build with five landmarks", 5, 3, sizeof tree);
-    build("build with no yard in a leaf", 1, 0, sizeof tree);
-    build("build into a short area", 1, 3, sizeof tree - 1);
-    length = build("build of net N's tree", 1, 3, sizeof tree);
+    build("build with five landmarks", 5, 3, FINDER_TREE_BYTES);
+    build("build with no yard in a leaf", 1, 0, FINDER_TREE_BYTES);
+    build("build into a short area", 1, 3, FINDER_TREE_BYTES - 1);
+    length = build("build of net N's tree", 1, 3, FINDER_TREE_BYTES);
     print_tree(length);
 
     check("check of it", length, FINDER_WORK_WORDS);
@@ -200,5 +282,11 @@ int main(void)
     move_landmark();
     check("check of another landmark", length, FINDER_WORK_WORDS);
     within_all(length);
+
+    length = build_kinds();
+    search_kinds(length);
+    yards = yard;
+    yards_length = sizeof yard;
+    check("check of kinds beside yards of every kind", length, FINDER_WORK_WORDS);
     return 0;
 }

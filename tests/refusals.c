@@ -1,5 +1,6 @@
-/* Each refusal by the header's name, of a drive search by each of its books and areas, and each of the header's limits:
- * a call at the limit passes, and one above it is refused. Prints what is not as expected. */
+/* Each refusal by the header's name, of a drive search by each of its books and areas, of books with kinds by each of
+ * their kind bytes, and each of the header's limits: a call at the limit passes, and one above it is refused. Prints
+ * what is not as expected. */
 #include <stdio.h>
 #include <string.h>
 
@@ -7,9 +8,13 @@
 
 _Static_assert(FINDER_SETTLING_LIMIT == FINDER_REGIONS_MAX / 2 + 2 * FINDER_YARDS_MAX, "inner regions, twice yards");
 _Static_assert(FINDER_WITHIN_WORDS == 2 * FINDER_YARDS_MAX, "two words for each yard");
+_Static_assert(FINDER_KINDS_TREE_BYTES
+               == FINDER_TREE_BYTES + FINDER_REGIONS_MAX + FINDER_LANDMARKS_MAX * FINDER_YARDS_MAX,
+               "a byte for each region and each entry of a list");
 
 static struct book road, yard, tree, query;
-static uint8_t built[FINDER_TREE_BYTES];
+static uint8_t wanted = FINDER_ALL_KINDS; /* of all searches */
+static uint8_t built[FINDER_KINDS_TREE_BYTES];
 static uint32_t work[FINDER_WORK_WORDS];
 static uint32_t results[FINDER_WITHIN_WORDS];
 static unsigned calls, failures;
@@ -46,7 +51,7 @@ static uint32_t build(uint32_t m, uint32_t leaf_limit)
 
 static struct finder_found search_with(size_t words)
 {
-    return finder_search(road.bytes, road.length, tree.bytes, tree.length, query.bytes, query.length,
+    return finder_search(road.bytes, road.length, tree.bytes, tree.length, query.bytes, query.length, wanted,
                          work, FINDER_WORK_WORDS, results, words);
 }
 
@@ -86,7 +91,7 @@ static struct finder_found within_with(uint32_t seconds, size_t work_words, size
     struct finder_found found;
 
     fill_areas();
-    found = finder_within(road.bytes, road.length, tree.bytes, tree.length, query.bytes, query.length, seconds,
+    found = finder_within(road.bytes, road.length, tree.bytes, tree.length, query.bytes, query.length, wanted, seconds,
                           work, work_words, results, result_words);
     if (found.refusal != FINDER_ACCEPTED && !refused_alone(&found)) {
         failures++;
@@ -121,6 +126,20 @@ static void take_built(uint32_t m, uint32_t leaf_limit)
         tree.bytes[tree.length] = built[tree.length];
 }
 
+/* Yards 1, 3 and 4; of kinds 1, 2 and 5, if the version has kinds. */
+static void write_three_yards(unsigned version)
+{
+    open_version(&yard, version);
+    add16(&yard, 3);
+    add16(&yard, 1);
+    add_kinds(&yard, 1);
+    add16(&yard, 3);
+    add_kinds(&yard, 2);
+    add16(&yard, 4);
+    add_kinds(&yard, 5);
+    close_book(&yard);
+}
+
 /* Net N: junctions 0 to 4 in a chain, seconds 2, 3, 4, 1; yards 1, 3, 4; the first two for crews at 0 and 2. */
 static void write_net_n(void)
 {
@@ -132,12 +151,7 @@ static void write_net_n(void)
     add_road(&road, 2, 3, 4);
     add_road(&road, 3, 4, 1);
     close_book(&road);
-    open_book(&yard);
-    add16(&yard, 3);
-    add16(&yard, 1);
-    add16(&yard, 3);
-    add16(&yard, 4);
-    close_book(&yard);
+    write_three_yards(FINDER_BOOK_VERSION);
     write_query(&query, 2, 2, 2);
 }
 
@@ -148,7 +162,9 @@ static void try_refusals(void)
     expect("check", check(), FINDER_ACCEPTED);
     expect("search", search(), FINDER_ACCEPTED);
     change("a count one less", &road, 3, 28, check, FINDER_REFUSED_LENGTH);
-    change("version 2", &tree, 4, 2, check, FINDER_REFUSED_VERSION);
+    change("version 2 of roads", &road, 4, FINDER_KINDS_VERSION, check, FINDER_REFUSED_VERSION);
+    change("version 3 of yards", &yard, 4, FINDER_KINDS_VERSION + 1, check, FINDER_REFUSED_VERSION);
+    change("version 3 of a tree", &tree, 4, FINDER_KINDS_VERSION + 1, check, FINDER_REFUSED_VERSION);
     change("no yard", &yard, 6, 0, check, FINDER_REFUSED_HEADER);
     change("a road after the last", &road, 8, 3, check, FINDER_REFUSED_RECORDS);
     change("a road of no seconds", &road, 14, 0, check, FINDER_REFUSED_VALUE);
@@ -176,8 +192,8 @@ static void resize(const char *what, struct book *book, size_t length, enum find
     close_book(book);
 }
 
-/* A book's opening and header, by a drive search. */
-static void try_opening(struct book *book, size_t header)
+/* A book's opening and header, by a drive search. Its version is 1 to the latest. */
+static void try_opening(struct book *book, uint8_t latest, size_t header)
 {
     size_t length = book->length;
 
@@ -189,7 +205,8 @@ static void try_opening(struct book *book, size_t header)
     expect("a byte more than the count", within(), FINDER_REFUSED_LENGTH);
     book->length = length;
     change("version 0", book, 4, 0, within, FINDER_REFUSED_VERSION);
-    change("version 2", book, 4, 2, within, FINDER_REFUSED_VERSION);
+    change("a version after the latest", book, 4, (uint8_t)(latest + 1), within, FINDER_REFUSED_VERSION);
+    change("version 255", book, 4, 255, within, FINDER_REFUSED_VERSION);
     resize("a header cut short", book, header - 1, FINDER_REFUSED_HEADER);
     resize("the last record cut short", book, length - 1, FINDER_REFUSED_RECORDS);
     resize("a byte after the last record", book, length + 1, FINDER_REFUSED_RECORDS);
@@ -201,9 +218,9 @@ static void try_refusals_of_within(void)
     write_net_n();
     take_built(1, 3);
     expect("within", within(), FINDER_ACCEPTED);
-    try_opening(&road, 9);
-    try_opening(&tree, 12);
-    try_opening(&query, 12);
+    try_opening(&road, FINDER_BOOK_VERSION, 9);
+    try_opening(&tree, FINDER_KINDS_VERSION, 12);
+    try_opening(&query, FINDER_BOOK_VERSION, 12);
     change("no junction", &road, 6, 0, within, FINDER_REFUSED_HEADER);
     change("no region", &tree, 8, 0, within, FINDER_REFUSED_HEADER);
     change("no yard", &tree, 10, 0, within, FINDER_REFUSED_HEADER);
@@ -231,13 +248,15 @@ static void try_refusals_of_within(void)
     expect("crews and one more", within(), FINDER_REFUSED_CREWS);
 }
 
-/* Of two faults the one that is tested first refuses: road, tree, query, areas. */
+/* Of two faults the one that is tested first refuses: road, tree, query, wanted kinds, areas. */
 static void try_order_of_within(void)
 {
     write_net_n();
     take_built(1, 3);
+    wanted = 0;
+    expect("no kind wanted, no areas", within_with(5, 0, 0).refusal, FINDER_REFUSED_WANTED);
     query.bytes[6] = 0; /* k */
-    expect("k of 0, no areas", within_with(5, 0, 0).refusal, FINDER_REFUSED_NUMBER);
+    expect("k of 0, no kind wanted", within_with(5, 0, 0).refusal, FINDER_REFUSED_NUMBER);
     query.bytes[15] = 5; /* the last crew */
     expect("a crew at no junction, k of 0", within_with(5, 0, 0).refusal, FINDER_REFUSED_CREWS);
     tree.bytes[6] = 6; /* the junctions */
@@ -246,6 +265,110 @@ static void try_order_of_within(void)
     expect("a tree of another shape before that", within_with(5, 0, 0).refusal, FINDER_REFUSED_SHAPE);
     road.bytes[6] = 6; /* the junctions */
     expect("a road book before a tree book", within_with(5, 0, 0).refusal, FINDER_REFUSED_UNREACHED);
+    wanted = FINDER_ALL_KINDS;
+}
+
+/* Net N with kinds, and its tree of 43 bytes: the root's kinds are at byte 19, those of the list at 28, 35 and 42. */
+#define KINDS_TREE_LENGTH 43
+#define ROOT_KINDS 19
+static const size_t list_kinds[] = {28, 35, 42};
+
+static void write_net_n_with_kinds(void)
+{
+    write_net_n();
+    write_three_yards(FINDER_KINDS_VERSION);
+    take_built(1, 3);
+    expect("check of kinds", check(), FINDER_ACCEPTED);
+    expect("search of kinds", search(), FINDER_ACCEPTED);
+    expect("within, of kinds", within(), FINDER_ACCEPTED);
+    if (tree.length != KINDS_TREE_LENGTH || tree.bytes[ROOT_KINDS] != 7) {
+        failures++;
+        printf("net N's tree with kinds has %zu bytes, and kinds %u\n", tree.length, (unsigned)tree.bytes[ROOT_KINDS]);
+    }
+}
+
+static uint32_t build_1_3(void)
+{
+    return build(1, 3);
+}
+
+/* Each kind byte as 0 and as one that is not true; the other version; a last record that lacks its kind byte. */
+static void try_refusals_of_kinds(void)
+{
+    size_t i;
+
+    write_net_n_with_kinds();
+    for (i = 9; i < yard.length; i += 3) {
+        change("a yard of no kind", &yard, i, 0, check, FINDER_REFUSED_VALUE);
+        change("a yard of no kind, to build with", &yard, i, 0, build_1_3, FINDER_REFUSED_VALUE);
+        change("a yard of every kind beside the tree", &yard, i, FINDER_ALL_KINDS, check, FINDER_REFUSED_DISTANCE);
+    }
+    for (i = 0; i < sizeof list_kinds / sizeof list_kinds[0]; i++) {
+        change("an entry of no kind", &tree, list_kinds[i], 0, check, FINDER_REFUSED_VALUE);
+        change("an entry of no kind, searched", &tree, list_kinds[i], 0, search, FINDER_REFUSED_VALUE);
+        change("an entry of no kind, within", &tree, list_kinds[i], 0, within, FINDER_REFUSED_VALUE);
+        change("an entry of another kind", &tree, list_kinds[i], 8, check, FINDER_REFUSED_DISTANCE);
+        change("an entry of another kind, which a search takes", &tree, list_kinds[i], 8, search, FINDER_ACCEPTED);
+    }
+    change("a root of no kind", &tree, ROOT_KINDS, 0, check, FINDER_REFUSED_VALUE);
+    change("a root of no kind, within", &tree, ROOT_KINDS, 0, within, FINDER_REFUSED_VALUE);
+    change("a root with a bit too many", &tree, ROOT_KINDS, 15, check, FINDER_REFUSED_DISTANCE);
+    change("a root with a bit too few", &tree, ROOT_KINDS, 3, check, FINDER_REFUSED_DISTANCE);
+    change("a root with a bit too few, within", &tree, ROOT_KINDS, 3, within, FINDER_ACCEPTED);
+    change("another yard before other kinds", &tree, list_kinds[2] - 1, 2, check, FINDER_REFUSED_DISAGREE);
+    change("kinds in version 1 of yards", &yard, 4, FINDER_BOOK_VERSION, check, FINDER_REFUSED_RECORDS);
+    change("kinds in version 1 of a tree", &tree, 4, FINDER_BOOK_VERSION, check, FINDER_REFUSED_RECORDS);
+    try_opening(&tree, FINDER_KINDS_VERSION, 12);
+}
+
+/* Books of different versions, and the areas of builds. */
+static void try_versions_of_kinds(void)
+{
+    write_net_n_with_kinds();
+    expect("a short area", build_with(1, 3, FINDER_KINDS_TREE_BYTES - 1).refusal, FINDER_REFUSED_AREA);
+    expect("an area for no kinds", build_with(1, 3, FINDER_TREE_BYTES).refusal, FINDER_REFUSED_AREA);
+    write_three_yards(FINDER_BOOK_VERSION);
+    expect("yards without kinds beside a tree with them", check(), FINDER_REFUSED_DISTANCE);
+    expect("the area for no kinds", build_with(1, 3, FINDER_TREE_BYTES).refusal, FINDER_ACCEPTED);
+    take_built(1, 3);
+    write_three_yards(FINDER_KINDS_VERSION);
+    expect("yards with kinds beside a tree without them", check(), FINDER_REFUSED_DISTANCE);
+    yard.bytes[9] = yard.bytes[12] = yard.bytes[15] = FINDER_ALL_KINDS;
+    expect("yards of every kind beside a tree without kinds", check(), FINDER_ACCEPTED);
+    take_built(1, 3);
+    write_three_yards(FINDER_BOOK_VERSION);
+    expect("yards without kinds beside a tree of every kind", check(), FINDER_ACCEPTED);
+}
+
+/* How many yards are listed for the wanted kinds, by both searches; none takes no step. */
+static void want(uint8_t kinds, uint32_t listed)
+{
+    struct finder_found first, drive;
+
+    wanted = kinds;
+    first = search_with(FINDER_RESULT_WORDS);
+    drive = within_with(UINT32_MAX, FINDER_WORK_WORDS, WITHIN_WORDS);
+    expect("wanted kinds", first.refusal, kinds == 0 ? FINDER_REFUSED_WANTED : FINDER_ACCEPTED);
+    expect("wanted kinds within any drive", drive.refusal, kinds == 0 ? FINDER_REFUSED_WANTED : FINDER_ACCEPTED);
+    if (first.listed != (listed < 2 ? listed : 2) || drive.listed != listed || (listed == 0) != (drive.taken == 0)) {
+        failures++;
+        printf("kinds %u: %u and %u yards listed\n", (unsigned)kinds, (unsigned)first.listed, (unsigned)drive.listed);
+    }
+    wanted = FINDER_ALL_KINDS;
+}
+
+/* Every wanted byte beside yards of kinds 1, 2 and 5, and beside a tree without kinds; the first two yards at most. */
+static void try_wanted_kinds(void)
+{
+    unsigned kinds;
+
+    write_net_n_with_kinds();
+    for (kinds = 0; kinds < 256; kinds++)
+        want((uint8_t)kinds, ((kinds & 1) != 0) + ((kinds & 2) != 0) + ((kinds & 5) != 0));
+    write_three_yards(FINDER_BOOK_VERSION);
+    take_built(1, 3);
+    for (kinds = 0; kinds < 256; kinds++)
+        want((uint8_t)kinds, kinds == 0 ? 0 : 3);
 }
 
 /* Every pair of 92 junctions, the first so many of them, has a road. */
@@ -264,7 +387,7 @@ static void write_pairs(unsigned roads)
 
 static void try_limits_of_roads_and_yards(void)
 {
-    write_yards(&yard, 1);
+    write_yards(&yard, FINDER_BOOK_VERSION, 1);
     write_pairs(FINDER_ROADS_MAX);
     expect("roads", build(1, 1), FINDER_ACCEPTED);
     write_pairs(FINDER_ROADS_MAX + 1);
@@ -274,9 +397,14 @@ static void try_limits_of_roads_and_yards(void)
     write_chain(&road, FINDER_JUNCTIONS_MAX, FINDER_SECONDS_MAX + 1);
     expect("seconds and one more, which is 0 in 16 bits", build(1, 1), FINDER_REFUSED_VALUE);
     write_chain(&road, FINDER_JUNCTIONS_MAX, FINDER_SECONDS_MAX);
-    write_yards(&yard, FINDER_YARDS_MAX + 1);
+    write_yards(&yard, FINDER_BOOK_VERSION, FINDER_YARDS_MAX + 1);
     expect("yards and one more", build(1, 1), FINDER_REFUSED_HEADER);
-    write_yards(&yard, FINDER_YARDS_MAX);
+    write_yards(&yard, FINDER_KINDS_VERSION, FINDER_YARDS_MAX + 1);
+    expect("yards with kinds and one more", build(1, 1), FINDER_REFUSED_HEADER);
+    write_yards(&yard, FINDER_KINDS_VERSION, FINDER_YARDS_MAX);
+    take_built(FINDER_LANDMARKS_MAX, FINDER_LEAF_LIMIT_MAX);
+    expect("check of a full leaf with kinds", check(), FINDER_ACCEPTED);
+    write_yards(&yard, FINDER_BOOK_VERSION, FINDER_YARDS_MAX);
     expect("landmarks and one more", build(FINDER_LANDMARKS_MAX + 1, 1), FINDER_REFUSED_NUMBER);
     expect("leaf limit and one more", build(1, FINDER_LEAF_LIMIT_MAX + 1), FINDER_REFUSED_NUMBER);
     take_built(FINDER_LANDMARKS_MAX, FINDER_LEAF_LIMIT_MAX);
@@ -337,17 +465,17 @@ static void try_limits_of_trees(void)
     expect("regions and one more", check(), FINDER_REFUSED_HEADER);
 }
 
-/* On a chain, with a tree that is as deep as one may be, and one that is deeper. */
-static void try_limits_of_depth(void)
+/* On a chain, with a tree of a version that is as deep as one may be, and one that is deeper. */
+static void try_limits_of_depth(unsigned version)
 {
     write_chain(&road, 20, 1);
-    write_yards(&yard, FINDER_LEVELS_MAX);
-    write_deep_tree(&tree, 20, FINDER_LEVELS_MAX);
+    write_yards(&yard, version, FINDER_LEVELS_MAX);
+    write_deep_tree(&tree, version, 20, FINDER_LEVELS_MAX);
     expect("levels", check(), FINDER_ACCEPTED);
     change("children", &tree, 16, FINDER_CHILDREN_MAX, check, FINDER_REFUSED_SHAPE);
     change("children and one more", &tree, 16, FINDER_CHILDREN_MAX + 1, check, FINDER_REFUSED_VALUE);
-    write_yards(&yard, FINDER_LEVELS_MAX + 1);
-    write_deep_tree(&tree, 20, FINDER_LEVELS_MAX + 1);
+    write_yards(&yard, version, FINDER_LEVELS_MAX + 1);
+    write_deep_tree(&tree, version, 20, FINDER_LEVELS_MAX + 1);
     expect("levels and one more", check(), FINDER_REFUSED_SHAPE);
 }
 
@@ -356,10 +484,14 @@ int main(void)
     try_refusals();
     try_refusals_of_within();
     try_order_of_within();
+    try_refusals_of_kinds();
+    try_versions_of_kinds();
+    try_wanted_kinds();
     try_limits_of_roads_and_yards();
     try_limits_of_queries();
     try_limits_of_trees();
-    try_limits_of_depth();
+    try_limits_of_depth(FINDER_BOOK_VERSION);
+    try_limits_of_depth(FINDER_KINDS_VERSION);
     printf("refusals and limits: %u calls, %u not as expected\n", calls, failures);
     return failures != 0;
 }

@@ -11,19 +11,20 @@
 
 static uint8_t area[AREA];
 static struct book road, yard, tree, query;
-static uint8_t built[FINDER_TREE_BYTES];
+static uint8_t built[FINDER_KINDS_TREE_BYTES];
 static uint32_t work[FINDER_WORK_WORDS];
 static uint32_t results[FINDER_WITHIN_WORDS];
 static uint32_t refusal;
 static ucontext_t here, there;
 
 /* A chain of as many junctions as there may be, and a tree as deep as one may be; a build cuts the chain six times. As
- * many crews and yards as one may ask for, with both ends of the chain among the crews. */
-static void write_books(void)
+ * many crews and yards as one may ask for, with both ends of the chain among the crews. The yard and tree books are of
+ * this version. */
+static void write_books(unsigned version)
 {
     write_chain(&road, FINDER_JUNCTIONS_MAX, 1);
-    write_yards(&yard, FINDER_LEVELS_MAX);
-    write_deep_tree(&tree, FINDER_JUNCTIONS_MAX, FINDER_LEVELS_MAX);
+    write_yards(&yard, version, FINDER_LEVELS_MAX);
+    write_deep_tree(&tree, version, FINDER_JUNCTIONS_MAX, FINDER_LEVELS_MAX);
     write_query(&query, FINDER_K_MAX, FINDER_CREWS_MAX, (FINDER_JUNCTIONS_MAX - 1) / (FINDER_CREWS_MAX - 1));
 }
 
@@ -42,13 +43,14 @@ static void build(void)
 static void search(void)
 {
     refusal = finder_search(road.bytes, road.length, tree.bytes, tree.length, query.bytes, query.length,
-                            work, FINDER_WORK_WORDS, results, FINDER_RESULT_WORDS).refusal;
+                            FINDER_ALL_KINDS, work, FINDER_WORK_WORDS, results, FINDER_RESULT_WORDS).refusal;
 }
 
 static void within(void)
 {
-    refusal = finder_within(road.bytes, road.length, tree.bytes, tree.length, query.bytes, query.length, UINT32_MAX,
-                            work, FINDER_WORK_WORDS, results, FINDER_WITHIN_WORDS).refusal;
+    refusal = finder_within(road.bytes, road.length, tree.bytes, tree.length, query.bytes, query.length,
+                            FINDER_ALL_KINDS, UINT32_MAX, work, FINDER_WORK_WORDS,
+                            results, FINDER_WITHIN_WORDS).refusal;
 }
 
 /* The stack that a call takes, in bytes. */
@@ -77,9 +79,19 @@ static int measure(const char *name, void (*call)(void), size_t bound)
     return refusal != FINDER_ACCEPTED || bytes > bound;
 }
 
-int main(void)
+/* Every call on books of a version; 0 if all are within their bounds. */
+static int measure_all(unsigned version)
 {
-    write_books();
+    printf("yard and tree books of version %u\n", version);
+    write_books(version);
     return measure("check", check, FINDER_CHECK_STACK_BYTES) + measure("build", build, FINDER_CHECK_STACK_BYTES)
         + measure("search", search, FINDER_STACK_BYTES) + measure("within", within, FINDER_STACK_BYTES);
+}
+
+int main(void)
+{
+    int beyond = measure_all(FINDER_BOOK_VERSION);
+
+    beyond += measure_all(FINDER_KINDS_VERSION);
+    return beyond;
 }

@@ -4,19 +4,19 @@ use crate::refusal::{refuse_unless, LENGTH, VERSION};
 
 /// "Each book is a 4-byte count of the bytes after it, a version byte (1), then fields."
 ///
-/// Tests 1 and 2; the answer is the fields.
-pub fn open(book: &[u8]) -> Result<&[u8], u32> {
+/// Tests 1 and 2, for a book that has versions 1 to the latest; the answer is the version and the fields.
+pub fn open(book: &[u8], latest: u8) -> Result<(u8, &[u8]), u32> {
     let counted = book.len() >= 5 && book.len() - 4 == u32_at(book, 0) as usize;
     refuse_unless(counted, LENGTH)?;
-    refuse_unless(book[4] == 1, VERSION)?;
-    Ok(&book[5..])
+    refuse_unless((1..=latest).contains(&book[4]), VERSION)?;
+    Ok((book[4], &book[5..]))
 }
 
 /// "Each book is a 4-byte count of the bytes after it, a version byte (1), then fields."
-pub fn close(fields: &[u8]) -> Vec<u8> {
+pub fn close(version: u8, fields: &[u8]) -> Vec<u8> {
     let mut book = Vec::with_capacity(fields.len() + 5);
     put_u32(&mut book, fields.len() as u32 + 1);
-    book.push(1);
+    book.push(version);
     book.extend_from_slice(fields);
     book
 }

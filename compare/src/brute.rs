@@ -78,10 +78,43 @@ pub fn listed(asked: Asked, all: &[Vec<u64>], yards: &[u16], query: &Query) -> V
     }
 }
 
-/// The list of a search on a tree that passes.
-pub fn list(asked: Asked, road: &RoadBook, tree: &Tree, query: &Query) -> Vec<(u64, u16)> {
+/// The list of a search for yards of the wanted kinds on a tree that passes.
+pub fn list(
+    asked: Asked,
+    wanted: u8,
+    road: &RoadBook,
+    tree: &Tree,
+    query: &Query,
+) -> Vec<(u64, u16)> {
     let all = crew_distances(road, query);
-    listed(asked, &all, &tree.yards_of(0), query)
+    listed(asked, &all, &wanted_yards(tree, wanted), query)
+}
+
+/// "a yard is wanted if its byte in its leaf's first list shares a bit": all such yards of a tree, rising.
+pub fn wanted_yards(tree: &Tree, wanted: u8) -> Vec<u16> {
+    let mut yards = Vec::new();
+    for region in &tree.regions {
+        for entry in region.landmarks[0].list() {
+            if (0..8).any(|bit| (entry.kinds >> bit) % 2 == 1 && (wanted >> bit) % 2 == 1) {
+                yards.push(entry.yard);
+            }
+        }
+    }
+    yards.sort();
+    yards
+}
+
+/// Of a tree's wanted yards those that can enter the queue: "Regions [...] without a wanted bit never enter". On a tree
+/// that passes they are all of them.
+pub fn entering_yards(tree: &Tree, wanted: u8) -> Vec<u16> {
+    let mut yards = wanted_yards(tree, wanted);
+    for number in 0..tree.regions.len() {
+        if tree.regions[number].kinds & wanted == 0 {
+            let hidden = tree.yards_of(number);
+            yards.retain(|yard| !hidden.contains(yard));
+        }
+    }
+    yards
 }
 
 /// The crews' distances, each at its junction's place; the others are left out.

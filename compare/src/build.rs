@@ -1,19 +1,31 @@
 //! Build: the tree of a road book and a yard book.
 
 use crate::check::span;
+use crate::kinds;
 use crate::refusal::{refuse_unless, zero_work, AREA, PARAMETER, WORK_WORDS};
 use crate::road::{Distances, RoadBook};
-use crate::tree::{Landmark, Region, Stored, Tree};
+use crate::tree::{Entry, Landmark, Region, Stored, Tree};
+use crate::yard::{Yard, YardBook};
 use crate::{road, tree, yard};
 
-/// "a built tree's area below 21,981 bytes".
+/// "a built tree's area below 21,981 bytes": of a version 1 build.
 pub const AREA_BYTES: usize = 21_981;
+/// "The version 2 build area must hold 23,516 bytes."
+pub const KINDS_AREA_BYTES: usize = 23_516;
 
 /// What build returns: "Build returns the tree's length."
 #[derive(Clone, Copy, Debug, Default, PartialEq, Eq)]
 pub struct Built {
     pub refusal: u32,
     pub length: u32,
+}
+
+/// The bytes that a build of this version must be lent.
+pub fn area_bytes(version: u8) -> usize {
+    match version {
+        1 => AREA_BYTES,
+        _ => KINDS_AREA_BYTES,
+    }
 }
 
 /// "The planner, in C, calls build"; "Bytes after a built tree stay."
@@ -48,12 +60,13 @@ fn tested(
     leaf_limit: u32,
     work: usize,
     area: usize,
-) -> Result<(RoadBook, Vec<u16>), u32> {
+) -> Result<(RoadBook, YardBook), u32> {
     let road = road::read(road)?;
     let yards = yard::read(yard, road.junctions)?;
     refuse_unless((1..=4).contains(&m), PARAMETER)?;
     refuse_unless((1..=256).contains(&leaf_limit), PARAMETER)?;
-    refuse_unless(work >= WORK_WORDS && area >= AREA_BYTES, AREA)?;
+    let needed = area_bytes(yards.version);
+    refuse_unless(work >= WORK_WORDS && area >= needed, AREA)?;
     Ok((road, yards))
 }
 
@@ -61,13 +74,13 @@ fn tested(
 pub struct Plan {
     pub first: u16,
     pub after: u16,
-    pub yards: Vec<u16>,
+    pub yards: Vec<Yard>,
     pub parts: Vec<Plan>,
 }
 
 impl Plan {
     /// A range with its yards and parts.
-    pub fn new(first: u16, after: u16, yards: &[u16], parts: Vec<Plan>) -> Self {
+    pub fn new(first: u16, after: u16, yards: &[Yard], parts: Vec<Plan>) -> Self {
         let yards = yards.to_vec();
         Plan {
             first,
@@ -78,23 +91,26 @@ impl Plan {
     }
 }
 
-/// "Given m (1 to 4) and a leaf limit (1 to 256). The first range is all junctions."
-fn built_tree(road: &RoadBook, yards: &[u16], m: u8, leaf_limit: usize) -> Tree {
-    let plan = plan(0, road.junctions, yards, leaf_limit);
+/// "Given m (1 to 4) and a leaf limit (1 to 256). The first range is all junctions." "a build writes its yard book's
+/// version".
+fn built_tree(road: &RoadBook, yards: &YardBook, m: u8, leaf_limit: usize) -> Tree {
+    let plan = plan(0, road.junctions, &yards.yards, leaf_limit);
     let choose = &mut |plan: &Plan| landmarks(road, plan.first, plan.after, m);
-    tree_of_plan(road, &plan, m, choose)
+    tree_of_plan(road, &plan, yards.version, m, choose)
 }
 
 /// The tree book of a plan, each region with the landmarks chosen for it.
 pub fn tree_of_plan(
     road: &RoadBook,
     plan: &Plan,
+    version: u8,
     m: u8,
     choose: &mut dyn FnMut(&Plan) -> Vec<u16>,
 ) -> Tree {
     let mut regions = Vec::new();
     preorder(plan, choose, &mut Distances::new(road), &mut regions);
     Tree {
+        version,
         junctions: road.junctions,
         yards: plan.yards.len() as u16,
         m,
@@ -105,7 +121,7 @@ pub fn tree_of_plan(
 /// "A range starting at a with s junctions is a leaf if it has no more yards than the limit. Otherwise it is
 /// cut [...]. Parts without yards are dropped; a region with one child is replaced by the child, whose range
 /// and landmarks stay."
-fn plan(first: u16, after: u16, yards: &[u16], leaf_limit: usize) -> Plan {
+fn plan(first: u16, after: u16, yards: &[Yard], leaf_limit: usize) -> Plan {
     let mut parts = Vec::new();
     if yards.len() > leaf_limit {
         for (first, after) in cut(first, after) {
@@ -129,8 +145,8 @@ fn cut(first: u16, after: u16) -> [(u16, u16); 4] {
 }
 
 /// The yards of a range.
-fn within(yards: &[u16], first: u16, after: u16) -> Vec<u16> {
-    let inside = |yard: &u16| (first..after).contains(yard);
+fn within(yards: &[Yard], first: u16, after: u16) -> Vec<Yard> {
+    let inside = |yard: &Yard| (first..after).contains(&yard.junction);
     yards.iter().copied().filter(inside).collect()
 }
 
@@ -164,6 +180,7 @@ fn preorder(
         after: plan.after,
         children: plan.parts.len() as u8,
         yards: plan.yards.len() as u16,
+        kinds: kinds::together(plan.yards.iter().map(|yard| yard.kinds)),
         landmarks,
     });
     for part in &plan.parts {
@@ -172,13 +189,18 @@ fn preorder(
 }
 
 /// "in a leaf, one pair (distance u32, yard u16) per yard, rising strictly by distance and then yard; in an
-/// inner region, least and greatest distance to its yards".
+/// inner region, least and greatest distance to its yards". "a yard's kind byte after each of its list entries".
 fn stored(plan: &Plan, from: &[u32]) -> Stored {
     if !plan.parts.is_empty() {
-        return span(&plan.yards, from);
+        let yards: Vec<u16> = plan.yards.iter().map(|yard| yard.junction).collect();
+        return span(&yards, from);
     }
-    let pair = |&yard: &u16| (from[usize::from(yard)], yard);
-    let mut list: Vec<(u32, u16)> = plan.yards.iter().map(pair).collect();
-    list.sort_unstable();
+    let entry = |yard: &Yard| Entry {
+        distance: from[usize::from(yard.junction)],
+        yard: yard.junction,
+        kinds: yard.kinds,
+    };
+    let mut list: Vec<Entry> = plan.yards.iter().map(entry).collect();
+    list.sort_unstable_by_key(Entry::pair);
     Stored::List(list)
 }

@@ -1,8 +1,12 @@
 //! Check: whether a tree book holds the truth about a road book and a yard book.
 
+use std::collections::BTreeMap;
+
+use crate::kinds;
 use crate::refusal::{refuse_unless, zero_work, AREA, DISAGREE, UNTRUE, WORK_WORDS};
 use crate::road::{Distances, RoadBook};
-use crate::tree::{Landmark, Stored, Tree};
+use crate::tree::{Entry, Landmark, Stored, Tree};
+use crate::yard::YardBook;
 use crate::{road, tree, yard};
 
 /// "The planner, in C, calls check": the refusal number, 0 if accepted.
@@ -22,8 +26,9 @@ fn tested(road: &[u8], yard: &[u8], tree: &[u8], work: usize) -> Result<(), u32>
     let road = road::read(road)?;
     let yards = yard::read(yard, road.junctions)?;
     let tree = tree::read(tree, road.junctions)?;
-    refuse_unless(tree.yards_of(0) == yards, DISAGREE)?;
+    refuse_unless(tree.yards_of(0) == yards.junctions(), DISAGREE)?;
     stored_values_are_true(&road, &tree)?;
+    refuse_unless(kinds_are_true(&yards, &tree), UNTRUE)?;
     refuse_unless(work >= WORK_WORDS, AREA)
 }
 
@@ -45,9 +50,23 @@ fn is_true(landmark: &Landmark, yards: &[u16], from: &[u32]) -> bool {
     match &landmark.stored {
         Stored::List(list) => list
             .iter()
-            .all(|&(distance, yard)| distance == from[usize::from(yard)]),
+            .all(|entry| entry.distance == from[usize::from(entry.yard)]),
         stored => *stored == span(yards, from),
     }
+}
+
+/// Test 9: "a false kind byte in a tree fails the check by 9": of a yard in any list, or of a region, where "a bit is
+/// set exactly if some yard in that region has it". The tree names the yard book's yards.
+fn kinds_are_true(yards: &YardBook, tree: &Tree) -> bool {
+    let yards = yards.yards.iter();
+    let kinds: BTreeMap<u16, u8> = yards.map(|yard| (yard.junction, yard.kinds)).collect();
+    let listed = |entry: &Entry| entry.kinds == kinds[&entry.yard];
+    let region = |(number, region): (usize, &tree::Region)| {
+        let of_yards = tree.yards_of(number).into_iter().map(|yard| kinds[&yard]);
+        let mut entries = region.landmarks.iter().flat_map(Landmark::list);
+        region.kinds == kinds::together(of_yards) && entries.all(listed)
+    };
+    tree.regions.iter().enumerate().all(region)
 }
 
 /// "least and greatest distance to its yards".

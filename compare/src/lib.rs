@@ -4,6 +4,7 @@
 #![forbid(unsafe_code)]
 
 pub mod book;
+pub mod kinds;
 pub mod refusal;
 pub mod road;
 pub mod yard;
@@ -18,6 +19,7 @@ pub mod search;
 
 pub mod eccentricity;
 pub mod list;
+pub mod outline;
 
 pub mod brute;
 pub mod generate;

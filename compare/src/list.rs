@@ -3,6 +3,7 @@
 use std::fmt::Write;
 
 use crate::book::u32_at;
+use crate::kinds;
 use crate::refusal::WORK_WORDS;
 use crate::search::{ask, Asked, Found};
 
@@ -32,11 +33,12 @@ fn seconds(line: &[u8]) -> Option<u32> {
     digits.then(|| std::str::from_utf8(line).ok()?.parse().ok())?
 }
 
-/// What is printed for three books in turn.
+/// What is printed for three books in turn: "The list program wants 255."
 fn asked(asked: Asked, books: &[u8], results: &mut [u32]) -> String {
     let (road, rest) = first_book(books);
     let (tree, query) = first_book(rest);
-    let found = ask(asked, [road, tree, query], &mut [0; WORK_WORDS], results);
+    let books = [road, tree, query];
+    let found = ask(asked, kinds::ALL, books, &mut [0; WORK_WORDS], results);
     printed(&found, results)
 }
 

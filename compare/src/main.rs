@@ -10,17 +10,19 @@ use std::str::FromStr;
 use compare::eccentricity::eccentricity;
 use compare::generate::standard;
 use compare::list::{list, rows, MOST_INPUT};
+use compare::outline::outline;
 use compare::{ask, build, check, Asked};
 
 const USAGE: &str = "usage: reference list < BYTES
        reference check ROAD YARD TREE WORK
        reference build ROAD YARD M LIMIT WORK AREA OUT
-       reference search ROAD TREE QUERY WORK RESULTS
-       reference within ROAD TREE QUERY SECONDS WORK RESULTS
+       reference search ROAD TREE QUERY WANTED WORK RESULTS
+       reference within ROAD TREE QUERY WANTED SECONDS WORK RESULTS
+       reference outline < TREE
        reference roads ROAD|-
        reference generate grid|random|star|chain|ring|longchain SEED > ROAD
-       reference generate yards N SEED > YARD
-ROAD, YARD, TREE and QUERY are files; WORK and RESULTS are numbers of words, AREA of bytes.";
+       reference generate yards|kinds N SEED > YARD
+ROAD, YARD, TREE and QUERY are files; WORK and RESULTS are numbers of words, AREA of bytes; WANTED is 0 to 255.";
 
 /// No area needs more; a longer one is lent at this length, which changes no answer.
 const MOST_LENT: u64 = 65_536;
@@ -50,6 +52,7 @@ fn answer(arguments: &[OsString]) -> Result<Vec<u8>, String> {
         Some("build") => build_command(rest),
         Some("search") => search_command(rest),
         Some("within") => within_command(rest),
+        Some("outline") => outline_command(rest),
         Some("roads") => roads_command(rest),
         Some("generate") => generate_command(rest),
         _ => Err(format!("unknown command {}", command.display())),
@@ -86,28 +89,42 @@ fn build_command(arguments: &[OsString]) -> Result<Vec<u8>, String> {
     Ok(format!("{} {}\n", built.refusal, built.length).into_bytes())
 }
 
-/// `reference search ROAD TREE QUERY WORK RESULTS`.
+/// `reference search ROAD TREE QUERY WANTED WORK RESULTS`.
 fn search_command(arguments: &[OsString]) -> Result<Vec<u8>, String> {
-    let [road, tree, query, work, results] = exactly(arguments)?;
-    asked(Asked::FirstK, [road, tree, query], [work, results])
+    let [road, tree, query, wanted, work, results] = exactly(arguments)?;
+    let files = [road, tree, query];
+    asked(Asked::FirstK, number(wanted)?, files, [work, results])
 }
 
-/// `reference within ROAD TREE QUERY SECONDS WORK RESULTS`.
+/// `reference within ROAD TREE QUERY WANTED SECONDS WORK RESULTS`.
 fn within_command(arguments: &[OsString]) -> Result<Vec<u8>, String> {
-    let [road, tree, query, seconds, work, results] = exactly(arguments)?;
+    let [road, tree, query, wanted, seconds, work, results] = exactly(arguments)?;
     let within = Asked::Within(number(seconds)?);
-    asked(within, [road, tree, query], [work, results])
+    let files = [road, tree, query];
+    asked(within, number(wanted)?, files, [work, results])
+}
+
+/// `reference outline < TREE`.
+fn outline_command(arguments: &[OsString]) -> Result<Vec<u8>, String> {
+    let [] = exactly(arguments)?;
+    let input = at_most(io::stdin(), "standard input")?;
+    Ok(outline(&input).into_bytes())
 }
 
 /// What a search of these files on areas of these lengths answers and lists.
-fn asked(asked: Asked, files: [&OsString; 3], areas: [&OsString; 2]) -> Result<Vec<u8>, String> {
+fn asked(
+    asked: Asked,
+    wanted: u8,
+    files: [&OsString; 3],
+    areas: [&OsString; 2],
+) -> Result<Vec<u8>, String> {
     let [road, tree, query] = files;
     let books = [file(road)?, file(tree)?, file(query)?];
     let [work, results] = areas;
     let mut work = vec![0; length(work)?];
     let mut results = vec![0; length(results)?];
     let books = books.each_ref().map(Vec::as_slice);
-    let found = ask(asked, books, &mut work, &mut results);
+    let found = ask(asked, wanted, books, &mut work, &mut results);
     let numbers = format!(
         "{} {} {} {} {}\n",
         found.refusal, found.settled, found.listed, found.taken, found.measured
@@ -128,13 +145,15 @@ fn roads_command(arguments: &[OsString]) -> Result<Vec<u8>, String> {
     Ok(eccentricity(&book).into_bytes())
 }
 
-/// `reference generate KIND SEED` and `reference generate yards N SEED`.
+/// `reference generate KIND SEED`, `reference generate yards N SEED` and `reference generate kinds N SEED`.
 fn generate_command(arguments: &[OsString]) -> Result<Vec<u8>, String> {
     if let [yards, count, seed] = arguments {
-        if yards == "yards" {
-            let book = standard::yard_book(number(count)?, number(seed)?);
-            return book.ok_or("N is not 1 to 256".to_string());
-        }
+        let book = match yards.to_str() {
+            Some("yards") => standard::yard_book(number(count)?, number(seed)?),
+            Some("kinds") => standard::kinds_yard_book(number(count)?, number(seed)?),
+            _ => return Err(format!("unknown kind {}", yards.display())),
+        };
+        return book.ok_or("N is not 1 to 256".to_string());
     }
     let [kind, seed] = exactly(arguments)?;
     let book = standard::road_book(&kind.to_string_lossy(), number(seed)?);

@@ -5,6 +5,9 @@ use std::iter::Sum;
 use crate::book::{close, open, put_u16, put_u32, u16_at, u32_at};
 use crate::refusal::{refuse_unless, CREWS, HEADER, PARAMETER, RECORD};
 
+/// A query book has version 1 only.
+const VERSION: u8 = 1;
+
 /// "The aggregate is the sum (code 0) or the maximum (code 1) over the crews."
 #[derive(Clone, Copy, Debug, PartialEq, Eq)]
 pub enum Aggregate {
@@ -33,7 +36,7 @@ pub struct Query {
 
 /// The query book's own tests, in order: "Query values fall to 10 and 11, never to 3 or 5."
 pub fn read(book: &[u8], road_junctions: u16) -> Result<Query, u32> {
-    let fields = open(book)?;
+    let (_, fields) = open(book, VERSION)?;
     refuse_unless(fields.len() >= 7, HEADER)?;
     let crews = records(&fields[7..], usize::from(fields[6]))?;
     crews_of_road_book(&crews, road_junctions)?;
@@ -78,5 +81,5 @@ pub fn write(aggregate: u8, k: u8, limit: u32, crews: &[u16]) -> Vec<u8> {
     put_u32(&mut fields, limit);
     fields.push(crews.len() as u8);
     crews.iter().for_each(|&crew| put_u16(&mut fields, crew));
-    close(&fields)
+    close(VERSION, &fields)
 }

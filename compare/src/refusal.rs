@@ -2,7 +2,7 @@
 
 /// 1. Fewer than five bytes, or the length isn't the count of bytes after it.
 pub const LENGTH: u32 = 1;
-/// 2. The version isn't 1.
+/// 2. The version isn't 1, nor 2 in a yard or tree book.
 pub const VERSION: u32 = 2;
 /// 3. The header is incomplete, or a junction, road, yard, region or landmark count is outside its limits.
 pub const HEADER: u32 = 3;
@@ -16,7 +16,7 @@ pub const UNREACHED: u32 = 6;
 pub const SHAPE: u32 = 7;
 /// 8. Junction counts or yards disagree between books, or a yard isn't a junction of the road book.
 pub const DISAGREE: u32 = 8;
-/// 9. In a check only: a stored distance, least or greatest isn't the true one.
+/// 9. In a check only: a stored distance, least or greatest isn't the true one; "a false kind byte in a tree".
 pub const UNTRUE: u32 = 9;
 /// 10. Crews are none, more than 16, or at no junction of the road book.
 pub const CREWS: u32 = 10;
@@ -24,6 +24,8 @@ pub const CREWS: u32 = 10;
 pub const PARAMETER: u32 = 11;
 /// 12. A lent area is too short.
 pub const AREA: u32 = 12;
+/// "Refused: 13, the wanted byte is 0, tested directly after 11."
+pub const WANTED: u32 = 13;
 
 /// "work below 16,384 words".
 pub const WORK_WORDS: usize = 16_384;

@@ -10,6 +10,8 @@ use crate::refusal::{refuse_unless, HEADER, RECORD, UNREACHED, VALUE};
 pub const MOST_JUNCTIONS: u16 = 1_024;
 /// The most roads that a book may count.
 pub const MOST_ROADS: u16 = 4_096;
+/// A road book has version 1 only.
+const VERSION: u8 = 1;
 /// The distance of a junction that no walk reaches.
 pub const NO_WALK: u32 = u32::MAX;
 
@@ -43,7 +45,7 @@ pub fn read(book: &[u8]) -> Result<RoadBook, u32> {
 
 /// Tests 1 to 5: the book may have junctions that can't be reached.
 pub fn read_layout(book: &[u8]) -> Result<RoadBook, u32> {
-    let fields = open(book)?;
+    let (_, fields) = open(book, VERSION)?;
     let (junctions, count) = header(fields)?;
     let roads = records(&fields[4..], count)?;
     values(junctions, &roads)?;
@@ -176,5 +178,5 @@ pub fn write(junctions: u16, roads: &[Road]) -> Vec<u8> {
         put_u16(&mut fields, road.high);
         put_u16(&mut fields, road.seconds);
     }
-    close(&fields)
+    close(VERSION, &fields)
 }

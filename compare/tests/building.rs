@@ -1,16 +1,17 @@
 //! Build, then check, then read back.
 
-use compare::build::{landmarks, AREA_BYTES};
+use compare::build::{area_bytes, landmarks, KINDS_AREA_BYTES};
 use compare::generate::district::{district, random_tree};
 use compare::generate::{standard, Numbers};
 use compare::refusal::WORK_WORDS;
 use compare::road::{Distances, Road};
-use compare::tree::{Stored, Tree};
-use compare::{brute, build, check, road, tree, yard};
+use compare::tree::{Entry, Stored, Tree};
+use compare::yard::Yard;
+use compare::{brute, build, check, kinds, road, tree, yard};
 
 /// The built tree, in an area that held 7 everywhere.
 fn built(road: &[u8], yard: &[u8], m: u32, leaf_limit: u32) -> Vec<u8> {
-    let mut area = vec![7; AREA_BYTES + 3];
+    let mut area = vec![7; KINDS_AREA_BYTES + 3];
     let mut work = vec![7; WORK_WORDS + 3];
     let built = build(road, yard, m, leaf_limit, &mut work, &mut area);
     assert_eq!(built.refusal, 0);
@@ -66,6 +67,8 @@ fn build_check_read() {
         let tree = tree::read(&book, d.junctions).unwrap();
         assert_eq!(tree::write(&tree), book);
         assert_eq!(tree.yards_of(0), d.yards);
+        assert_eq!(tree.version, d.book.version);
+        assert_eq!(tree.yards_with_kinds(0), d.book.yards);
         assert_eq!((u32::from(tree.m), tree.junctions), (m, d.junctions));
         assert_leaf_limit(&tree, leaf_limit);
         let mut seen = 0;
@@ -83,16 +86,22 @@ fn stored_values_by_brute_force() {
         let all = brute::all_distances(&roads);
         let tree = tree::read(&built(&d.road, &d.yard, 3, 2), d.junctions).unwrap();
         for region in &tree.regions {
-            let inside = |yard: &&u16| (region.first..region.after).contains(*yard);
-            let yards: Vec<u16> = d.yards.iter().filter(inside).copied().collect();
+            let inside = |yard: &&Yard| (region.first..region.after).contains(&yard.junction);
+            let yards: Vec<Yard> = d.book.yards.iter().filter(inside).copied().collect();
+            let some_yard = |bit: u32| yards.iter().any(|yard| (yard.kinds >> bit) % 2 == 1);
+            for bit in 0..8 {
+                assert_eq!((region.kinds >> bit) % 2 == 1, some_yard(bit));
+            }
             for landmark in &region.landmarks {
                 let from = &all[usize::from(landmark.junction)];
-                let distances = yards
-                    .iter()
-                    .map(|&yard| (from[usize::from(yard)] as u32, yard));
-                let mut list: Vec<(u32, u16)> = distances.collect();
-                list.sort();
-                let (least, greatest) = (list[0].0, list[list.len() - 1].0);
+                let entry = |yard: &Yard| Entry {
+                    distance: from[usize::from(yard.junction)] as u32,
+                    yard: yard.junction,
+                    kinds: yard.kinds,
+                };
+                let mut list: Vec<Entry> = yards.iter().map(entry).collect();
+                list.sort_by_key(|entry| (entry.distance, entry.yard));
+                let (least, greatest) = (list[0].distance, list[list.len() - 1].distance);
                 match &landmark.stored {
                     Stored::List(stored) => assert_eq!(*stored, list),
                     stored => assert_eq!(*stored, Stored::Span { least, greatest }),
@@ -108,7 +117,7 @@ fn random_trees_pass() {
     for _ in 0..1_000 {
         let d = district(&mut numbers, 40);
         let roads = road::read(&d.road).unwrap();
-        let tree = random_tree(&mut numbers, &roads, &d.yards);
+        let tree = random_tree(&mut numbers, &roads, &d.book);
         assert_eq!(checked(&d.road, &d.yard, &tree::write(&tree)), 0);
     }
 }
@@ -195,9 +204,12 @@ fn the_greatest_tree() {
     }
     let road = standard::road_book("random", 3).unwrap();
     for yards in [yards, parts] {
-        let book = built(&road, &yard::write(&yards), 4, 1);
-        assert!(book.len() <= AREA_BYTES);
-        assert_eq!(checked(&road, &yard::write(&yards), &book), 0);
+        for version in [1, kinds::VERSION] {
+            let yard = yard::write_version(version, &yard::of_all_kinds(&yards));
+            let book = built(&road, &yard, 4, 1);
+            assert!(book.len() <= area_bytes(version));
+            assert_eq!(checked(&road, &yard, &book), 0);
+        }
     }
     assert_eq!(
         standard::road_book("random", 3).unwrap().len(),

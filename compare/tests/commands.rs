@@ -36,7 +36,7 @@ fn file(name: &str, bytes: &[u8]) -> String {
 
 #[test]
 fn lists() {
-    let books = [sound_road(), sound_tree(), sound_query()].concat();
+    let books = [sound_road(), sound_tree(1), sound_query()].concat();
     let expected = compare::list::list(&books);
     assert_eq!(printed(&["list"], &books), expected);
     assert!(expected.starts_with("yard seconds\n"));
@@ -51,8 +51,8 @@ fn lists() {
 #[test]
 fn checks_builds_and_searches() {
     let road = file("road", &sound_road());
-    let yard = file("yard", &sound_yard());
-    let tree = file("tree", &sound_tree());
+    let yard = file("yard", &sound_yard(1));
+    let tree = file("tree", &sound_tree(1));
     let query = file("query", &sound_query());
     let out = file("out", &[]);
     assert_eq!(
@@ -64,24 +64,72 @@ fn checks_builds_and_searches() {
         "12\n"
     );
     assert_eq!(printed(&["check", &road, &road, &tree, "0"], &[]), "4\n");
-    let length = sound_tree().len();
+    let length = sound_tree(1).len();
     let most = u64::MAX.to_string();
     let build = ["build", &road, &yard, "2", "2", &most, "21981", &out];
     assert_eq!(printed(&build, &[]), format!("0 {length}\n"));
-    assert_eq!(fs::read(&out).unwrap(), sound_tree());
+    assert_eq!(fs::read(&out).unwrap(), sound_tree(1));
     let short = ["build", &road, &yard, "2", "2", &most, "21980", &out];
     assert_eq!(printed(&short, &[]), "12 0\n");
-    let search = ["search", &road, &tree, &query, "16384", "4"];
+    let search = ["search", &road, &tree, &query, "255", "16384", "4"];
     assert_eq!(printed(&search, &[]), "0 1 2 9 4\n1 91\n2 91\n");
-    let short = ["search", &road, &tree, &query, "16384", "3"];
+    let short = ["search", &road, &tree, &query, "255", "16384", "3"];
     assert_eq!(printed(&short, &[]), "12 0 0 0 0\n");
     let within = |seconds, words| {
-        let arguments = ["within", &road, &tree, &query, seconds, "16384", words];
+        let arguments = [
+            "within", &road, &tree, &query, "255", seconds, "16384", words,
+        ];
         printed(&arguments, &[])
     };
     assert_eq!(within("91", "10"), "0 1 4 9 4\n1 91\n2 91\n5 91\n6 91\n");
     assert_eq!(within("90", "10"), "0 1 0 5 0\n");
     assert_eq!(within("91", "9"), "12 0 0 0 0\n");
+}
+
+/// Yards 1, 2, 5, 6 and 14 of kinds 1, 2, 5, 2 and 4.
+#[test]
+fn kinds() {
+    let road = file("kinds-road", &sound_road());
+    let yard = file("kinds-yard", &sound_yard(2));
+    let tree = file("kinds-tree", &sound_tree(2));
+    let query = file("kinds-query", &sound_query());
+    let out = file("kinds-out", &[]);
+    let length = sound_tree(2).len();
+    let build = ["build", &road, &yard, "2", "2", "16384", "23516", &out];
+    assert_eq!(printed(&build, &[]), format!("0 {length}\n"));
+    assert_eq!(fs::read(&out).unwrap(), sound_tree(2));
+    let short = ["build", &road, &yard, "2", "2", "16384", "23515", &out];
+    assert_eq!(printed(&short, &[]), "12 0\n");
+    let search = |wanted| {
+        let arguments = ["search", &road, &tree, &query, wanted, "16384", "4"];
+        printed(&arguments, &[])
+    };
+    assert_eq!(search("255"), "0 1 2 9 4\n1 91\n2 91\n");
+    assert_eq!(search("4"), "0 1 2 5 2\n5 91\n14 371\n");
+    assert_eq!(search("8"), "0 1 0 0 0\n");
+    assert_eq!(search("0"), "13 0 0 0 0\n");
+    let within = |wanted| {
+        let arguments = ["within", &road, &tree, &query, wanted, "91", "16384", "10"];
+        printed(&arguments, &[])
+    };
+    assert_eq!(within("2"), "0 1 2 5 2\n2 91\n6 91\n");
+    assert_eq!(within("0"), "13 0 0 0 0\n");
+}
+
+#[test]
+fn outlines() {
+    let counts = "junctions 16 regions 4 yards 5 landmarks 2\n";
+    let first = "level first after children yards\n1 0 16 3 5\n2 0 4 0 2\n2 4 8 0 2\n2 12 16 0 1\n";
+    assert_eq!(
+        printed(&["outline"], &sound_tree(1)),
+        format!("{counts}{first}")
+    );
+    let second = "level first after children yards kinds\n1 0 16 3 5 7\n2 0 4 0 2 3\n2 4 8 0 2 7\n2 12 16 0 1 4\n";
+    assert_eq!(
+        printed(&["outline"], &sound_tree(2)),
+        format!("{counts}{second}")
+    );
+    assert_eq!(printed(&["outline"], &[]), "refused 1\n");
 }
 
 #[test]
@@ -126,13 +174,21 @@ fn generates() {
         assert!(compare::road::read(&book).is_ok(), "{kind}");
     }
     let book = run(&["generate", "yards", "256", "1"], &[]).stdout;
-    assert_eq!(compare::yard::read(&book, 1_024).unwrap().len(), 256);
+    let yards = compare::yard::read(&book, 1_024).unwrap();
+    assert_eq!((yards.version, yards.yards.len()), (1, 256));
+    let book = run(&["generate", "kinds", "256", "1"], &[]).stdout;
+    let kinds = compare::yard::read(&book, 1_024).unwrap();
+    assert_eq!((kinds.version, kinds.junctions()), (2, yards.junctions()));
+    for bit in 0..8 {
+        let has = kinds.yards.iter().filter(|yard| yard.kinds == 1 << bit);
+        assert_eq!(has.count(), 32);
+    }
 }
 
 #[test]
 fn usage() {
     let road = file("usage", &sound_road());
-    let wrong: [&[&str]; 17] = [
+    let wrong: [&[&str]; 22] = [
         &[],
         &["unknown"],
         &["list", "more"],
@@ -141,15 +197,20 @@ fn usage() {
         &["check", &road, &road, &road, "-1"],
         &["check", &road, &road, &road, "words"],
         &["build", &road, &road, "4294967296", "1", "1", "1", "out"],
-        &["search", &road, &road, &road, "1"],
-        &["within", &road, &road, &road, "1", "1"],
-        &["within", &road, &road, &road, "4294967296", "1", "1"],
-        &["within", &road, &road, &road, "-1", "1", "1"],
+        &["search", &road, &road, &road, "1", "1"],
+        &["search", &road, &road, &road, "256", "1", "1"],
+        &["search", &road, &road, &road, "-1", "1", "1"],
+        &["within", &road, &road, &road, "1", "1", "1"],
+        &["within", &road, &road, &road, "1", "4294967296", "1", "1"],
+        &["within", &road, &road, &road, "1", "-1", "1", "1"],
+        &["outline", "more"],
         &["roads"],
         &["generate", "unknown", "1"],
         &["generate", "grid", "4294967296"],
         &["generate", "yards", "257", "1"],
         &["generate", "yards", "0", "1"],
+        &["generate", "kinds", "0", "1"],
+        &["generate", "unknown", "1", "1"],
     ];
     for arguments in wrong {
         let output = run(arguments, &[]);

@@ -2,6 +2,7 @@
 
 use compare::build::AREA_BYTES;
 use compare::generate::district::chain;
+use compare::kinds;
 use compare::list::list;
 use compare::query::Aggregate;
 use compare::refusal::WORK_WORDS;
@@ -26,8 +27,8 @@ fn tree(road: &[u8], yards: &[u16]) -> Vec<u8> {
 /// What a search returns and lists.
 fn listed(road: &[u8], yards: &[u16], query: &[u8]) -> (Found, Vec<(u32, u32)>) {
     let mut results = [0; 128];
-    let tree = tree(road, yards);
-    let found = search(road, &tree, query, &mut [9; WORK_WORDS], &mut results);
+    let (tree, work) = (tree(road, yards), &mut [9; WORK_WORDS]);
+    let found = search(road, &tree, query, kinds::ALL, work, &mut results);
     let pairs = results.chunks(2).take(found.listed as usize);
     (found, pairs.map(|words| (words[0], words[1])).collect())
 }
@@ -134,7 +135,15 @@ fn within_a_drive() {
             let query = query::write(0, k, 6, &[0, 2]);
             let mut results = [9; 7];
             let work = &mut [9; WORK_WORDS];
-            let found = within(&road, &tree, &query, seconds, work, &mut results);
+            let found = within(
+                &road,
+                &tree,
+                &query,
+                kinds::ALL,
+                seconds,
+                work,
+                &mut results,
+            );
             assert_eq!((found.refusal, found.settled), (0, 1));
             assert_eq!(found.listed, listed, "{seconds} seconds");
             let words = 2 * listed as usize;

@@ -4,7 +4,9 @@ use std::fs;
 use std::path::{Path, PathBuf};
 
 use compare::build::AREA_BYTES;
+use compare::kinds;
 use compare::list::{list, within, MOST_INPUT};
+use compare::outline::outline;
 use compare::refusal::WORK_WORDS;
 use compare::road::Road;
 use compare::{build, query, road, search, yard};
@@ -47,7 +49,8 @@ fn tree(road: &[u8]) -> Vec<u8> {
 
 /// An example's line: its name, and what a search by its books answers.
 fn line(name: &str, road: &[u8], tree: &[u8], query: &[u8]) -> String {
-    let found = search(road, tree, query, &mut [0; WORK_WORDS], &mut [0; 128]);
+    let (work, results) = (&mut [0; WORK_WORDS], &mut [0; 128]);
+    let found = search(road, tree, query, kinds::ALL, work, results);
     match found.refusal {
         0 => format!("{name}: accepted\n"),
         why => format!("{name}: refused {why}\n"),
@@ -135,6 +138,11 @@ fn cases_of_list() {
 #[test]
 fn cases_of_within() {
     cases("tests/cases/within", within);
+}
+
+#[test]
+fn cases_of_outline() {
+    cases("tests/cases/outline", outline);
 }
 
 #[test]

@@ -2,23 +2,25 @@
 
 use std::collections::BTreeSet;
 
-use compare::build::AREA_BYTES;
+use compare::build::KINDS_AREA_BYTES;
 use compare::generate::call::seconds;
 use compare::generate::damage::random_damage;
-use compare::generate::district::{district, false_tree, query_book, random_tree};
+use compare::generate::district::{district, false_tree, query_book, random_tree, wanted};
 use compare::generate::{standard, Numbers};
+use compare::kinds::{self, ALL};
 use compare::query::{self, Query};
 use compare::refusal::WORK_WORDS;
 use compare::road::RoadBook;
 use compare::search::state::{Item, State};
-use compare::search::{run, run_seen, tested};
-use compare::tree::Tree;
+use compare::search::{run, run_seen, tested, Search};
+use compare::tree::{Region, Tree};
 use compare::{ask, ask_by, brute, build, check, road, search, tree, within, yard};
 use compare::{Asked, Found, Measuring};
 
-/// The three books of a search, and what it is asked for.
+/// The three books of a search, what it is asked for, and the wanted kinds.
 struct Books {
     asked: Asked,
+    wanted: u8,
     road: Vec<u8>,
     tree: Vec<u8>,
     query: Vec<u8>,
@@ -37,8 +39,18 @@ impl Books {
         let Ok(tree) = tree::read(&self.tree, road.junctions) else {
             return false;
         };
-        let yard = yard::write(&tree.yards_of(0));
+        let yard = yard::write_version(kinds::VERSION, &tree.yards_with_kinds(0));
         check(&self.road, &yard, &self.tree, &mut [0; WORK_WORDS]) == 0
+    }
+
+    /// Makes the search.
+    fn ask(&self, work: &mut [u32], results: &mut [u32]) -> Found {
+        ask(self.asked, self.wanted, self.all(), work, results)
+    }
+
+    /// The search, which is not refused.
+    fn tested(&self) -> Search {
+        tested(self.asked, self.wanted, self.all(), WORK_WORDS, 512).unwrap()
     }
 
     /// The books read; they must pass.
@@ -57,10 +69,10 @@ fn random_books(numbers: &mut Numbers, most: u16) -> Books {
     let tree = match numbers.between(0, 3) {
         0 => tree::read(&built(numbers, &d.road, &d.yard), d.junctions).unwrap(),
         1 => {
-            let tree = random_tree(numbers, &roads, &d.yards);
+            let tree = random_tree(numbers, &roads, &d.book);
             false_tree(numbers, &tree)
         }
-        _ => random_tree(numbers, &roads, &d.yards),
+        _ => random_tree(numbers, &roads, &d.book),
     };
     let query = query_book(numbers, d.junctions);
     let asked = match numbers.between(0, 1) {
@@ -69,6 +81,7 @@ fn random_books(numbers: &mut Numbers, most: u16) -> Books {
     };
     Books {
         asked,
+        wanted: wanted(numbers).max(1),
         query,
         tree: tree::write(&tree),
         road: d.road,
@@ -77,7 +90,7 @@ fn random_books(numbers: &mut Numbers, most: u16) -> Books {
 
 /// The tree that build gives for some m and leaf limit.
 fn built(numbers: &mut Numbers, road: &[u8], yard: &[u8]) -> Vec<u8> {
-    let mut area = vec![0; AREA_BYTES];
+    let mut area = vec![0; KINDS_AREA_BYTES];
     let (m, limit) = (numbers.between(1, 4) as u32, numbers.between(1, 6) as u32);
     let built = build(road, yard, m, limit, &mut [0; WORK_WORDS], &mut area);
     assert_eq!(built.refusal, 0);
@@ -93,63 +106,73 @@ fn listed(found: &Found, results: &[u32]) -> Vec<(u64, u16)> {
         .collect()
 }
 
-/// "inner regions plus twice the yards".
-fn settling_limit(tree: &Tree) -> u64 {
-    let inner = tree.regions.iter().filter(|region| !region.is_leaf());
-    inner.count() as u64 + 2 * u64::from(tree.yards)
+/// "inner regions plus twice the yards", of which those "now concern wanted yards". On a tree that check refuses by 9 a
+/// leaf may be taken once for no wanted yard.
+fn settling_limit(tree: &Tree, wanted: u8, passes: bool) -> u64 {
+    let steps = |region: &Region| match (region.is_leaf(), passes) {
+        (false, _) => 1,
+        (true, true) => region.wanted_yards(wanted).len() as u64,
+        (true, false) => region.wanted_yards(wanted).len().max(1) as u64,
+    };
+    let regions: u64 = tree.regions.iter().map(steps).sum();
+    regions + brute::wanted_yards(tree, wanted).len() as u64
 }
 
-/// Demand 3's first three clauses for one search that was not refused.
+/// Demand 3's first three clauses for one search that was not refused, about the wanted yards.
 fn assert_search(books: &Books, found: &Found, list: &[(u64, u16)]) {
     let (road, tree, query) = books.read();
     let all = brute::all_distances(&road);
-    let yards = tree.yards_of(0);
-    if u64::from(query.limit) >= settling_limit(&tree) {
+    let yards = brute::wanted_yards(&tree, books.wanted);
+    let passes = books.passes();
+    if u64::from(query.limit) >= settling_limit(&tree, books.wanted, passes) {
         assert_eq!(found.settled, 1);
     }
     let spent_all = found.settled == 1 || found.taken == query.limit;
     assert!(spent_all && found.taken <= query.limit);
-    let passes = books.passes();
+    let entering = brute::entering_yards(&tree, books.wanted);
+    assert!(entering.iter().all(|yard| yards.contains(yard)));
+    assert_measured(books, &entering, found);
     if passes {
-        assert_measured(books, &all, found, list);
+        assert_eq!(entering.len(), yards.len());
+        assert_bounds(books, &all, list);
     }
     match (found.settled, passes) {
         (0, _) => assert!(list.is_empty()),
         (_, true) => assert_eq!(list, brute::listed(books.asked, &all, &yards, &query)),
-        (_, false) => assert_true_list(books.asked, &all, &yards, &query, list),
+        (_, false) => assert_true_list(books, &all, &entering, list),
     }
+}
+
+/// "Regions and yards without a wanted bit never enter the queue": only yards that can enter are measured, each once.
+fn assert_measured(books: &Books, entering: &[u16], found: &Found) {
+    let measured = run(&books.tested()).state.measured;
+    let distinct: BTreeSet<u16> = measured.iter().copied().collect();
+    assert_eq!(distinct.len(), measured.len());
+    assert_eq!(found.measured as usize, measured.len());
+    assert!(distinct.iter().all(|yard| entering.contains(yard)));
 }
 
 /// "none of these measured a yard whose bound exceeds the last listed distance of a full list"; "no yard whose bound
 /// exceeds the seconds is measured", in a spent search neither.
-fn assert_measured(books: &Books, all: &[Vec<u64>], found: &Found, list: &[(u64, u16)]) {
-    let search = tested(books.asked, books.all(), WORK_WORDS, 512).unwrap();
-    let measured = run(&search).state.measured;
-    let distinct: BTreeSet<u16> = measured.iter().copied().collect();
-    assert_eq!(distinct.len(), measured.len());
-    assert_eq!(found.measured as usize, measured.len());
+fn assert_bounds(books: &Books, all: &[Vec<u64>], list: &[(u64, u16)]) {
+    let search = books.tested();
     let most = match books.asked {
         Asked::FirstK if list.len() == search.query.k => list[list.len() - 1].0,
         Asked::FirstK => u64::MAX,
         Asked::Within(seconds) => u64::from(seconds),
     };
-    for yard in measured {
+    for yard in run(&search).state.measured {
         assert!(brute::yard_bound(all, &search.tree, &search.query, yard) <= most);
     }
 }
 
-/// "with true distances, distinct yards and yard order, but a yard may be left out"; in a drive search none above the
-/// seconds is listed.
-fn assert_true_list(
-    asked: Asked,
-    all: &[Vec<u64>],
-    yards: &[u16],
-    query: &Query,
-    list: &[(u64, u16)],
-) {
-    let ranked = brute::ranked(all, yards, query);
-    match asked {
-        Asked::FirstK => assert_eq!(list.len(), query.k.min(yards.len())),
+/// "with true distances, distinct yards and yard order, but a yard may be left out": all listed can enter the queue, and
+/// in a drive search none is above the seconds.
+fn assert_true_list(books: &Books, all: &[Vec<u64>], entering: &[u16], list: &[(u64, u16)]) {
+    let (_, _, query) = books.read();
+    let ranked = brute::ranked(all, entering, &query);
+    match books.asked {
+        Asked::FirstK => assert_eq!(list.len(), query.k.min(entering.len())),
         Asked::Within(seconds) => assert!(list.iter().all(|&(d, _)| d <= u64::from(seconds))),
     }
     assert!(list.windows(2).all(|pair| pair[0] < pair[1]));
@@ -163,7 +186,7 @@ fn search_by_brute_force() {
     for turn in 0..8_000 {
         let books = random_books(&mut numbers, if turn % 40 == 0 { 120 } else { 30 });
         let (mut work, mut results) = (vec![3; WORK_WORDS + 2], [5; 250]);
-        let found = ask(books.asked, books.all(), &mut work, &mut results);
+        let found = books.ask(&mut work, &mut results);
         assert_eq!(found.refusal, 0);
         assert!(work[..WORK_WORDS].iter().all(|&word| word == 0));
         assert_eq!(work[WORK_WORDS..], [3; 2]);
@@ -181,28 +204,38 @@ fn full_size_by_brute_force() {
     let mut numbers = Numbers::new(6);
     for kind in standard::KINDS {
         let road = standard::road_book(kind, 11).unwrap();
-        let yard = standard::yard_book(256, 11).unwrap();
+        let yard = standard::kinds_yard_book(256, 11).unwrap();
         let tree = built(&mut numbers, &road, &yard);
         let query = query::write(0, 64, u32::MAX, &[0, 5, 900, 1_023, 5]);
-        let asked = Asked::FirstK;
-        let books = Books {
-            asked,
-            road,
-            tree,
-            query,
-        };
-        let (roads, tree, query) = books.read();
-        let all = brute::crew_distances(&roads, &query);
-        let ranked = brute::ranked(&all, &tree.yards_of(0), &query);
-        let drives = [0, 2, 25, 255].map(|place| ranked[place].0 as u32);
-        let drives = drives.iter().flat_map(|&d| [d, d - 1]);
-        let drives = drives.chain([0, u32::MAX]).map(Asked::Within);
-        for asked in drives.chain([Asked::FirstK]) {
-            let mut results = [0; 512];
-            let found = ask(asked, books.all(), &mut [0; WORK_WORDS], &mut results);
-            let expected = brute::listed(asked, &all, &tree.yards_of(0), &query);
-            assert_eq!(listed(&found, &results), expected, "{kind} {asked:?}");
+        for wanted in [ALL, 2, 129] {
+            let books = Books {
+                asked: Asked::FirstK,
+                wanted,
+                road: road.clone(),
+                tree: tree.clone(),
+                query: query.clone(),
+            };
+            full_size(kind, books);
         }
+    }
+}
+
+/// The first k yards, and drives to and just short of some of them, against brute force.
+fn full_size(kind: &str, mut books: Books) {
+    let (roads, tree, query) = books.read();
+    let all = brute::crew_distances(&roads, &query);
+    let yards = brute::wanted_yards(&tree, books.wanted);
+    let ranked = brute::ranked(&all, &yards, &query);
+    let last = ranked.len() - 1;
+    let drives = [0, 2, 25, last].map(|place| ranked[place].0 as u32);
+    let drives = drives.iter().flat_map(|&d| [d, d - 1]);
+    let drives = drives.chain([0, u32::MAX]).map(Asked::Within);
+    for asked in drives.chain([Asked::FirstK]) {
+        books.asked = asked;
+        let mut results = [0; 512];
+        let found = books.ask(&mut [0; WORK_WORDS], &mut results);
+        let expected = brute::listed(asked, &all, &yards, &query);
+        assert_eq!(listed(&found, &results), expected, "{kind} {asked:?}");
     }
 }
 
@@ -215,9 +248,9 @@ fn states(books: &Books, measuring: Measuring) -> (Vec<Seen>, usize) {
         let queue = state.queue.iter().copied().collect();
         (queue, state.held.clone(), state.measured.clone())
     };
-    let search = tested(books.asked, books.all(), WORK_WORDS, 250).unwrap();
+    let search = books.tested().by(measuring);
     let mut states = Vec::new();
-    let last = run_seen(&search.by(measuring), |state| states.push(seen(state))).state;
+    let last = run_seen(&search, |state| states.push(seen(state))).state;
     states.push(seen(&last));
     (states, last.walked_on)
 }
@@ -237,7 +270,8 @@ fn walks_and_rows_alike() {
         let answers = ways.map(|way| {
             let mut results = [5; 250];
             let work = &mut [0; WORK_WORDS];
-            let found = ask_by(way, books.asked, books.all(), work, &mut results);
+            let (asked, wanted) = (books.asked, books.wanted);
+            let found = ask_by(way, asked, wanted, books.all(), work, &mut results);
             (found, results)
         });
         assert_eq!(answers[1], answers[0]);
@@ -256,18 +290,23 @@ fn walks_and_rows_alike() {
 fn a_full_list_comes_first() {
     let mut numbers = Numbers::new(10);
     let mut longer = 0;
-    for _ in 0..1_000 {
+    for _ in 0..1_500 {
         let d = district(&mut numbers, 40);
         let tree = built(&mut numbers, &d.road, &d.yard);
         let crews = [(); 2].map(|()| numbers.between16(0, d.junctions - 1));
+        let wanted = wanted(&mut numbers).max(1);
         let k = numbers.between(1, d.yards.len().min(64) as u64) as u8;
         let query = query::write(numbers.between(0, 1) as u8, k, u32::MAX, &crews);
         let (mut first, mut all) = ([0; 128], [0; 80]);
         let work = &mut [0; WORK_WORDS];
-        let full = search(&d.road, &tree, &query, work, &mut first);
+        let full = search(&d.road, &tree, &query, wanted, work, &mut first);
+        if full.listed < u32::from(k) {
+            continue;
+        }
         let first = listed(&full, &first);
         let last = first[usize::from(k) - 1].0;
-        let found = within(&d.road, &tree, &query, last as u32, work, &mut all);
+        let seconds = last as u32;
+        let found = within(&d.road, &tree, &query, wanted, seconds, work, &mut all);
         let all = listed(&found, &all);
         assert_eq!(all[..first.len()], first);
         assert!(all[first.len()..].iter().all(|&(d, _)| d == last));
@@ -288,6 +327,9 @@ fn next_books(numbers: &mut Numbers) -> Books {
     if numbers.once_in(8) {
         books.query = random_damage(numbers, &books.query);
     }
+    if numbers.once_in(12) {
+        books.wanted = 0;
+    }
     books
 }
 
@@ -307,7 +349,7 @@ fn assert_demand_3(numbers: &mut Numbers, counts: &mut [u32; 3]) {
     for _ in 0..numbers.between(1, 8) {
         let books = next_books(numbers);
         let before = (work.clone(), results.clone());
-        let found = ask(books.asked, books.all(), &mut work, &mut results);
+        let found = books.ask(&mut work, &mut results);
         if found.refusal != 0 {
             assert_eq!(
                 found,
@@ -352,8 +394,8 @@ fn area_contents_never_matter() {
             any_area(&mut numbers, 16_384, 16_384),
             any_area(&mut numbers, 128, 128),
         );
-        let one = ask(books.asked, books.all(), &mut first.0, &mut first.1);
-        let other = ask(books.asked, books.all(), &mut second.0, &mut second.1);
+        let one = books.ask(&mut first.0, &mut first.1);
+        let other = books.ask(&mut second.0, &mut second.1);
         assert_eq!(one, other);
         let words = 2 * one.listed as usize;
         assert_eq!(first.1[..words], second.1[..words]);
@@ -372,11 +414,12 @@ fn each_limit_is_a_prefix() {
         let roads = road::read(&d.road).unwrap();
         let query = query::write(0, 2, 0, &crews);
         let drive = seconds(&mut numbers, &roads, &d.yards, &query);
+        let wanted = wanted(&mut numbers).max(1);
         for asked in [Asked::FirstK, Asked::Within(drive)] {
             assert_prefixes(|limit| {
                 let query = query::write(0, 2, limit, &crews);
                 let books = [&d.road[..], &tree, &query];
-                ask(asked, books, &mut [0; WORK_WORDS], &mut [0; 40])
+                ask(asked, wanted, books, &mut [0; WORK_WORDS], &mut [0; 40])
             });
         }
     }

@@ -64,18 +64,18 @@ impl Areas {
     }
 
     /// Makes the search through all finders, each on its areas as its search before left them.
-    pub fn ask(&mut self, asked: Asked, books: [&[u8]; 3]) -> Found {
+    pub fn ask(&mut self, asked: Asked, wanted: u8, books: [&[u8]; 3]) -> Found {
         let mut held = books.map(lent_bytes);
         let lent = held.each_mut().map(|book| &*book.area());
         let [work, results] = self.ours.each_mut().map(|area| area.area());
-        let ours = crate::ask(asked, lent, work, results);
+        let ours = crate::ask(asked, wanted, lent, work, results);
         assert_kept(&held, &books);
 
         for (measuring, [work, results]) in PLAIN.into_iter().zip(&mut self.theirs) {
-            let theirs = ask_by(measuring, asked, books, work, results);
+            let theirs = ask_by(measuring, asked, wanted, books, work, results);
             let call = || {
                 format!(
-                    "a search, {asked:?}, beside {measuring:?}, with {} result words, {}",
+                    "a search, {asked:?}, of kinds {wanted}, beside {measuring:?}, with {} result words, {}",
                     results.len(),
                     told(&books, work.len())
                 )

@@ -56,6 +56,7 @@ extern "C" {
         tree_len: usize,
         query: *const u8,
         query_len: usize,
+        wanted: u8,
         work: *mut u32,
         work_len: usize,
         results: *mut u32,
@@ -69,6 +70,7 @@ extern "C" {
         tree_len: usize,
         query: *const u8,
         query_len: usize,
+        wanted: u8,
         seconds: u32,
         work: *mut u32,
         work_len: usize,
@@ -136,11 +138,13 @@ pub fn build(
     }
 }
 
-/// The refusal number, whether settled, and the numbers of yards listed, steps taken and yards measured.
+/// The refusal number, whether settled, and the numbers of yards listed, steps taken and yards measured, for yards of
+/// the wanted kinds.
 pub fn search(
     road: &[u8],
     tree: &[u8],
     query: &[u8],
+    wanted: u8,
     work: &mut [u32],
     results: &mut [u32],
 ) -> Found {
@@ -153,6 +157,7 @@ pub fn search(
             tree.len(),
             query.as_ptr(),
             query.len(),
+            wanted,
             work.as_mut_ptr(),
             work.len(),
             results.as_mut_ptr(),
@@ -167,6 +172,7 @@ pub fn within(
     road: &[u8],
     tree: &[u8],
     query: &[u8],
+    wanted: u8,
     seconds: u32,
     work: &mut [u32],
     results: &mut [u32],
@@ -180,6 +186,7 @@ pub fn within(
             tree.len(),
             query.as_ptr(),
             query.len(),
+            wanted,
             seconds,
             work.as_mut_ptr(),
             work.len(),
@@ -190,15 +197,16 @@ pub fn within(
     found.into()
 }
 
-/// The search that is asked for.
+/// The search that is asked for, for yards of the wanted kinds.
 pub fn ask(
     asked: Asked,
+    wanted: u8,
     [road, tree, query]: [&[u8]; 3],
     work: &mut [u32],
     results: &mut [u32],
 ) -> Found {
     match asked {
-        Asked::FirstK => search(road, tree, query, work, results),
-        Asked::Within(seconds) => within(road, tree, query, seconds, work, results),
+        Asked::FirstK => search(road, tree, query, wanted, work, results),
+        Asked::Within(seconds) => within(road, tree, query, wanted, seconds, work, results),
     }
 }

@@ -1,14 +1,14 @@
 //! The proved finder beside the plain one: the same calls through both, searches also through the plain one that
-//! measures by rows.
+//! measures by rows. Yard and tree books are of both versions.
 
 use std::collections::BTreeMap;
 
-use compare::build::AREA_BYTES;
+use compare::build::KINDS_AREA_BYTES;
 use compare::generate::call::{random_build, random_check, random_search, random_within};
-use compare::generate::damage::{self, Call};
+use compare::generate::damage::{self, Call, ASKED, VERSIONS};
 use compare::generate::{standard, Numbers};
 use compare::refusal::WORK_WORDS;
-use compare::Asked;
+use compare::{kinds, Asked, Found};
 use proved::alike::{self, Areas};
 
 /// How many calls of each kind got each refusal number.
@@ -49,6 +49,7 @@ impl Tally {
             }
             Call::Search {
                 asked,
+                wanted,
                 road,
                 tree,
                 query,
@@ -56,16 +57,21 @@ impl Tally {
                 results,
             } => {
                 let mut areas = Areas::new(&words(numbers, *work), &words(numbers, *results));
-                let found = areas.ask(*asked, [road, tree, query]);
-                let [searches, drives] = &mut self.spent;
-                let (refusals, spent) = match asked {
-                    Asked::FirstK => (&mut self.searches, searches),
-                    Asked::Within(_) => (&mut self.drives, drives),
-                };
-                *refusals.entry(found.refusal).or_default() += 1;
-                *spent += u32::from(found.refusal == 0 && found.settled == 0);
+                let found = areas.ask(*asked, *wanted, [road, tree, query]);
+                self.count(*asked, &found);
             }
         }
+    }
+
+    /// Counts a search by its refusal, and whether it is spent.
+    fn count(&mut self, asked: Asked, found: &Found) {
+        let [searches, drives] = &mut self.spent;
+        let (refusals, spent) = match asked {
+            Asked::FirstK => (&mut self.searches, searches),
+            Asked::Within(_) => (&mut self.drives, drives),
+        };
+        *refusals.entry(found.refusal).or_default() += 1;
+        *spent += u32::from(found.refusal == 0 && found.settled == 0);
     }
 
     /// Makes calls through both finders.
@@ -85,7 +91,7 @@ impl Tally {
         assert_eq!(seen(&self.builds), [0, 1, 2, 3, 4, 5, 6, 8, 11, 12]);
         for searches in [&self.searches, &self.drives] {
             println!("searches by refusal: {searches:?}");
-            assert_eq!(seen(searches), [0, 1, 2, 3, 4, 5, 6, 7, 8, 10, 11, 12]);
+            assert_eq!(seen(searches), [0, 1, 2, 3, 4, 5, 6, 7, 8, 10, 11, 12, 13]);
         }
     }
 }
@@ -113,7 +119,9 @@ fn every_cause() {
     for case in damage::cases() {
         tally.make(&case.call, &mut numbers);
     }
-    tally.make_all(&damage::accepted(), &mut numbers);
+    for version in VERSIONS {
+        tally.make_all(&damage::accepted(version), &mut numbers);
+    }
     let (road, query) = (damage::sound_road(), damage::sound_query());
     for t in damage::false_trees() {
         let calls = damage::searches_of(&road, &t.book, &query);
@@ -122,53 +130,104 @@ fn every_cause() {
     tally.assert_all(1);
 }
 
-/// Every number of seconds up to past the furthest yard, and the greatest ones, on the sound tree and on false ones.
+/// Every wanted byte on the sound trees; on trees with a false kind byte those of the first kinds, one more, and all.
+#[test]
+fn every_wanted_byte() {
+    let mut numbers = Numbers::new(28);
+    let mut tally = Tally::default();
+    let (road, query) = (damage::sound_road(), damage::sound_query());
+    for tree in VERSIONS.map(damage::sound_tree) {
+        for wanted in 0..=255 {
+            let calls = ASKED.map(|asked| damage::asked_of(asked, wanted, [&road, &tree, &query]));
+            tally.make_all(&calls, &mut numbers);
+        }
+    }
+    for t in damage::false_kinds() {
+        for wanted in (0..16).chain([128, 255]) {
+            let books = [&road[..], &t.book, &query];
+            let calls = ASKED.map(|asked| damage::asked_of(asked, wanted, books));
+            tally.make_all(&calls, &mut numbers);
+        }
+    }
+    for refusals in [&tally.searches, &tally.drives] {
+        assert_eq!(refusals.keys().copied().collect::<Vec<u32>>(), [0, 13]);
+    }
+}
+
+/// Every number of seconds up to past the furthest yard, and the greatest ones, on the sound trees and on false ones.
 #[test]
 fn every_drive() {
     let mut numbers = Numbers::new(27);
     let mut tally = Tally::default();
-    let [road, _, tree, query] = damage::sound_books();
+    let (road, query) = (damage::sound_road(), damage::sound_query());
+    let mut trees = VERSIONS.map(damage::sound_tree).to_vec();
+    trees.extend(damage::false_distances().into_iter().map(|t| t.book));
     let greatest = [u32::MAX - 1, u32::MAX];
     for seconds in (0..380).chain(greatest) {
-        let call = damage::within_of(seconds, &road, &tree, &query);
-        tally.make(&call, &mut numbers);
-        for t in damage::false_trees() {
-            let call = damage::within_of(seconds, &road, &t.book, &query);
+        for tree in &trees {
+            let call = damage::within_of(seconds, &road, tree, &query);
+            tally.make(&call, &mut numbers);
+        }
+        for wanted in [1, 2, 4, 8] {
+            let books = [&road[..], &trees[1], &query];
+            let call = damage::asked_of(Asked::Within(seconds), wanted, books);
             tally.make(&call, &mut numbers);
         }
     }
     assert_eq!(tally.drives.keys().copied().collect::<Vec<u32>>(), [0]);
 }
 
+/// A damaged road book beside every other damaged book.
 #[test]
-fn two_damages() {
+fn two_damages_with_roads() {
     let mut numbers = Numbers::new(22);
     let mut tally = Tally::default();
-    let [road, yard, tree, query] = damage::sound_books();
-    let (roads, yards, trees) = (damage::roads(), damage::yards(), damage::trees());
+    let query = damage::sound_query();
+    let (yards, trees) = (damage::yards(), damage::trees());
     let queries = damage::queries();
-    for r in &roads {
+    let sound_trees = VERSIONS.map(damage::sound_tree);
+    for r in &damage::roads() {
         for y in &yards {
-            tally.make(&damage::check_of(&r.book, &y.book, &tree), &mut numbers);
+            let tree = &sound_trees[usize::from(y.version) - 1];
+            tally.make(&damage::check_of(&r.book, &y.book, tree), &mut numbers);
             tally.make(&damage::build_of(&r.book, &y.book), &mut numbers);
         }
         for t in &trees {
+            let yard = damage::sound_yard(t.version);
             tally.make(&damage::check_of(&r.book, &yard, &t.book), &mut numbers);
             let calls = damage::searches_of(&r.book, &t.book, &query);
             tally.make_all(&calls, &mut numbers);
         }
         for q in &queries {
-            let calls = damage::searches_of(&r.book, &tree, &q.book);
+            let calls = damage::searches_of(&r.book, &sound_trees[0], &q.book);
             tally.make_all(&calls, &mut numbers);
         }
     }
-    for t in &trees {
+}
+
+/// A damaged tree book beside every damaged yard and query book; the wanted byte and the areas are wrong too at times.
+#[test]
+fn two_damages_with_trees() {
+    let mut numbers = Numbers::new(29);
+    let mut tally = Tally::default();
+    let road = damage::sound_road();
+    let (yards, queries) = (damage::yards(), damage::queries());
+    for t in damage::trees().iter().chain(&damage::false_trees()) {
         for q in &queries {
-            let calls = damage::searches_of(&road, &t.book, &q.book);
-            tally.make_all(&calls, &mut numbers);
+            for asked in ASKED {
+                let wanted = if numbers.once_in(3) { 0 } else { kinds::ALL };
+                let mut call = damage::asked_of(asked, wanted, [&road, &t.book, &q.book]);
+                if let (true, Call::Search { work, .. }) = (numbers.once_in(3), &mut call) {
+                    *work -= 1;
+                }
+                tally.make(&call, &mut numbers);
+            }
         }
         for y in &yards {
             tally.make(&damage::check_of(&road, &y.book, &t.book), &mut numbers);
+        }
+        for yard in VERSIONS.map(damage::sound_yard) {
+            tally.make(&damage::check_of(&road, &yard, &t.book), &mut numbers);
         }
     }
 }
@@ -205,9 +264,9 @@ fn any_bytes() {
 fn random_fields() {
     let mut numbers = Numbers::new(25);
     let mut tally = Tally::default();
-    let sound = damage::sound_books();
+    let sound = damage::sound_books(1);
     for _ in 0..10_000 {
-        let [yard, tree, query] = [(); 3].map(|()| damage::random_book(&mut numbers));
+        let [yard, tree, query] = [2, 2, 1].map(|v| damage::random_book(&mut numbers, v));
         let [road, sound_yard, sound_tree, _] = &sound;
         tally.make(&damage::check_of(road, sound_yard, &tree), &mut numbers);
         tally.make(&damage::build_of(road, &yard), &mut numbers);
@@ -223,30 +282,39 @@ fn full_size() {
     for kind in standard::KINDS {
         let road = standard::road_book(kind, 7).unwrap();
         for (yards, m, leaf_limit) in [(256, 4, 1), (256, 4, 256), (100, 3, 16), (1, 1, 1)] {
-            let yard = standard::yard_book(yards, 7).unwrap();
-            let mut area = vec![0; AREA_BYTES];
-            let built =
-                compare::build(&road, &yard, m, leaf_limit, &mut [0; WORK_WORDS], &mut area);
-            let tree = &area[..built.length as usize];
-            tally.make(&damage::check_of(&road, &yard, tree), &mut numbers);
-            let mut other = tree.to_vec();
-            let place = numbers.between(12, tree.len() as u64 - 1) as usize;
-            other[place] ^= 1;
-            tally.make(&damage::check_of(&road, &yard, &other), &mut numbers);
-            let (work, area) = (WORK_WORDS + 3, AREA_BYTES + 3);
-            let (road, yard) = (road.clone(), yard.clone());
-            tally.make(
-                &Call::Build {
-                    road,
-                    yard,
-                    m,
-                    leaf_limit,
-                    work,
-                    area,
-                },
-                &mut numbers,
-            );
+            let first = standard::yard_book(yards, 7).unwrap();
+            let second = standard::kinds_yard_book(yards, 7).unwrap();
+            for yard in [&first, &second] {
+                for call in full_calls(&mut numbers, [&road, yard], [m, leaf_limit]) {
+                    tally.make(&call, &mut numbers);
+                }
+            }
         }
     }
-    assert!(tally.checks[&0] >= 24);
+    assert!(tally.checks[&0] >= 48);
+    assert_eq!(tally.builds.keys().copied().collect::<Vec<u32>>(), [0]);
+}
+
+/// A check of the built tree, one of a tree that differs in a bit, and the build, of a road and a yard book.
+fn full_calls(numbers: &mut Numbers, [road, yard]: [&[u8]; 2], parameters: [u32; 2]) -> [Call; 3] {
+    let [m, leaf_limit] = parameters;
+    let mut area = vec![0; KINDS_AREA_BYTES];
+    let built = compare::build(road, yard, m, leaf_limit, &mut [0; WORK_WORDS], &mut area);
+    let tree = &area[..built.length as usize];
+    let mut other = tree.to_vec();
+    let place = numbers.between(12, tree.len() as u64 - 1) as usize;
+    other[place] ^= 1;
+    let build = Call::Build {
+        road: road.to_vec(),
+        yard: yard.to_vec(),
+        m,
+        leaf_limit,
+        work: WORK_WORDS + 3,
+        area: KINDS_AREA_BYTES + 3,
+    };
+    [
+        damage::check_of(road, yard, tree),
+        damage::check_of(road, yard, &other),
+        build,
+    ]
 }

@@ -1,21 +1,24 @@
-//! Lists of searches through the proved finder and the plain ones on shared areas, and settled searches against brute
-//! force.
+//! Lists of searches through the proved finder and the plain ones on shared areas, for yards of wanted kinds, and
+//! settled searches against brute force over the wanted yards.
 
-use compare::build::AREA_BYTES;
+use compare::build::KINDS_AREA_BYTES;
 use compare::generate::call::{random_search, random_within};
-use compare::generate::damage::{false_root, sound_query, sound_road, sound_yard, Call};
-use compare::generate::district::false_tree;
+use compare::generate::damage::{false_root, sound_query, sound_road, sound_yard, Call, VERSIONS};
+use compare::generate::district::{district, false_tree, query_book, random_tree, wanted};
 use compare::generate::{standard, Numbers};
+use compare::kinds;
 use compare::query::Query;
 use compare::refusal::WORK_WORDS;
 use compare::road::RoadBook;
 use compare::tree::Tree;
-use compare::{brute, build, check, query, road, tree, yard, Asked, Found};
+use compare::yard::{self, YardBook};
+use compare::{brute, build, check, query, road, tree, Asked, Found};
 use proved::alike::{self, Areas};
 
-/// The three books of a search, and what it is asked for.
+/// The three books of a search, what it is asked for, and the wanted kinds.
 struct Books {
     asked: Asked,
+    wanted: u8,
     road: Vec<u8>,
     tree: Vec<u8>,
     query: Vec<u8>,
@@ -27,12 +30,14 @@ impl Books {
         match call {
             Call::Search {
                 asked,
+                wanted,
                 road,
                 tree,
                 query,
                 ..
             } => Books {
                 asked,
+                wanted,
                 road,
                 tree,
                 query,
@@ -41,7 +46,8 @@ impl Books {
         }
     }
 
-    /// A district's books: the tree built, cut at random, or false; some books damaged. For k yards or within a drive.
+    /// A district's books of some version: the tree built, cut at random, or false; some books damaged. For k yards or
+    /// within a drive, of any kinds, at times none.
     fn random(numbers: &mut Numbers, most_junctions: u16) -> Self {
         let random = match numbers.between(0, 1) {
             0 => random_search,
@@ -56,7 +62,7 @@ impl Books {
 
     /// Makes the search through all finders.
     fn ask(&self, areas: &mut Areas) -> Found {
-        areas.ask(self.asked, self.all())
+        areas.ask(self.asked, self.wanted, self.all())
     }
 
     /// Whether check passes the tree beside these roads.
@@ -64,7 +70,7 @@ impl Books {
         let Some((_, tree, _)) = self.read() else {
             return false;
         };
-        let yard = yard::write(&tree.yards_of(0));
+        let yard = yard::write_version(kinds::VERSION, &tree.yards_with_kinds(0));
         check(&self.road, &yard, &self.tree, &mut [0; WORK_WORDS]) == 0
     }
 
@@ -76,24 +82,29 @@ impl Books {
         Some((road, tree, query))
     }
 
-    /// All of the tree's yards in yard order, by brute force; the books must be sound.
+    /// All of the tree's wanted yards in yard order, by brute force; the books must be sound.
     fn ranked(&self) -> Vec<(u64, u16)> {
+        self.ranked_of(brute::wanted_yards)
+    }
+
+    /// The same of some of the tree's wanted yards.
+    fn ranked_of(&self, yards: fn(&Tree, u8) -> Vec<u16>) -> Vec<(u64, u16)> {
         let (road, tree, query) = self.read().expect("sound books");
         let all = brute::crew_distances(&road, &query);
-        brute::ranked(&all, &tree.yards_of(0), &query)
+        brute::ranked(&all, &yards(&tree, self.wanted), &query)
     }
 
     /// The words that a settled search writes, by brute force; none if check refuses the tree beside these roads.
     fn list(&self) -> Option<Vec<u32>> {
         let (_, _, query) = self.read()?;
         self.passes()
-            .then(|| words(wanted(self.asked, query.k, &self.ranked())))
+            .then(|| words(settled(self.asked, query.k, &self.ranked())))
     }
 
-    /// "with true distances, distinct yards and yard order, but a yard may be left out"; in a drive search none above
-    /// the seconds is listed.
+    /// "with true distances, distinct yards and yard order, but a yard may be left out": all of them can enter the
+    /// queue; in a drive search none above the seconds is listed.
     fn assert_true(&self, list: &[u32]) {
-        let ranked = self.ranked();
+        let ranked = self.ranked_of(brute::entering_yards);
         let pairs = list.chunks(2).map(|p| (u64::from(p[1]), p[0] as u16));
         let pairs: Vec<(u64, u16)> = pairs.collect();
         assert!(pairs.windows(2).all(|pair| pair[0] < pair[1]));
@@ -105,9 +116,9 @@ impl Books {
     }
 }
 
-/// Of all yards in yard order those that a settled list has: "exactly the first k of the tree's yards (or all if
+/// Of all wanted yards in yard order those that a settled list has: "exactly the first k of the tree's yards (or all if
 /// fewer)", or "exactly the tree's yards within the drive".
-fn wanted(asked: Asked, k: usize, ranked: &[(u64, u16)]) -> &[(u64, u16)] {
+fn settled(asked: Asked, k: usize, ranked: &[(u64, u16)]) -> &[(u64, u16)] {
     let count = match asked {
         Asked::FirstK => k.min(ranked.len()),
         Asked::Within(seconds) => ranked
@@ -211,9 +222,11 @@ fn queries(numbers: &mut Numbers) -> Vec<Vec<u8>> {
 /// less; the least and the greatest drive.
 fn asks(ranked: &[(u64, u16)]) -> Vec<Asked> {
     let mut drives = vec![0, u32::MAX];
-    for place in [0, ranked.len() / 10, ranked.len() - 1] {
-        let aggregate = ranked[place].0 as u32;
-        drives.extend([aggregate, aggregate.saturating_sub(1)]);
+    for place in [0, ranked.len() / 10, ranked.len().saturating_sub(1)] {
+        if let Some(&(aggregate, _)) = ranked.get(place) {
+            let aggregate = aggregate as u32;
+            drives.extend([aggregate, aggregate.saturating_sub(1)]);
+        }
     }
     let drives = drives.into_iter().map(Asked::Within);
     drives.chain([Asked::FirstK]).collect()
@@ -225,14 +238,24 @@ fn ask_all(areas: &mut Areas, mut books: Books, false_tree: &[u8]) {
     let ranked = books.ranked();
     for asked in asks(&ranked) {
         books.asked = asked;
-        areas.ask(asked, [&books.road, false_tree, &books.query]);
+        let others = [&books.road[..], false_tree, &books.query];
+        areas.ask(asked, books.wanted, others);
         let found = books.ask(areas);
         let list = match found.settled {
-            1 => words(wanted(asked, books.query[6].into(), &ranked)),
+            1 => words(settled(asked, books.query[6].into(), &ranked)),
             _ => Vec::new(),
         };
         assert_eq!(areas.results()[..2 * found.listed as usize], list);
     }
+}
+
+/// A yard book of a version, with so many yards of the standard district.
+fn standard_yards(version: u8, yards: u32) -> Vec<u8> {
+    let book = match version {
+        1 => standard::yard_book(yards, 7),
+        _ => standard::kinds_yard_book(yards, 7),
+    };
+    book.unwrap()
 }
 
 #[test]
@@ -241,17 +264,27 @@ fn full_size() {
     let mut areas = Areas::new(&[7; WORK_WORDS + 5], &[7; 515]);
     for kind in standard::KINDS {
         let road = standard::road_book(kind, 7).unwrap();
-        for (yards, m, leaf_limit) in [(256, 4, 16), (256, 1, 256), (100, 3, 4), (1, 1, 1)] {
-            let yard = standard::yard_book(yards, 7).unwrap();
-            let mut area = vec![0; AREA_BYTES];
+        for (version, yards, m, leaf_limit) in [
+            (1, 256, 4, 16),
+            (2, 256, 4, 16),
+            (2, 256, 1, 256),
+            (2, 100, 3, 4),
+            (1, 1, 1, 1),
+        ] {
+            let yard = standard_yards(version, yards);
+            let mut area = vec![0; KINDS_AREA_BYTES];
             let built = build(&road, &yard, m, leaf_limit, &mut [0; WORK_WORDS], &mut area);
             area.truncate(built.length as usize);
             assert_eq!(check(&road, &yard, &area, &mut [0; WORK_WORDS]), 0);
             let sound = tree::read(&area, 1_024).unwrap();
             let other = tree::write(&false_tree(&mut numbers, &sound));
-            for query in queries(&mut numbers) {
+            for (query, wanted) in queries(&mut numbers)
+                .into_iter()
+                .zip(KINDS.into_iter().cycle())
+            {
                 let books = Books {
                     asked: Asked::FirstK,
+                    wanted,
                     road: road.clone(),
                     tree: area.clone(),
                     query,
@@ -262,6 +295,9 @@ fn full_size() {
     }
 }
 
+/// The kinds that are wanted in turn: all, one yard in eight, one in four, three in eight.
+const KINDS: [u8; 5] = [kinds::ALL, 1, 6, kinds::ALL, 0b1001_0010];
+
 /// A tree refused by 9 whose root's key is above 32 bits, in which it would be 4,294,967,277 or 103: no drive reaches
 /// it, and a search for k yards goes on below it.
 #[test]
@@ -269,11 +305,12 @@ fn a_root_above_32_bits() {
     for least in [u32::MAX, 2_147_483_708] {
         let mut books = Books {
             asked: Asked::Within(u32::MAX),
+            wanted: kinds::ALL,
             road: sound_road(),
             tree: false_root(least),
             query: sound_query(),
         };
-        let checked = [&books.road[..], &sound_yard(), &books.tree];
+        let checked = [&books.road[..], &sound_yard(1), &books.tree];
         assert_eq!(alike::check(checked, &[7; WORK_WORDS]), 9);
         let mut areas = Areas::new(&[7; WORK_WORDS], &[7; 10]);
         let counts = |found: Found| [found.settled, found.listed, found.taken, found.measured];
@@ -299,7 +336,9 @@ fn a_full_list_comes_first() {
             continue;
         };
         assert_eq!(first, list);
-        let last = first[first.len() - 1];
+        let Some(&last) = first.last() else {
+            continue;
+        };
         books.asked = Asked::Within(last);
         let found = books.ask(&mut areas);
         if found.settled == 0 {
@@ -340,4 +379,67 @@ fn spent_drives() {
     }
     println!("{spent} spent");
     assert!(spent >= 1_000);
+}
+
+/// A version 1 tree is searched as the same tree in version 2 with 255 throughout, and checked alike beside both yard
+/// books.
+#[test]
+fn versions_alike() {
+    let mut numbers = Numbers::new(35);
+    for _ in 0..1_500 {
+        let d = district(&mut numbers, 40);
+        let roads = road::read(&d.road).unwrap();
+        let yards = yard::of_all_kinds(&d.yards);
+        let book = YardBook { version: 1, yards };
+        let mut tree = random_tree(&mut numbers, &roads, &book);
+        if numbers.once_in(3) {
+            tree = false_tree(&mut numbers, &tree);
+        }
+        let trees = VERSIONS.map(|version| {
+            tree.version = version;
+            tree::write(&tree)
+        });
+        let (query, wanted) = (query_book(&mut numbers, d.junctions), wanted(&mut numbers));
+        for asked in [Asked::FirstK, Asked::Within(numbers.any() as u32 % 1_000)] {
+            let answers = trees.each_ref().map(|tree| {
+                let mut areas = Areas::new(&[7; WORK_WORDS], &[7; 128]);
+                let found = areas.ask(asked, wanted, [&d.road, tree, &query]);
+                (found, areas.results().to_vec())
+            });
+            assert_eq!(answers[0], answers[1]);
+        }
+        let yards = VERSIONS.map(|version| yard::write_version(version, &book.yards));
+        let checks = yards.each_ref().map(|yard| {
+            let check = |tree: &Vec<u8>| alike::check([&d.road, yard, tree], &[7; WORK_WORDS]);
+            trees.each_ref().map(check)
+        });
+        assert_eq!(checks, [[checks[0][0]; 2]; 2]);
+    }
+}
+
+/// What version 2 kinds cost a check beside version 1 books: 9 unless every kind byte is 255.
+#[test]
+fn versions_beside_each_other() {
+    let mut numbers = Numbers::new(36);
+    let mut seen = [0; 2];
+    for _ in 0..500 {
+        let d = district(&mut numbers, 20);
+        let all = d.book.yards.iter().all(|yard| yard.kinds == kinds::ALL);
+        let yards = VERSIONS.map(|version| yard::write_version(version, &d.book.yards));
+        let trees = yards.each_ref().map(|yard| {
+            let (work, area) = ([7; WORK_WORDS], vec![7; KINDS_AREA_BYTES]);
+            let built = alike::build([&d.road, yard], [2, 2], &work, &area);
+            assert_eq!(built.refusal, 0);
+            let (mut work, mut area) = (work, area);
+            build(&d.road, yard, 2, 2, &mut work, &mut area);
+            area.truncate(built.length as usize);
+            area
+        });
+        for (yard, beside) in [(&yards[0], &trees[1]), (&yards[1], &trees[0])] {
+            let refusal = alike::check([&d.road, yard, beside], &[7; WORK_WORDS]);
+            assert_eq!(refusal, if all { 0 } else { 9 });
+        }
+        seen[usize::from(all)] += 1;
+    }
+    assert!(seen.iter().all(|&count| count >= 50), "{seen:?}");
 }

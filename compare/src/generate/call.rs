@@ -2,9 +2,9 @@
 
 use super::change::{changed_query, changed_road, changed_tree, changed_yard};
 use super::damage::{random_damage, Call};
-use super::district::{district, false_tree, query_book, random_tree, District};
+use super::district::{district, false_tree, query_book, random_tree, wanted, District};
 use super::Numbers;
-use crate::build::{build, AREA_BYTES};
+use crate::build::{area_bytes, build, AREA_BYTES, KINDS_AREA_BYTES};
 use crate::refusal::WORK_WORDS;
 use crate::road::{self, RoadBook};
 use crate::search::Asked;
@@ -35,7 +35,7 @@ pub fn random_build(numbers: &mut Numbers, most_junctions: u16) -> Call {
         m: parameter(numbers, 4),
         leaf_limit: parameter(numbers, 256),
         work: area(numbers, WORK_WORDS),
-        area: area(numbers, AREA_BYTES),
+        area: tree_area(numbers, d.book.version),
     }
 }
 
@@ -68,6 +68,7 @@ fn random_asked(numbers: &mut Numbers, most_junctions: u16, drive: bool) -> Call
     };
     Call::Search {
         asked,
+        wanted: wanted(numbers),
         road: other_road(numbers, &d, &roads),
         tree,
         results: area(numbers, 2 * listed),
@@ -100,7 +101,7 @@ fn roads_of(d: &District) -> RoadBook {
 /// A tree of the district: built or of random cuts, at times with false numbers.
 fn some_tree(numbers: &mut Numbers, d: &District, roads: &RoadBook) -> Tree {
     let tree = if numbers.once_in(2) {
-        random_tree(numbers, roads, &d.yards)
+        random_tree(numbers, roads, &d.book)
     } else {
         built_tree(numbers, d)
     };
@@ -115,7 +116,7 @@ fn some_tree(numbers: &mut Numbers, d: &District, roads: &RoadBook) -> Tree {
 fn built_tree(numbers: &mut Numbers, d: &District) -> Tree {
     let m = numbers.between(1, 4) as u32;
     let leaf_limit = numbers.between(1, 8) as u32;
-    let mut area = vec![0; AREA_BYTES];
+    let mut area = vec![0; KINDS_AREA_BYTES];
     let built = build(
         &d.road,
         &d.yard,
@@ -140,7 +141,7 @@ fn other_road(numbers: &mut Numbers, d: &District, roads: &RoadBook) -> Vec<u8> 
 fn other_yard(numbers: &mut Numbers, d: &District) -> Vec<u8> {
     match numbers.between(0, 11) {
         0 => random_damage(numbers, &d.yard),
-        1 => changed_yard(numbers, &d.yards),
+        1 => changed_yard(numbers, &d.book),
         _ => d.yard.clone(),
     }
 }
@@ -170,6 +171,14 @@ fn area(numbers: &mut Numbers, needed: usize) -> usize {
         1 => needed - 1,
         2..=5 => needed + numbers.between(1, 40) as usize,
         _ => needed,
+    }
+}
+
+/// A build's area: what a version needs, a little more, or seldom less; seldom what version 1 needs.
+fn tree_area(numbers: &mut Numbers, version: u8) -> usize {
+    match numbers.once_in(16) {
+        true => AREA_BYTES,
+        false => area(numbers, area_bytes(version)),
     }
 }
 

@@ -1,9 +1,11 @@
 //! Sound books with a few values changed, so that the later tests of a book are reached too.
 
 use super::Numbers;
+use crate::kinds;
+use crate::query;
 use crate::road::{self, Road};
-use crate::tree::{self, Region, Stored, Tree, MOST_DISTANCE};
-use crate::{query, yard};
+use crate::tree::{self, Entry, Region, Stored, Tree, MOST_DISTANCE};
+use crate::yard::{self, YardBook};
 
 /// A road book with one to three of its roads dropped, changed, exchanged or repeated.
 pub fn changed_road(numbers: &mut Numbers, junctions: u16, roads: &[Road]) -> Vec<u8> {
@@ -26,22 +28,29 @@ pub fn changed_road(numbers: &mut Numbers, junctions: u16, roads: &[Road]) -> Ve
     road::write(junctions, &roads)
 }
 
-/// A yard book with one or two of its yards dropped, moved or repeated.
-pub fn changed_yard(numbers: &mut Numbers, yards: &[u16]) -> Vec<u8> {
-    let mut yards = yards.to_vec();
+/// A yard book with one or two of its yards dropped, moved, repeated or of other kinds, or in another version.
+pub fn changed_yard(numbers: &mut Numbers, book: &YardBook) -> Vec<u8> {
+    let mut version = book.version;
+    let mut yards = book.yards.clone();
     for _ in 0..numbers.between(1, 2) {
         if yards.is_empty() {
             break;
         }
         let place = below(numbers, yards.len());
-        match numbers.between(0, 4) {
+        match numbers.between(0, 7) {
             0 => drop(yards.remove(place)),
             1 => yards.insert(place, yards[place]),
-            2 => yards.push(yards[yards.len() - 1].saturating_add(1)),
-            _ => yards[place] = near(numbers, yards[place]),
+            2 => {
+                let mut last = yards[yards.len() - 1];
+                last.junction = last.junction.saturating_add(1);
+                yards.push(last);
+            }
+            3 => version = other_version(numbers, version),
+            4 | 5 => yards[place].kinds = other_kinds(numbers, yards[place].kinds),
+            _ => yards[place].junction = near(numbers, yards[place].junction),
         }
     }
-    yard::write(&yards)
+    yard::write_version(version, &yards)
 }
 
 /// A tree book with one or two changes in its header or its regions.
@@ -71,11 +80,12 @@ pub fn changed_query(numbers: &mut Numbers, junctions: u16) -> Vec<u8> {
     query::write(aggregate, k, 1_000, &crews)
 }
 
-/// Another junction, yard or landmark count.
+/// Another version, junction, yard or landmark count.
 fn change_header(numbers: &mut Numbers, tree: &mut Tree) {
-    match numbers.between(0, 3) {
+    match numbers.between(0, 4) {
         0 => tree.m = numbers.between(0, 5) as u8,
         1 => tree.yards = near(numbers, tree.yards),
+        2 => tree.version = other_version(numbers, tree.version),
         _ => tree.junctions = near(numbers, tree.junctions),
     }
 }
@@ -94,11 +104,8 @@ fn change_order(numbers: &mut Numbers, tree: &mut Tree) {
 /// A leaf's yard leaves the whole tree, or bears another number in it: its shape may stay sound.
 fn lose_yard(numbers: &mut Numbers, tree: &mut Tree) {
     let leaf = below(numbers, tree.regions.len());
-    let Some(&(_, yard)) = tree.regions[leaf]
-        .landmarks
-        .first()
-        .and_then(|l| l.list().first())
-    else {
+    let first = tree.regions[leaf].landmarks.first();
+    let Some(&Entry { yard, .. }) = first.and_then(|l| l.list().first()) else {
         return;
     };
     let leaves = numbers.once_in(2) && tree.regions[leaf].yards > 1;
@@ -108,11 +115,11 @@ fn lose_yard(numbers: &mut Numbers, tree: &mut Tree) {
             continue;
         };
         if leaves {
-            list.retain(|&(_, held)| held != yard);
+            list.retain(|entry| entry.yard != yard);
         } else {
             list.iter_mut()
-                .filter(|pair| pair.1 == yard)
-                .for_each(|pair| pair.1 = other);
+                .filter(|entry| entry.yard == yard)
+                .for_each(|entry| entry.yard = other);
         }
     }
     if leaves {
@@ -127,7 +134,8 @@ fn lose_yard(numbers: &mut Numbers, tree: &mut Tree) {
 
 /// One value of a region.
 fn change_region(numbers: &mut Numbers, region: &mut Region) {
-    match numbers.between(0, 9) {
+    match numbers.between(0, 10) {
+        10 => region.kinds = other_kinds(numbers, region.kinds),
         0 => region.first = near(numbers, region.first),
         1 => region.after = near(numbers, region.after),
         2 => region.children = numbers.between(0, 5) as u8,
@@ -145,16 +153,18 @@ fn change_region(numbers: &mut Numbers, region: &mut Region) {
     }
 }
 
-/// One stored value: a distance, a yard, a least or a greatest.
+/// One stored value: a distance, a yard, its kinds, a least or a greatest.
 fn change_stored(numbers: &mut Numbers, stored: &mut Stored) {
     match stored {
         Stored::List(list) if list.is_empty() => (),
         Stored::List(list) => {
             let place = below(numbers, list.len());
-            match numbers.between(0, 3) {
-                0 => list[place].1 = near(numbers, list[place].1),
-                1 => list[place].0 = MOST_DISTANCE + numbers.between(0, 1) as u32,
-                _ => list[place].0 = near_distance(numbers, list[place].0),
+            let entry = &mut list[place];
+            match numbers.between(0, 5) {
+                0 => entry.yard = near(numbers, entry.yard),
+                1 => entry.distance = MOST_DISTANCE + numbers.between(0, 1) as u32,
+                2 | 3 => entry.kinds = other_kinds(numbers, entry.kinds),
+                _ => entry.distance = near_distance(numbers, entry.distance),
             }
         }
         Stored::Span { least, greatest } => match numbers.between(0, 3) {
@@ -163,6 +173,23 @@ fn change_stored(numbers: &mut Numbers, stored: &mut Stored) {
             2 => (*least, *greatest) = (*greatest, *least),
             _ => *greatest = u32::MAX,
         },
+    }
+}
+
+/// None of the kinds, or a bit more or less.
+fn other_kinds(numbers: &mut Numbers, kinds: u8) -> u8 {
+    match numbers.between(0, 2) {
+        0 => 0,
+        _ => kinds ^ (1 << numbers.between(0, 7)),
+    }
+}
+
+/// The other version, with kinds or without, or at times one that no book has.
+fn other_version(numbers: &mut Numbers, version: u8) -> u8 {
+    match numbers.between(0, 4) {
+        0 => 0,
+        1 => kinds::VERSION + 1,
+        _ => kinds::VERSION + 1 - version.min(kinds::VERSION),
     }
 }
 

@@ -5,15 +5,18 @@ use std::collections::BTreeMap;
 use super::standard::in_order;
 use super::Numbers;
 use crate::build::{landmarks, tree_of_plan, Plan};
+use crate::kinds;
+use crate::query;
 use crate::road::{self, Road, RoadBook};
-use crate::tree::{Landmark, Stored, Tree, MOST_DISTANCE, MOST_LEVELS};
-use crate::{query, yard};
+use crate::tree::{Entry, Landmark, Stored, Tree, MOST_DISTANCE, MOST_LEVELS};
+use crate::yard::{self, Yard, YardBook};
 
-/// A district's road and yard books, both of which pass.
+/// A district's road and yard books, both of which pass; the yard book's junctions, and all that it says.
 pub struct District {
     pub road: Vec<u8>,
     pub yard: Vec<u8>,
     pub yards: Vec<u16>,
+    pub book: YardBook,
     pub junctions: u16,
 }
 
@@ -22,11 +25,47 @@ pub fn district(numbers: &mut Numbers, most_junctions: u16) -> District {
     let junctions = numbers.between16(1, most_junctions);
     let road = road::write(junctions, &roads(numbers, junctions));
     let yards = yards(numbers, junctions);
+    let book = with_kinds(numbers, &yards);
     District {
         road,
-        yard: yard::write(&yards),
+        yard: yard::write_version(book.version, &book.yards),
         yards,
+        book,
         junctions,
+    }
+}
+
+/// Version 1, or version 2 with kinds: every kind; one of two; one of eight; one of eight by place, so that far yards
+/// differ; any.
+fn with_kinds(numbers: &mut Numbers, junctions: &[u16]) -> YardBook {
+    let mut yards = yard::of_all_kinds(junctions);
+    if numbers.once_in(2) {
+        return YardBook { version: 1, yards };
+    }
+    let (way, count) = (numbers.between(0, 8), yards.len());
+    for (place, yard) in yards.iter_mut().enumerate() {
+        yard.kinds = match way {
+            0 => kinds::ALL,
+            1 | 2 => 1 << numbers.between(0, 1),
+            3 | 4 => 1 << numbers.between(0, 7),
+            5 | 6 => 1 << (8 * place / count),
+            _ => numbers.between(1, 255) as u8,
+        };
+    }
+    YardBook {
+        version: kinds::VERSION,
+        yards,
+    }
+}
+
+/// A byte of wanted kinds: every kind, one kind, any kinds, or at times none.
+pub fn wanted(numbers: &mut Numbers) -> u8 {
+    match numbers.between(0, 15) {
+        0 => 0,
+        1..=4 => kinds::ALL,
+        5..=9 => 1 << numbers.between(0, 7),
+        10 | 11 => 1 << numbers.between(0, 1),
+        _ => numbers.any() as u8,
     }
 }
 
@@ -82,10 +121,11 @@ pub fn query_book(numbers: &mut Numbers, junctions: u16) -> Vec<u8> {
 }
 
 /// A tree that passes, cut at random places, with landmarks at random places or by build's rule.
-pub fn random_tree(numbers: &mut Numbers, road: &RoadBook, yards: &[u16]) -> Tree {
-    let m = numbers.between(1, 4) as u8;
-    let first = numbers.between16(0, yards[0]);
-    let after = numbers.between16(yards[yards.len() - 1] + 1, road.junctions);
+pub fn random_tree(numbers: &mut Numbers, road: &RoadBook, book: &YardBook) -> Tree {
+    let (m, yards) = (numbers.between(1, 4) as u8, &book.yards);
+    let first = numbers.between16(0, yards[0].junction);
+    let last = yards[yards.len() - 1].junction;
+    let after = numbers.between16(last + 1, road.junctions);
     let plan = random_plan(numbers, first, after, yards, MOST_LEVELS);
     let mut choose = |plan: &Plan| match numbers.between(0, 3) {
         0 => landmarks(road, plan.first, plan.after, m),
@@ -93,11 +133,11 @@ pub fn random_tree(numbers: &mut Numbers, road: &RoadBook, yards: &[u16]) -> Tre
             .map(|_| numbers.between16(plan.first, plan.after - 1))
             .collect(),
     };
-    tree_of_plan(road, &plan, m, &mut choose)
+    tree_of_plan(road, &plan, book.version, m, &mut choose)
 }
 
 /// A leaf, or two to four parts with yards, as far as levels remain.
-fn random_plan(numbers: &mut Numbers, first: u16, after: u16, yards: &[u16], levels: u32) -> Plan {
+fn random_plan(numbers: &mut Numbers, first: u16, after: u16, yards: &[Yard], levels: u32) -> Plan {
     let mut parts = Vec::new();
     if levels > 1 && yards.len() > 1 && !numbers.once_in(4) {
         let most = yards.len().min(4) as u16;
@@ -105,8 +145,8 @@ fn random_plan(numbers: &mut Numbers, first: u16, after: u16, yards: &[u16], lev
         let mut lowest = first;
         for part in groups(numbers, yards, count) {
             let next = part.1;
-            let first = numbers.between16(lowest, part.0[0]);
-            let end = part.0[part.0.len() - 1] + 1;
+            let first = numbers.between16(lowest, part.0[0].junction);
+            let end = part.0[part.0.len() - 1].junction + 1;
             let after = numbers.between16(end, next.unwrap_or(after));
             parts.push(random_plan(numbers, first, after, part.0, levels - 1));
             lowest = after;
@@ -118,43 +158,87 @@ fn random_plan(numbers: &mut Numbers, first: u16, after: u16, yards: &[u16], lev
 /// Yards in so many groups, each with the first yard of the next group.
 fn groups<'a>(
     numbers: &mut Numbers,
-    yards: &'a [u16],
+    yards: &'a [Yard],
     count: u16,
-) -> Vec<(&'a [u16], Option<u16>)> {
+) -> Vec<(&'a [Yard], Option<u16>)> {
     let mut cuts = numbers.some_below(count - 1, yards.len() as u16 - 1);
     cuts.push(yards.len() as u16 - 1);
     let mut start = 0;
     let mut groups = Vec::new();
     for cut in cuts {
         let end = usize::from(cut) + 1;
-        groups.push((&yards[start..end], yards.get(end).copied()));
+        let next = yards.get(end).map(|yard| yard.junction);
+        groups.push((&yards[start..end], next));
         start = end;
     }
     groups
 }
 
-/// A tree of the same shape with some stored values changed; check refuses it by 9 unless none changed.
+/// A tree of the same shape with some stored values changed: distances, in version 2 kinds, or both; check refuses it
+/// by 9 unless none changed.
 pub fn false_tree(numbers: &mut Numbers, tree: &Tree) -> Tree {
     let mut tree = tree.clone();
+    let what = match kinds::size(tree.version) {
+        0 => 0,
+        _ => numbers.between(0, 2),
+    };
+    if what != 1 {
+        change_distances(numbers, &mut tree);
+    }
+    if what != 0 {
+        change_kinds(numbers, &mut tree);
+    }
+    tree
+}
+
+/// Some landmarks with other distances.
+fn change_distances(numbers: &mut Numbers, tree: &mut Tree) {
+    let often = numbers.between(1, 6);
+    for landmark in tree.regions.iter_mut().flat_map(|r| &mut r.landmarks) {
+        if numbers.once_in(often) {
+            change_stored(numbers, landmark);
+        }
+    }
+}
+
+/// Some regions and list entries with other kinds, each by itself: regions may lie, and lists disagree.
+fn change_kinds(numbers: &mut Numbers, tree: &mut Tree) {
     let often = numbers.between(1, 6);
     for region in &mut tree.regions {
+        if numbers.once_in(often) {
+            region.kinds = other_kinds(numbers, region.kinds);
+        }
         for landmark in &mut region.landmarks {
-            if numbers.once_in(often) {
-                change_stored(numbers, landmark);
+            let Stored::List(list) = &mut landmark.stored else {
+                continue;
+            };
+            for entry in list {
+                if numbers.once_in(often) {
+                    entry.kinds = other_kinds(numbers, entry.kinds);
+                }
             }
         }
     }
-    tree
+}
+
+/// A bit more or less, or any byte, but not 0.
+fn other_kinds(numbers: &mut Numbers, kinds: u8) -> u8 {
+    let other = match numbers.between(0, 3) {
+        0 => numbers.any() as u8,
+        _ => kinds ^ (1 << numbers.between(0, 7)),
+    };
+    other.max(1)
 }
 
 /// Other stored values that pass test 5 and name the same yards.
 fn change_stored(numbers: &mut Numbers, landmark: &mut Landmark) {
     match &mut landmark.stored {
         Stored::List(list) => {
-            for (distance, _) in list.iter_mut() {
-                *distance = other_distance(numbers, *distance).min(MOST_DISTANCE);
+            for entry in list.iter_mut() {
+                let distance = other_distance(numbers, entry.distance);
+                entry.distance = distance.min(MOST_DISTANCE);
             }
-            list.sort_unstable();
+            list.sort_unstable_by_key(Entry::pair);
         }
         Stored::Span { least, greatest } => {
             let one = other_distance(numbers, *least);

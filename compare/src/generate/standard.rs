@@ -3,8 +3,9 @@
 use std::collections::BTreeMap;
 
 use super::Numbers;
+use crate::kinds;
 use crate::road::{self, Road};
-use crate::yard;
+use crate::yard::{self, Yard};
 
 /// The junctions of every book here.
 const JUNCTIONS: u16 = 1_024;
@@ -99,12 +100,28 @@ pub fn in_order(roads: BTreeMap<(u16, u16), u16>) -> Vec<Road> {
 
 /// A yard book of 1 to 256 yards, one in each equal part of the 1,024 junctions; none for another number.
 pub fn yard_book(yards: u32, seed: u32) -> Option<Vec<u8>> {
+    Some(yard::write(&yard_junctions(yards, seed)?))
+}
+
+/// The same yards in a version 2 book: the yard at each place has one kind, bit 0 to 7 in turn, so that each bit is
+/// one yard's in eight.
+pub fn kinds_yard_book(yards: u32, seed: u32) -> Option<Vec<u8>> {
+    let junctions = yard_junctions(yards, seed)?.into_iter().enumerate();
+    let yard = |(place, junction): (usize, u16)| Yard {
+        junction,
+        kinds: 1 << (place % 8),
+    };
+    let yards: Vec<Yard> = junctions.map(yard).collect();
+    Some(yard::write_version(kinds::VERSION, &yards))
+}
+
+/// One junction in each equal part of the 1,024, for 1 to 256 parts.
+fn yard_junctions(yards: u32, seed: u32) -> Option<Vec<u16>> {
     if !(1..=256).contains(&yards) {
         return None;
     }
     let mut numbers = Numbers::new(u64::from(seed));
     let cut = |i: u32| (i * u32::from(JUNCTIONS) / yards) as u16;
     let yard = |i| numbers.between16(cut(i), cut(i + 1) - 1);
-    let yards: Vec<u16> = (0..yards).map(yard).collect();
-    Some(yard::write(&yards))
+    Some((0..yards).map(yard).collect())
 }

@@ -4,8 +4,9 @@ pub mod bound;
 pub mod measure;
 pub mod state;
 
+use crate::kinds;
 use crate::query::Query;
-use crate::refusal::{refuse_unless, zero_work, AREA, WORK_WORDS};
+use crate::refusal::{refuse_unless, zero_work, AREA, WANTED, WORK_WORDS};
 use crate::road::RoadBook;
 use crate::tree::Tree;
 use crate::{query, road, tree};
@@ -49,6 +50,7 @@ pub struct Search {
     pub tree: Tree,
     pub query: Query,
     pub asked: Asked,
+    pub wanted: u8,
     pub measuring: Measuring,
     pub sheet: Sheet,
     pub crew_distances: Vec<Vec<u32>>,
@@ -59,6 +61,11 @@ impl Search {
     pub fn by(self, measuring: Measuring) -> Self {
         Search { measuring, ..self }
     }
+
+    /// "Regions [...] without a wanted bit never enter the queue": whether a region may.
+    pub fn admits(&self, number: usize) -> bool {
+        kinds::share(self.tree.regions[number].kinds, self.wanted)
+    }
 }
 
 /// A search's end: settled or spent, the steps taken and the last state.
@@ -68,15 +75,17 @@ pub struct Outcome {
     pub state: State,
 }
 
-/// "The planner, in C, calls search": for the first k yards.
+/// "The planner, in C, calls search": for the first k yards. "Searches take a byte of wanted kinds".
 pub fn search(
     road: &[u8],
     tree: &[u8],
     query: &[u8],
+    wanted: u8,
     work: &mut [u32],
     results: &mut [u32],
 ) -> Found {
-    ask(Asked::FirstK, [road, tree, query], work, results)
+    let books = [road, tree, query];
+    ask(Asked::FirstK, wanted, books, work, results)
 }
 
 /// "a search that lists all of them, each once, in yard order, by the same steps, limit and "spent"": all yards
@@ -85,27 +94,36 @@ pub fn within(
     road: &[u8],
     tree: &[u8],
     query: &[u8],
+    wanted: u8,
     seconds: u32,
     work: &mut [u32],
     results: &mut [u32],
 ) -> Found {
-    ask(Asked::Within(seconds), [road, tree, query], work, results)
+    let books = [road, tree, query];
+    ask(Asked::Within(seconds), wanted, books, work, results)
 }
 
-/// A search of road, tree and query books: refused, settled or spent.
-pub fn ask(asked: Asked, books: [&[u8]; 3], work: &mut [u32], results: &mut [u32]) -> Found {
-    ask_by(Measuring::Walks, asked, books, work, results)
+/// A search of road, tree and query books for yards of the wanted kinds: refused, settled or spent.
+pub fn ask(
+    asked: Asked,
+    wanted: u8,
+    books: [&[u8]; 3],
+    work: &mut [u32],
+    results: &mut [u32],
+) -> Found {
+    ask_by(Measuring::Walks, asked, wanted, books, work, results)
 }
 
 /// The same, with yards measured in this way.
 pub fn ask_by(
     measuring: Measuring,
     asked: Asked,
+    wanted: u8,
     books: [&[u8]; 3],
     work: &mut [u32],
     results: &mut [u32],
 ) -> Found {
-    let search = match tested(asked, books, work.len(), results.len()) {
+    let search = match tested(asked, wanted, books, work.len(), results.len()) {
         Ok(search) => search.by(measuring),
         Err(refusal) => return refused(refusal),
     };
@@ -118,9 +136,11 @@ pub fn ask_by(
 }
 
 /// "Books are tested in the order road, yard, tree, query, each through its own tests, a test between books
-/// going with the later one; then the call's m, leaf limit and areas."
+/// going with the later one; then the call's m, leaf limit and areas." "13, the wanted byte is 0, tested directly
+/// after 11."
 pub fn tested(
     asked: Asked,
+    wanted: u8,
     [road, tree, query]: [&[u8]; 3],
     work: usize,
     results: usize,
@@ -128,6 +148,7 @@ pub fn tested(
     let road = road::read(road)?;
     let tree = tree::read(tree, road.junctions)?;
     let query = query::read(query, road.junctions)?;
+    refuse_unless(wanted != 0, WANTED)?;
     let needed = result_words(asked, &tree, &query);
     refuse_unless(work >= WORK_WORDS && results >= needed, AREA)?;
     let sheet = Sheet::new(&road, &tree);
@@ -138,6 +159,7 @@ pub fn tested(
         tree,
         query,
         asked,
+        wanted,
         measuring: Measuring::Walks,
         sheet,
         crew_distances,
@@ -202,6 +224,6 @@ pub fn found(outcome: &Outcome) -> Found {
 fn write_list(state: &State, results: &mut [u32]) {
     for (words, &(distance, yard)) in results.chunks_mut(2).zip(&state.held) {
         words[0] = u32::from(yard);
-        words[1] = distance as u32;
+        words[1] = distance;
     }
 }

@@ -5,6 +5,7 @@ use std::collections::{BTreeMap, BTreeSet, VecDeque};
 use super::bound::{f, pick_landmark, region_key, yard_bound};
 use super::measure::{measure, Measured};
 use super::{Asked, Measuring, Search};
+use crate::tree::Entry;
 
 /// "at equal keys a region precedes a yard, then lower number first": the order of the cases is this order.
 #[derive(Clone, Copy, Debug, PartialEq, Eq, PartialOrd, Ord)]
@@ -24,7 +25,7 @@ pub struct State {
     leaves: BTreeMap<usize, Leaf>,
 }
 
-/// A leaf already taken: its first key, the true distances from its landmark to the crews, the elements left.
+/// A leaf already taken: its first key, the true distances from its landmark to the crews, the wanted elements left.
 struct Leaf {
     first_key: u64,
     crew_values: Vec<u32>,
@@ -39,10 +40,11 @@ struct Element {
 }
 
 impl State {
-    /// "The queue starts with the root."
+    /// "The queue starts with the root." A root without a wanted bit "settles empty with 0 taken".
     pub fn start(search: &Search) -> Self {
+        let root = (region_key(search, 0, 0), Item::Region(0));
         State {
-            queue: BTreeSet::from([(region_key(search, 0, 0), Item::Region(0))]),
+            queue: search.admits(0).then_some(root).into_iter().collect(),
             held: Vec::new(),
             measured: Vec::new(),
             walked_on: 0,
@@ -82,16 +84,18 @@ pub fn step(search: &Search, mut state: State) -> State {
     state
 }
 
-/// "An inner region queues its children."
+/// "An inner region queues its children." "Regions [...] without a wanted bit never enter the queue".
 fn take_inner(search: &Search, state: &mut State, key: u64, number: usize) {
-    for child in search.tree.children(number) {
+    let children = search.tree.children(number).into_iter();
+    for child in children.filter(|&child| search.admits(child)) {
         let child_key = region_key(search, child, key);
         state.queue.insert((child_key, Item::Region(child)));
     }
 }
 
 /// "A leaf queues its next yard and, if any remain, itself, with the greater of its first key and the next f."
-/// "Its key [the yard's] is the greater of its bound and the leaf's first key."
+/// "Its key [the yard's] is the greater of its bound and the leaf's first key." "its next yard, the next f and whether
+/// any remain concern wanted ones alone"; "A leaf without any wanted yard queues nothing when taken."
 fn take_leaf(search: &Search, state: &mut State, key: u64, number: usize) {
     let leaf = state
         .leaves
@@ -108,18 +112,22 @@ fn take_leaf(search: &Search, state: &mut State, key: u64, number: usize) {
     }
 }
 
-/// "A leaf when first taken picks its landmark [...]. Its list's elements leave by f, [...] then by place."
+/// "A leaf when first taken picks its landmark [...]. Its list's elements leave by f, [...] then by place." It "passes
+/// over its unwanted elements".
 fn first_taken(search: &Search, key: u64, number: usize) -> Leaf {
-    let picked = pick_landmark(search, number);
-    let landmark = &search.tree.regions[number].landmarks[picked];
+    let region = &search.tree.regions[number];
+    let landmark = &region.landmarks[pick_landmark(search, number)];
     let at_landmark = |row: &Vec<u32>| row[usize::from(landmark.junction)];
     let crew_values: Vec<u32> = search.crew_distances.iter().map(at_landmark).collect();
-    let element = |&(distance, yard): &(u32, u16)| Element {
-        f: f(search.query.aggregate, &crew_values, distance),
-        distance,
-        yard,
+    let wanted = region.wanted_yards(search.wanted);
+    let is_wanted = |entry: &&Entry| wanted.contains(&entry.yard);
+    let element = |entry: &Entry| Element {
+        f: f(search.query.aggregate, &crew_values, entry.distance),
+        distance: entry.distance,
+        yard: entry.yard,
     };
-    let mut elements: Vec<Element> = landmark.list().iter().map(element).collect();
+    let entries = landmark.list().iter().filter(is_wanted);
+    let mut elements: Vec<Element> = entries.map(element).collect();
     elements.sort_by_key(|element| element.f); // stable, so equal f stay by place
     Leaf {
         first_key: key,

@@ -9,7 +9,7 @@ use lib.ListN.{length}
 use lib.Dec.{T, T-not, leb, eqb, leb→le, le→leb, eqb→eq}
 use Rattle.book.specs.Bytes.{u8At, u32At}
 use Rattle.book.specs.Choose.{refuse, firstOf}
-use Rattle.book.specs.Open.{openRefusal}
+use Rattle.book.specs.Open.{version, openRefusal}
 use Rattle.book.specs.Tests.{Test, test, FirstFailing, openTests}
 use Rattle.book.proofs.Choosing.{refuse-case, first-later, first-earlier, and-left, and-right, eq→eqb}
 use Rattle.book.proofs.Lists.{neqb→ne}
@@ -111,10 +111,11 @@ first-at ts us n fact h z before after =
 
 -- ---- the opening
 
-pub open-tests : (b : List ℕ) (header : ℕ) → FirstFailing (openTests b header) (openRefusal b header)
+pub open-tests : (b : List ℕ) (latest header : ℕ) → FirstFailing (openTests b latest header) (openRefusal b latest header)
 unfolding openRefusal
-open-tests b header =
+open-tests b latest header =
     first-le 5 (length b) 1 _ _ (λ _.
     first-eq (length b) (4 + u32At b 0) 1 _ _ (λ _.
-    first-eq (u8At b 4) 1 2 _ _ (λ _.
-    first-le (5 + header) (length b) 3 0 _ (λ _. first-end))))
+    first-le 1 (version b) 2 _ _ (λ _.
+    first-le (version b) latest 2 _ _ (λ _.
+    first-le (5 + header) (length b) 3 0 _ (λ _. first-end)))))

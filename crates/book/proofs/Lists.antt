@@ -1,4 +1,4 @@
--- Laws of tests on numbers, of membership and of lists in which nothing stands twice. Assumes nothing.
+-- Laws of tests on numbers, of membership, of lists in which nothing stands twice, and of what of a list passes a test. Assumes nothing.
 use mathlib.Core.Path.{_≡_, refl, sym, ap, _∙_}
 use mathlib.Core.Logic.{_⊎_, inl, inr, _≢_}
 use mathlib.Core.Bool.{Bool, true, false, not, _&&_, _||_}
@@ -9,7 +9,8 @@ use native.Mathlib.Omega.{arith}
 use lib.ListN.{length, getD}
 use lib.Dec.{T, ltb, leb, eqb, eqb→eq, eqb-refl, T-not, not-T}
 use Rattle.book.specs.Choose.{choose}
-use Rattle.book.specs.Lists.{Distinct}
+use Rattle.book.specs.Lists.{Distinct, keepIf}
+use Rattle.book.proofs.Choosing.{choose-case, choose-yes, choose-no}
 pub use Rattle.book.proofs.Tests.{or-left, or-right, or-cases, eq→eqb, ne→neqb, neqb→ne}
 
 -- ---- tests
@@ -53,3 +54,69 @@ distinct-append (x ∷ xs) t p q h = ((λ k. out (append-cases xs k)), distinct-
     out : Mem x xs ⊎ Mem x t → ⊥
     out (inl k) = p .0 k
     out (inr k) = h x (head refl) k
+
+-- ---- what of a list passes a test
+
+module _ {A : Type 0} (p : A → Bool) where
+  pub kept-none : keepIf p [] ≡ []
+  unfolding keepIf
+  kept-none = refl
+
+  pub kept-yes : (x : A) (xs : List A) → T (p x) → keepIf p (x ∷ xs) ≡ x ∷ keepIf p xs
+  unfolding keepIf
+  kept-yes x xs t = choose-yes (p x) (x ∷ keepIf p xs) (keepIf p xs) t
+
+  pub kept-no : (x : A) (xs : List A) → T (not (p x)) → keepIf p (x ∷ xs) ≡ keepIf p xs
+  unfolding keepIf
+  kept-no x xs t = choose-no (p x) (x ∷ keepIf p xs) (keepIf p xs) t
+
+  -- it has the members that pass, and no others
+  pub kept-from : (xs : List A) (x : A) → Mem x (keepIf p xs) → Mem x xs × T (p x)
+  unfolding keepIf
+  kept-from [] x = λ k. absurd (not-nil k)
+  kept-from (y ∷ ys) x = let rest = kept-from ys x in
+      choose-case (λ (l : List A). Mem x l → Mem x (y ∷ ys) × T (p x)) (p y) (λ t k. on t (cases-cons k) rest) (λ t k. (tail (rest k .0), rest k .1))
+    where
+      on : T (p y) → (x ≡ y) ⊎ Mem x (keepIf p ys) → (Mem x (keepIf p ys) → Mem x ys × T (p x)) → Mem x (y ∷ ys) × T (p x)
+      on t (inl e) rec = (head e, rw e t)
+      on t (inr k) rec = (tail (rec k .0), rec k .1)
+
+  pub kept-in : (xs : List A) (x : A) → Mem x xs → T (p x) → Mem x (keepIf p xs)
+  unfolding keepIf
+  kept-in [] x k t = absurd (not-nil k)
+  kept-in (y ∷ ys) x k t = let rest = kept-in ys x in
+      choose-case (λ (l : List A). Mem x l) (p y) (λ s. on (cases-cons k) (λ j. rest j t)) (λ s. off s (cases-cons k) (λ j. rest j t))
+    where
+      on : (x ≡ y) ⊎ Mem x ys → (Mem x ys → Mem x (keepIf p ys)) → Mem x (y ∷ keepIf p ys)
+      on (inl e) rec = head e
+      on (inr j) rec = tail (rec j)
+
+      off : T (not (p y)) → (x ≡ y) ⊎ Mem x ys → (Mem x ys → Mem x (keepIf p ys)) → Mem x (keepIf p ys)
+      off s (inl e) rec = absurd (T-not (p y) s (rw (← e) t))
+      off s (inr j) rec = rec j
+
+  pub kept-distinct : (xs : List A) → Distinct xs → Distinct (keepIf p xs)
+  unfolding keepIf
+  kept-distinct [] d = tt
+  kept-distinct (x ∷ xs) d = let rest = kept-distinct xs (d .1) in
+      choose-case (λ (l : List A). Distinct l) (p x) (λ t. ((λ k. d .0 (kept-from xs x k .0)), rest)) (λ t. rest)
+
+  -- all pass
+  pub kept-all : (xs : List A) → ((x : A) → Mem x xs → T (p x)) → keepIf p xs ≡ xs
+  kept-all [] h = kept-none
+  kept-all (x ∷ xs) h = kept-yes x xs (h x (head refl)) ∙ ap (λ (l : List A). x ∷ l) (kept-all xs (λ y k. h y (tail k)))
+
+  -- those that pass and those that don't are as many as the list has
+  pub kept-split : (xs : List A) → length (keepIf p xs) + length (keepIf (λ x. not (p x)) xs) ≡ length xs
+  unfolding keepIf choose
+  kept-split [] = refl
+  kept-split (x ∷ xs) = let rest = kept-split xs in one (p x) rest
+    where
+      one : (b : Bool) → length (keepIf p xs) + length (keepIf (λ x. not (p x)) xs) ≡ length xs
+          → length (choose b (x ∷ keepIf p xs) (keepIf p xs)) + length (choose (not b) (x ∷ keepIf (λ x. not (p x)) xs) (keepIf (λ x. not (p x)) xs))
+          ≡ suc (length xs)
+      one true e = omega arith
+      one false e = omega arith
+
+  pub kept-length : (xs : List A) → length (keepIf p xs) ≤ length xs
+  kept-length xs = omega (arith, kept-split xs)

@@ -11,53 +11,69 @@ use lib.Dec.{T, leb, eqb, leb→le, eqb→eq}
 use Rattle.book.specs.Choose.{refuse, choose}
 use Rattle.book.specs.Bytes.{u8At, u32At}
 use Rattle.book.specs.Cases.{caseOf}
-use Rattle.book.specs.Open.{Opens, openRefusal, opened, openedCase, openedNumber}
+use Rattle.book.specs.Open.{Opens, version, openRefusal, opened, openedCase, openedNumber}
 use Rattle.book.specs.declared.Opened.{Opened}
 use Rattle.book.specs.declared.Opened.the-variants.{Body, Refused}
 use Rattle.book.proofs.Choosing.{passed, refuse-case}
 
-module _ (b : List ℕ) (h : ℕ) where
-  pub short : length b < 5 → openRefusal b h ≡ 1
+-- where the version stands
+pub version-byte : (b : List ℕ) → version b ≡ u8At b 4
+unfolding version
+version-byte b = refl
+
+module _ (b : List ℕ) (latest h : ℕ) where
+  pub short : length b < 5 → openRefusal b latest h ≡ 1
   unfolding openRefusal refuse choose
   short p = simp lt-leb
 
-  pub miscounted : 5 ≤ length b → (length b ≡ 4 + u32At b 0 → ⊥) → openRefusal b h ≡ 1
+  pub miscounted : 5 ≤ length b → (length b ≡ 4 + u32At b 0 → ⊥) → openRefusal b latest h ≡ 1
   unfolding openRefusal refuse choose
   miscounted p q = simp (le-leb, ne-eqb)
 
-  pub other : 5 ≤ length b → length b ≡ 4 + u32At b 0 → (u8At b 4 ≡ 1 → ⊥) → openRefusal b h ≡ 2
-  unfolding openRefusal refuse choose
-  other p q r = simp (le-leb, eq-eqb, ne-eqb)
+  module _ (five : 5 ≤ length b) (counted : length b ≡ 4 + u32At b 0) where
+    pub unversioned : version b < 1 → openRefusal b latest h ≡ 2
+    unfolding openRefusal refuse choose
+    unversioned p = simp (le-leb, lt-leb, eq-eqb)
 
-  pub headless : 5 ≤ length b → length b ≡ 4 + u32At b 0 → u8At b 4 ≡ 1 → length b < 5 + h → openRefusal b h ≡ 3
-  unfolding openRefusal refuse choose
-  headless p q r s = simp (le-leb, lt-leb, eq-eqb)
+    pub later : 1 ≤ version b → latest < version b → openRefusal b latest h ≡ 2
+    unfolding openRefusal refuse choose
+    later p q = simp (le-leb, lt-leb, eq-eqb)
 
-  pub whole : 5 ≤ length b → length b ≡ 4 + u32At b 0 → u8At b 4 ≡ 1 → 5 + h ≤ length b → openRefusal b h ≡ 0
-  unfolding openRefusal refuse choose
-  whole p q r s = simp (le-leb, eq-eqb)
+    pub headless : 1 ≤ version b → version b ≤ latest → length b < 5 + h → openRefusal b latest h ≡ 3
+    unfolding openRefusal refuse choose
+    headless p q r = simp (le-leb, lt-leb, eq-eqb)
+
+    pub whole : 1 ≤ version b → version b ≤ latest → 5 + h ≤ length b → openRefusal b latest h ≡ 0
+    unfolding openRefusal refuse choose
+    whole p q r = simp (le-leb, eq-eqb)
 
   -- no test fails exactly if the book opens
-  pub opens : openRefusal b h ≡ 0 → Opens b h
+  pub opens : openRefusal b latest h ≡ 0 → Opens b latest h
   unfolding openRefusal
   opens e =
       let p = passed _ _ _ e (omega arith) in
       let q = passed _ _ _ (p .1) (omega arith) in
       let r = passed _ _ _ (q .1) (omega arith) in
       let s = passed _ _ _ (r .1) (omega arith) in
-      record { counted = eqb→eq _ _ (q .0); version = eqb→eq _ _ (r .0); headed = leb→le _ _ (s .0) }
+      let t = passed _ _ _ (s .1) (omega arith) in
+      record {
+        counted = eqb→eq _ _ (q .0);
+        versioned = (leb→le _ _ (r .0), leb→le _ _ (s .0));
+        headed = leb→le _ _ (t .0);
+      }
 
   -- the tests of an opening are 1, 2 and 3
-  pub open-most : openRefusal b h ≤ 3
+  pub open-most : openRefusal b latest h ≤ 3
   unfolding openRefusal
   open-most =
       refuse-case (λ n. n ≤ 3) _ (λ _. omega arith) (λ _.
       refuse-case (λ n. n ≤ 3) _ (λ _. omega arith) (λ _.
       refuse-case (λ n. n ≤ 3) _ (λ _. omega arith) (λ _.
-      refuse-case (λ n. n ≤ 3) _ (λ _. omega arith) (λ _. omega arith))))
+      refuse-case (λ n. n ≤ 3) _ (λ _. omega arith) (λ _.
+      refuse-case (λ n. n ≤ 3) _ (λ _. omega arith) (λ _. omega arith)))))
 
-  pub open-zero : Opens b h → openRefusal b h ≡ 0
-  open-zero o = whole (omega (arith, o .headed)) (o .counted) (o .version) (o .headed)
+  pub open-zero : Opens b latest h → openRefusal b latest h ≡ 0
+  open-zero o = whole (omega (arith, o .headed)) (o .counted) (o .versioned .0) (o .versioned .1) (o .headed)
 
 -- the answer's cases, back to the number
 pub opened-body : (n : ℕ) → opened n ≡ Body → n ≡ 0

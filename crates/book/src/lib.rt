@@ -2,7 +2,7 @@ ghost use mathlib.Core.Path.{_≡_};
 ghost use Prim.Native.Nat.{ℕ, _+_, _≤_, _<_};
 ghost use lib.ListN.{length};
 ghost use Rattle.book.specs.Bytes.{u8At, u16At, u32At, putU16, putU32};
-ghost use Rattle.book.specs.Open.{openRefusal, opened, openedNumber};
+ghost use Rattle.book.specs.Open.{version, openRefusal, opened, openedNumber};
 
 // A junction's number: a vertex of the road graph, counted from 0. Never a tree region's number.
 pub struct Junction {
@@ -79,9 +79,18 @@ pub fn number(o: Opened) -> u8
     }
 }
 
-// Opens a book whose header has `header` bytes after the version: tests 1, 2 and the incomplete header of 3.
-pub fn open(b: &[u8], header: usize) -> Opened
-    ensures { λ r. ⌜ r ≡ opened (openRefusal (now (b .entry)) header) ⌝ }
+// The version byte.
+pub fn version(b: &[u8]) -> u8
+    requires { ⌜ 5 ≤ length (now b) ⌝ }
+    ensures { λ r. ⌜ r ≡ version (now (b .entry)) ⌝ }
+{
+    u8_at(b, 4)
+}
+
+// Opens a book of versions up to `latest` whose header has `header` bytes after the version: tests 1, 2 and the
+// incomplete header of 3.
+pub fn open(b: &[u8], latest: u8, header: usize) -> Opened
+    ensures { λ r. ⌜ r ≡ opened (openRefusal (now (b .entry)) latest header) ⌝ }
 {
     let n = b.len();
     if n < 5 {
@@ -90,7 +99,11 @@ pub fn open(b: &[u8], header: usize) -> Opened
     if u32_at(b, 0) as usize != n - 4 {
         return Opened::Refused(1);
     }
-    if u8_at(b, 4) != 1 {
+    let given = version(b);
+    if given < 1 {
+        return Opened::Refused(2);
+    }
+    if latest < given {
         return Opened::Refused(2);
     }
     if n - 5 < header {

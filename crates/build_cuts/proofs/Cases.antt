@@ -50,7 +50,7 @@ module _ (b yb : List ℕ) (m limit a s : ℕ) where
   ys = within a (a + s) (yardsOf yb)
 
   abbrev g : Given
-  g = given b m limit
+  g = given b yb m limit
 
   pub some-parts : yardRefusal yb ≡ 0 → 0 < length ys → 0 < partCount a s ys 4 0
   some-parts ok h = go (ℕ-discrete (partCount a s ys 4 0) 0)
@@ -68,14 +68,14 @@ module _ (b yb : List ℕ) (m limit a s : ℕ) where
   -- ---- a range
 
   module _ (levels : ℕ) where
-    pub regions-leaf : (eqb levels 0 || leb (length ys) limit) ≡ true → rangeRegions b yb m limit levels a s ≡ ownRegions b m limit a s 0 ys
+    pub regions-leaf : (eqb levels 0 || leb (length ys) limit) ≡ true → rangeRegions b yb m limit levels a s ≡ ownRegions b yb m limit a s 0 ys
     unfolding rangeRegions
-    regions-leaf t = go levels refl (or-cases (eqb levels 0) (leb (length ys) limit) (true-T t)) ∙ sym (own-leaf b m limit a s 0 ys refl)
+    regions-leaf t = go levels refl (or-cases (eqb levels 0) (leb (length ys) limit) (true-T t)) ∙ sym (own-leaf b yb m limit a s 0 ys refl)
       where
         go : (k : ℕ) → k ≡ levels → T (eqb levels 0) ⊎ T (leb (length ys) limit) → cut g levels a s ys ≡ leafRegion g a s ys ∷ []
         go zero e c = rw (← e) (cut-none g 0 a s ys)
         go (suc k) e (inl c) = absurd (omega (arith, eqb→eq levels 0 c))
-        go (suc k) e (inr c) = rw (← e) (cut-leaf g k a s ys (omega (arith, given-limit b m limit, leb→le (length ys) limit c)))
+        go (suc k) e (inr c) = rw (← e) (cut-leaf g k a s ys (omega (arith, given-limit b yb m limit, leb→le (length ys) limit c)))
 
     module _ (t : (eqb levels 0 || leb (length ys) limit) ≡ false) where
       pub some-level : levels ≢ 0
@@ -87,7 +87,7 @@ module _ (b yb : List ℕ) (m limit a s : ℕ) where
           (or-right (eqb levels 0) (leb (length ys) limit) x)))
 
       -- the parent, if it stays, then the parts
-      pub regions-cut : 0 < partCount a s ys 4 0 → rangeRegions b yb m limit levels a s ≡ ownRegions b m limit a s (partCount a s ys 4 0) ys
+      pub regions-cut : 0 < partCount a s ys 4 0 → rangeRegions b yb m limit levels a s ≡ ownRegions b yb m limit a s (partCount a s ys 4 0) ys
           ++ partsFrom b yb m limit (levels - 1) a s 0
       unfolding rangeRegions partsFrom
       regions-cut some = go (ℕ-discrete (partCount a s ys 4 0) 1)
@@ -96,18 +96,18 @@ module _ (b yb : List ℕ) (m limit a s : ℕ) where
           q = partCount a s ys 4 0
 
           over : g .limit < length ys
-          over = omega (arith, given-limit b m limit, many-yards)
+          over = omega (arith, given-limit b yb m limit, many-yards)
 
           level : levels ≡ suc (levels - 1)
           level = omega (arith, some-level)
 
-          go : Dec (partCount a s ys 4 0 ≡ 1) → cut g levels a s ys ≡ ownRegions b m limit a s q ys ++ partRegions (cut g (levels - 1)) a s ys 4 0
+          go : Dec (partCount a s ys 4 0 ≡ 1) → cut g levels a s ys ≡ ownRegions b yb m limit a s q ys ++ partRegions (cut g (levels - 1)) a s ys 4 0
           go (yes e) =
               ap (λ (k : ℕ). cut g k a s ys) level ∙ cut-one g (levels - 1) a s ys over e
-              ∙ ap (λ (l : List Region). l ++ partRegions (cut g (levels - 1)) a s ys 4 0) (sym (own-none b m limit a s q ys e))
+              ∙ ap (λ (l : List Region). l ++ partRegions (cut g (levels - 1)) a s ys 4 0) (sym (own-none b yb m limit a s q ys e))
           go (no e) =
               ap (λ (k : ℕ). cut g k a s ys) level ∙ cut-many g (levels - 1) a s ys over e
-              ∙ ap (λ (l : List Region). l ++ partRegions (cut g (levels - 1)) a s ys 4 0) (sym (own-inner b m limit a s q ys e some))
+              ∙ ap (λ (l : List Region). l ++ partRegions (cut g (levels - 1)) a s ys 4 0) (sym (own-inner b yb m limit a s q ys e some))
 
     -- ---- its parts, from number i on
 
@@ -134,6 +134,6 @@ module _ (b yb : List ℕ) (m limit a s : ℕ) where
 
 -- a range's regions, by the yards in it
 pub range-cut : (b yb : List ℕ) (m limit levels a s : ℕ)
-    → rangeRegions b yb m limit levels a s ≡ cut (given b m limit) levels a s (within a (a + s) (yardsOf yb))
+    → rangeRegions b yb m limit levels a s ≡ cut (given b yb m limit) levels a s (within a (a + s) (yardsOf yb))
 unfolding rangeRegions
 range-cut b yb m limit levels a s = refl

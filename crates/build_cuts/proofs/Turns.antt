@@ -7,6 +7,7 @@ use native.Mathlib.Numerals.{add-one}
 use native.Mathlib.Omega.{arith}
 use lib.ListN.{length}
 use Rattle.book.proofs.Choosing.{lt-or-ge}
+use Rattle.book.specs.Open.{version}
 use Rattle.yard.specs.Yards.{yardsOf, yardRefusal}
 use Rattle.check_rules.specs.Truth.{within}
 use Rattle.tree_encode.specs.Encode.{encodeRegions}
@@ -40,9 +41,9 @@ cuts-top a s i h high f = let e : high ≡ cutAt a s (suc i) = rw add-one at f i
 -- ---- its parts, from number i on
 
 module _ (b yb : List ℕ) (ok : yardRefusal yb ≡ 0) (levels i a s limit m at : ℕ) where
-  pub parts-over : (tree : List ℕ) → i ≡ 4 → WrittenRegions tree at (partsFrom b yb m limit levels a s i) tree at 0
+  pub parts-over : (tree : List ℕ) → i ≡ 4 → WrittenRegions (version yb) tree at (partsFrom b yb m limit levels a s i) tree at 0
   parts-over tree e =
-      written-same tree at [] (partsFrom b yb m limit levels a s i) tree at 0 (parts-none b yb m limit a s levels i e) (written-none tree at)
+      written-same (version yb) tree at [] (partsFrom b yb m limit levels a s i) tree at 0 (parts-none b yb m limit a s levels i e) (written-none (version yb) tree at)
 
   -- part i has `size` junctions from `low` on, and the yards of number `from` up to `end`
   module _ (h : i ≤ 4) (n : i ≢ 4) (low size : ℕ) (el : low ≡ cutAt a s i) (eh : low + size ≡ cutAt a s (i + 1)) (from end : ℕ)
@@ -66,14 +67,14 @@ module _ (b yb : List ℕ) (ok : yardRefusal yb ≡ 0) (levels i a s limit m at 
       dropped : partsFrom b yb m limit levels a s i ≡ partsFrom b yb m limit levels a s (i + 1)
       dropped = parts-drop b yb m limit a s levels i left (omega (arith, part-count))
 
-      pub drop-fits : (room : ℕ) → at + length (encodeRegions (partsFrom b yb m limit levels a s i)) ≤ room
-          → at + length (encodeRegions (partsFrom b yb m limit levels a s (i + 1))) ≤ room
+      pub drop-fits : (room : ℕ) → at + length (encodeRegions (version yb) (partsFrom b yb m limit levels a s i)) ≤ room
+          → at + length (encodeRegions (version yb) (partsFrom b yb m limit levels a s (i + 1))) ≤ room
       drop-fits room fits = rw dropped at fits
 
-      pub drop-done : (tree after : List ℕ) (p c : ℕ) → WrittenRegions tree at (partsFrom b yb m limit levels a s (i + 1)) after p c
-          → WrittenRegions tree at (partsFrom b yb m limit levels a s i) after p c
+      pub drop-done : (tree after : List ℕ) (p c : ℕ) → WrittenRegions (version yb) tree at (partsFrom b yb m limit levels a s (i + 1)) after p c
+          → WrittenRegions (version yb) tree at (partsFrom b yb m limit levels a s i) after p c
       drop-done tree after p c w =
-          written-same tree at (partsFrom b yb m limit levels a s (i + 1)) (partsFrom b yb m limit levels a s i) after p c dropped w
+          written-same (version yb) tree at (partsFrom b yb m limit levels a s (i + 1)) (partsFrom b yb m limit levels a s i) after p c dropped w
 
     module _ (e : from ≢ end) where
       pub part-size : 0 < size
@@ -94,31 +95,31 @@ module _ (b yb : List ℕ) (ok : yardRefusal yb ≡ 0) (levels i a s limit m at 
           )) in
           rw (z, ← el) at k
 
-      module _ (room : ℕ) (fits : at + length (encodeRegions (partsFrom b yb m limit levels a s i)) ≤ room) where
-        pub part-fits : at + length (encodeRegions (rangeRegions b yb m limit levels low size)) ≤ room
+      module _ (room : ℕ) (fits : at + length (encodeRegions (version yb) (partsFrom b yb m limit levels a s i)) ≤ room) where
+        pub part-fits : at + length (encodeRegions (version yb) (rangeRegions b yb m limit levels low size)) ≤ room
         part-fits =
-            fits-first at room (partsFrom b yb m limit levels a s i) (rangeRegions b yb m limit levels low size)
+            fits-first (version yb) at room (partsFrom b yb m limit levels a s i) (rangeRegions b yb m limit levels low size)
             (partsFrom b yb m limit levels a s (i + 1)) kept fits
 
-        module _ (tree mid : List ℕ) (p c : ℕ) (w : WrittenRegions tree at (rangeRegions b yb m limit levels low size) mid p c) where
-          pub rest-fits : p + length (encodeRegions (partsFrom b yb m limit levels a s (i + 1))) ≤ room
+        module _ (tree mid : List ℕ) (p c : ℕ) (w : WrittenRegions (version yb) tree at (rangeRegions b yb m limit levels low size) mid p c) where
+          pub rest-fits : p + length (encodeRegions (version yb) (partsFrom b yb m limit levels a s (i + 1))) ≤ room
           rest-fits =
-              fits-rest at room (partsFrom b yb m limit levels a s i) (rangeRegions b yb m limit levels low size)
+              fits-rest (version yb) at room (partsFrom b yb m limit levels a s i) (rangeRegions b yb m limit levels low size)
               (partsFrom b yb m limit levels a s (i + 1)) kept fits tree mid p c w
 
-          pub rest-few : (after : List ℕ) (p′ d : ℕ) → WrittenRegions mid p (partsFrom b yb m limit levels a s (i + 1)) after p′ d → c + d ≤ room
+          pub rest-few : (after : List ℕ) (p′ d : ℕ) → WrittenRegions (version yb) mid p (partsFrom b yb m limit levels a s (i + 1)) after p′ d → c + d ≤ room
           rest-few after p′ d v =
               omega (
                 arith,
-                written-few tree at (rangeRegions b yb m limit levels low size) mid p c w,
-                written-few mid p (partsFrom b yb m limit levels a s (i + 1)) after p′ d v,
+                written-few (version yb) tree at (rangeRegions b yb m limit levels low size) mid p c w,
+                written-few (version yb) mid p (partsFrom b yb m limit levels a s (i + 1)) after p′ d v,
                 v .end,
                 rest-fits,
               )
 
-      pub rest-done : (tree mid : List ℕ) (p c : ℕ) → WrittenRegions tree at (rangeRegions b yb m limit levels low size) mid p c
-          → (after : List ℕ) (p′ d : ℕ) → WrittenRegions mid p (partsFrom b yb m limit levels a s (i + 1)) after p′ d
-          → WrittenRegions tree at (partsFrom b yb m limit levels a s i) after p′ (c + d)
+      pub rest-done : (tree mid : List ℕ) (p c : ℕ) → WrittenRegions (version yb) tree at (rangeRegions b yb m limit levels low size) mid p c
+          → (after : List ℕ) (p′ d : ℕ) → WrittenRegions (version yb) mid p (partsFrom b yb m limit levels a s (i + 1)) after p′ d
+          → WrittenRegions (version yb) tree at (partsFrom b yb m limit levels a s i) after p′ (c + d)
       rest-done tree mid p c w after p′ d v =
-          written-same tree at _ (partsFrom b yb m limit levels a s i) after p′ (c + d) kept
-          (written-join tree at (rangeRegions b yb m limit levels low size) (partsFrom b yb m limit levels a s (i + 1)) mid p c after p′ d w v)
+          written-same (version yb) tree at _ (partsFrom b yb m limit levels a s i) after p′ (c + d) kept
+          (written-join (version yb) tree at (rangeRegions b yb m limit levels low size) (partsFrom b yb m limit levels a s (i + 1)) mid p c after p′ d w v)

@@ -8,6 +8,7 @@ use native.Mathlib.Omega.{arith}
 use lib.ListN.{length}
 use lib.Dec.{eqb, leb}
 use Rattle.adjacency.specs.Adjacency.{Adjacency}
+use Rattle.book.specs.Open.{version}
 use Rattle.yard.specs.Yards.{yardsFrom, yardsOf, yardRefusal}
 use Rattle.yard.proofs.Listing.{from-length}
 use Rattle.tree_layout.specs.Decode.{recordSize}
@@ -69,18 +70,18 @@ module _ (b yb : List ℕ) (ok : yardRefusal yb ≡ 0) (levels a s limit m at : 
   test = rw (count-is yb ok a (a + s) from end ef ee up) er
 
   module _ (t : r ≡ true) where
-    only : rangeRegions b yb m limit levels a s ≡ ownRegions b m limit a s 0 ys
+    only : rangeRegions b yb m limit levels a s ≡ ownRegions b yb m limit a s 0 ys
     only = regions-leaf b yb m limit a s levels (sym test ∙ t) ∙ rw same refl
 
-    pub leaf-fits : (room : ℕ) → at + length (encodeRegions (rangeRegions b yb m limit levels a s)) ≤ room → at + recordSize m 0 (end - from) ≤ room
+    pub leaf-fits : (room : ℕ) → at + length (encodeRegions (version yb) (rangeRegions b yb m limit levels a s)) ≤ room → at + recordSize (version yb) m 0 (end - from) ≤ room
     leaf-fits room fits =
-        let e : length (encodeRegions (rangeRegions b yb m limit levels a s)) ≡ recordSize m 0 (end - from) =
-        rw only (own-room b m limit a s 0 ys (λ z. omega (arith, z)) ∙ rw (from-length yb (end - from) from) refl) in
+        let e : length (encodeRegions (version yb) (rangeRegions b yb m limit levels a s)) ≡ recordSize (version yb) m 0 (end - from) =
+        rw only (own-room b yb m limit a s 0 ys (λ z. omega (arith, z)) ∙ rw (from-length yb (end - from) from) refl) in
         rw e at fits
 
-    pub leaf-done : (tree after : List ℕ) (p c : ℕ) → WrittenRegions tree at (ownRegions b m limit a s 0 ys) after p c
-        → WrittenRegions tree at (rangeRegions b yb m limit levels a s) after p c
-    leaf-done tree after p c w = written-same tree at (ownRegions b m limit a s 0 ys) (rangeRegions b yb m limit levels a s) after p c only w
+    pub leaf-done : (tree after : List ℕ) (p c : ℕ) → WrittenRegions (version yb) tree at (ownRegions b yb m limit a s 0 ys) after p c
+        → WrittenRegions (version yb) tree at (rangeRegions b yb m limit levels a s) after p c
+    leaf-done tree after p c w = written-same (version yb) tree at (ownRegions b yb m limit a s 0 ys) (rangeRegions b yb m limit levels a s) after p c only w
 
   module _ (t : r ≡ false) where
     pub level-left : levels ≢ 0
@@ -93,36 +94,36 @@ module _ (b yb : List ℕ) (ok : yardRefusal yb ≡ 0) (levels a s limit m at : 
       some : 0 < partCount a s (within a (a + s) (yardsOf yb)) 4 0
       some = some-parts b yb m limit a s ok (omega (arith, yards-there, count-is yb ok a (a + s) from end ef ee up))
 
-      both : rangeRegions b yb m limit levels a s ≡ ownRegions b m limit a s q ys ++ partsFrom b yb m limit (levels - 1) a s 0
+      both : rangeRegions b yb m limit levels a s ≡ ownRegions b yb m limit a s q ys ++ partsFrom b yb m limit (levels - 1) a s 0
       both = regions-cut b yb m limit a s levels (sym test ∙ t) some ∙ rw (← eq, same) refl
 
-      module _ (room : ℕ) (fits : at + length (encodeRegions (rangeRegions b yb m limit levels a s)) ≤ room) where
-        pub own-fits : q ≢ 1 → at + recordSize m q (end - from) ≤ room
+      module _ (room : ℕ) (fits : at + length (encodeRegions (version yb) (rangeRegions b yb m limit levels a s)) ≤ room) where
+        pub own-fits : q ≢ 1 → at + recordSize (version yb) m q (end - from) ≤ room
         own-fits h =
-            let f = fits-first at room (rangeRegions b yb m limit levels a s) (ownRegions b m limit a s q ys)
+            let f = fits-first (version yb) at room (rangeRegions b yb m limit levels a s) (ownRegions b yb m limit a s q ys)
             (partsFrom b yb m limit (levels - 1) a s 0) both fits in
-            rw (own-room b m limit a s q ys h, from-length yb (end - from) from) at f
+            rw (own-room b yb m limit a s q ys h, from-length yb (end - from) from) at f
 
-        module _ (tree mid : List ℕ) (p c : ℕ) (w : WrittenRegions tree at (ownRegions b m limit a s q ys) mid p c) where
-          pub parts-fit : p + length (encodeRegions (partsFrom b yb m limit (levels - 1) a s 0)) ≤ room
+        module _ (tree mid : List ℕ) (p c : ℕ) (w : WrittenRegions (version yb) tree at (ownRegions b yb m limit a s q ys) mid p c) where
+          pub parts-fit : p + length (encodeRegions (version yb) (partsFrom b yb m limit (levels - 1) a s 0)) ≤ room
           parts-fit =
-              fits-rest at room (rangeRegions b yb m limit levels a s) (ownRegions b m limit a s q ys)
+              fits-rest (version yb) at room (rangeRegions b yb m limit levels a s) (ownRegions b yb m limit a s q ys)
               (partsFrom b yb m limit (levels - 1) a s 0) both fits tree mid p c w
 
           -- there are no more regions than bytes
-          pub cut-few : (after : List ℕ) (p′ d : ℕ) → WrittenRegions mid p (partsFrom b yb m limit (levels - 1) a s 0) after p′ d → c + d ≤ room
+          pub cut-few : (after : List ℕ) (p′ d : ℕ) → WrittenRegions (version yb) mid p (partsFrom b yb m limit (levels - 1) a s 0) after p′ d → c + d ≤ room
           cut-few after p′ d v =
               omega (
                 arith,
-                written-few tree at (ownRegions b m limit a s q ys) mid p c w,
-                written-few mid p (partsFrom b yb m limit (levels - 1) a s 0) after p′ d v,
+                written-few (version yb) tree at (ownRegions b yb m limit a s q ys) mid p c w,
+                written-few (version yb) mid p (partsFrom b yb m limit (levels - 1) a s 0) after p′ d v,
                 v .end,
                 parts-fit,
               )
 
-      pub cut-done : (tree mid : List ℕ) (p c : ℕ) → WrittenRegions tree at (ownRegions b m limit a s q ys) mid p c
-          → (after : List ℕ) (p′ d : ℕ) → WrittenRegions mid p (partsFrom b yb m limit (levels - 1) a s 0) after p′ d
-          → WrittenRegions tree at (rangeRegions b yb m limit levels a s) after p′ (c + d)
+      pub cut-done : (tree mid : List ℕ) (p c : ℕ) → WrittenRegions (version yb) tree at (ownRegions b yb m limit a s q ys) mid p c
+          → (after : List ℕ) (p′ d : ℕ) → WrittenRegions (version yb) mid p (partsFrom b yb m limit (levels - 1) a s 0) after p′ d
+          → WrittenRegions (version yb) tree at (rangeRegions b yb m limit levels a s) after p′ (c + d)
       cut-done tree mid p c w after p′ d v =
-          written-same tree at _ (rangeRegions b yb m limit levels a s) after p′ (c + d) both
-          (written-join tree at (ownRegions b m limit a s q ys) (partsFrom b yb m limit (levels - 1) a s 0) mid p c after p′ d w v)
+          written-same (version yb) tree at _ (rangeRegions b yb m limit levels a s) after p′ (c + d) both
+          (written-join (version yb) tree at (ownRegions b yb m limit a s q ys) (partsFrom b yb m limit (levels - 1) a s 0) mid p c after p′ d w v)

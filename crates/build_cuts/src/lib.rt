@@ -8,6 +8,7 @@ ghost use mathlib.Core.Bool.{_||_};
 ghost use Prim.Native.Nat.{ℕ, _+_, _-_, _≤_, _<_};
 ghost use lib.ListN.{length};
 ghost use lib.Dec.{eqb, leb};
+ghost use Rattle.book.specs.Open.{version};
 ghost use Rattle.adjacency.specs.Adjacency.{Adjacency};
 ghost use Rattle.yard.specs.Yards.{yardsFrom};
 ghost use Rattle.tree_layout.specs.Decode.{recordSize};
@@ -48,10 +49,11 @@ fn put_own(
     at: usize,
 ) -> Put
     requires { ⌜ PartReady (now adj) (now yb) p × (m ≤ 4) × (0 < children → p .from < p .end)
-        × ((children ≡ 1 → ⊥) → at + recordSize m children (p .end - p .from) ≤ length (now tree)) ⌝ }
+        × ((children ≡ 1 → ⊥) → at + recordSize (version (now yb)) m children (p .end - p .from)
+        ≤ length (now tree)) ⌝ }
     ensures { λ r. ⌜ ((road : List ℕ) (limit : ℕ) → Adjacency road (now (adj .entry))
-        → WrittenRegions (now (tree .entry)) at
-        (ownRegions road m limit (p .start .number) (p .size) children
+        → WrittenRegions (version (now (yb .entry))) (now (tree .entry)) at
+        (ownRegions road (now (yb .entry)) m limit (p .start .number) (p .size) children
         (yardsFrom (now (yb .entry)) (p .end - p .from) (p .from)))
         (now (tree .exit)) (r .at) (r .regions)) ⌝ }
 {
@@ -76,8 +78,9 @@ pub fn cut(
     at: usize,
 ) -> Put
     requires { ⌜ Range (now adj) (now yb) p × (0 < p .size) × (plan .landmarks ≤ 4)
-        × Room (now adj) (regionsOf (now yb) plan levels p) at (length (now tree)) ⌝ }
-    ensures { λ r. ⌜ ((road : List ℕ) → Adjacency road (now (adj .entry)) → WrittenRegions (now (tree .entry)) at
+        × Room (version (now yb)) (now adj) (regionsOf (now yb) plan levels p) at (length (now tree)) ⌝ }
+    ensures { λ r. ⌜ ((road : List ℕ) → Adjacency road (now (adj .entry))
+        → WrittenRegions (version (now (yb .entry))) (now (tree .entry)) at
         (regionsOf (now (yb .entry)) plan levels p road) (now (tree .exit)) (r .at) (r .regions)) ⌝ }
 {
     if stays(levels, p.end - p.from, plan.limit) {
@@ -104,8 +107,9 @@ fn parts(
     at: usize,
 ) -> Put
     requires { ⌜ Range (now adj) (now yb) p × (i ≤ 4) × (plan .landmarks ≤ 4)
-        × Room (now adj) (partsOf (now yb) plan levels p i) at (length (now tree)) ⌝ }
-    ensures { λ r. ⌜ ((road : List ℕ) → Adjacency road (now (adj .entry)) → WrittenRegions (now (tree .entry)) at
+        × Room (version (now yb)) (now adj) (partsOf (now yb) plan levels p i) at (length (now tree)) ⌝ }
+    ensures { λ r. ⌜ ((road : List ℕ) → Adjacency road (now (adj .entry))
+        → WrittenRegions (version (now (yb .entry))) (now (tree .entry)) at
         (partsOf (now (yb .entry)) plan levels p i road) (now (tree .exit)) (r .at) (r .regions)) ⌝ }
 {
     if i == ranges::PARTS {

@@ -1,10 +1,20 @@
--- What building is asked for, over a road book. Assumes nothing: this is a definition.
+-- What building is asked for, over a road book and a yard book. Assumes nothing: this is a definition.
 use mathlib.Core.List.{List}
 use Prim.Native.Nat.{ℕ}
+use Rattle.book.specs.Open.{version}
 use Rattle.road_layout.specs.Road.{roads}
 use Rattle.road.specs.Dijkstra.{dist}
+use Rattle.yard.specs.Yards.{kindOf}
 use Rattle.build_rules.specs.Cut.{Given}
 
--- "Given m (1 to 4) and a leaf limit (1 to 256).", with the book's roads and distances
-unfoldable pub given : List ℕ → ℕ → ℕ → Given
-given b m limit = record { roads = roads b; d = dist b; landmarks = m; limit = limit }
+-- "Given m (1 to 4) and a leaf limit (1 to 256).", with the road book's roads and distances and the yard book's kinds;
+-- "a build writes its yard book's version"
+unfoldable pub given : (road yard : List ℕ) → (m limit : ℕ) → Given
+given road yard m limit = record {
+  version = version yard;
+  roads = roads road;
+  d = dist road;
+  kinds = kindOf yard;
+  landmarks = m;
+  limit = limit;
+}

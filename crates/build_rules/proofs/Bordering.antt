@@ -174,7 +174,7 @@ map-at f [] j h = absurd (omega arith)
 map-at f (x ∷ xs) zero h = refl
 map-at f (x ∷ xs) (suc j) h = map-at f xs j (omega arith)
 
-module _ (g : Given) (D : ℕ → ℕ → ℕ → Type 0) (a s : ℕ) (f : ℕ → Mark) where
+module _ (g : Given) (D : ℕ → ℕ → ℕ → Type 0) (K : ℕ → ℕ → Type 0) (a s : ℕ) (f : ℕ → Mark) where
   abbrev bs : List ℕ
   bs = borders (g .roads) a s
 
@@ -184,7 +184,7 @@ module _ (g : Given) (D : ℕ → ℕ → ℕ → Type 0) (a s : ℕ) (f : ℕ �
       map-at f (landmarksOf g a s) j (omega (arith, landmarks-length g a s))
       ∙ ap f (rw (landmarks-are g a s) (from-at (g .landmarks) a s bs (g .landmarks) 0 j h ∙ ap (landmark (g .landmarks) a s bs) (omega arith)))
 
-  pub marks-placed : ((l : ℕ) → f l .place ≡ l) → Landmarks (termsOf g D) a s (map f (landmarksOf g a s))
+  pub marks-placed : ((l : ℕ) → f l .place ≡ l) → Landmarks (termsOf g D K) a s (map f (landmarksOf g a s))
   marks-placed p = record {
     borders = bs;
     exact = borders-exact (g .roads) a s;
@@ -193,7 +193,7 @@ module _ (g : Given) (D : ℕ → ℕ → ℕ → Type 0) (a s : ℕ) (f : ℕ �
   }
 
   -- marks at the landmarks are those that f makes, if each is what f makes at its junction
-  pub marks-one : 0 < s → (ks : List Mark) → Landmarks (termsOf g D) a s ks
+  pub marks-one : 0 < s → (ks : List Mark) → Landmarks (termsOf g D K) a s ks
       → ((k : Mark) → Mem k ks → OfRange a s (k .place) → k ≡ f (k .place)) → ks ≡ map f (landmarksOf g a s)
   marks-one some ks l e = ext-getD noMark ks (map f (landmarksOf g a s)) (l .count ∙ sym (length-map (landmarksOf g a s) f ∙ landmarks-length g a s)) at
     where

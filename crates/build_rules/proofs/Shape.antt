@@ -1,4 +1,4 @@
--- The descent of test 7 goes through the trees of a cut forest; their yards, and that their numbers are true. Assumes nothing.
+-- The descent of test 7 goes through the trees of a cut forest; their yards, and what holds of each region with those below it. Assumes nothing.
 use mathlib.Core.Path.{_≡_, refl, sym, ap, _∙_}
 use mathlib.Core.Logic.{_⊎_, inl, inr}
 use mathlib.Core.List.{List, [], _∷_, _++_, append-assoc, append-nil, List·Memᴰ as Mem, List·Memᴰ·append-cases as append-cases, Memᴰ·append-left as append-left}
@@ -20,10 +20,9 @@ use Rattle.tree.proofs.ForestLaws.{Sane, span, span-split, span-none, span-leaf
 use Rattle.tree.proofs.Ranges.{below-span}
 use Rattle.check_rules.specs.Facts.{Same}
 use Rattle.check_rules.proofs.Extremes.{same-swap}
-use Rattle.check_rules.proofs.Theorems.{RegionTrue, region-same}
 use Rattle.build_rules.specs.Cut.{Given, leafRegion, innerRegion}
 use Rattle.build_rules.proofs.Cutting.{Held, CutForest, none, leaf, inner, widen, join}
-use Rattle.build_rules.proofs.Regions.{leaf-passes, leaf-same, leaf-true, inner-true}
+use Rattle.build_rules.proofs.Regions.{leaf-passes, leaf-same}
 
 -- ---- a region between two lists
 
@@ -175,63 +174,71 @@ module _ (g : Given) (junctions : ℕ) (m-low : 1 ≤ g .landmarks) where
           (same-append (span R (length before) (length before + length rs)) ys (span R (length before + length rs) (length before + length rs + length ss)) zs
           x (rw i2 at y))
 
-  -- ---- true numbers
+  -- ---- each region
 
-  -- each region of a cut forest is true of the yards below it
-  pub forest-true : {k n low high : ℕ} {ys : List ℕ} {rs : List Region} → CutForest g junctions k n low high ys rs → (R before after : List Region)
-      → R ≡ before ++ (rs ++ after) → Sane R → k ≤ levels → (j : ℕ) → length before ≤ j → j < length before + length rs
-      → RegionTrue (g .d) (yardsBelow R j) (regionAt R j)
-  unfolding innerRegion
-  forest-true (none h) R before after e s q j p w = absurd (omega arith)
-  forest-true (leaf {a = a} {s = s} {ys = ys} v c w) R before after e sane q j p u =
-      let z = stands R before after (leafRegion g a s ys) e in
-      let i : j ≡ length before = omega arith in
-      rw (i, z .here) (leaf-true g a s ys (yardsBelow R (length before)))
-  forest-true (inner {k = k} {a = a} {s = s} {q = n} {ys = ys} {rs = rs} v c w u f) R before after e sane q j p x =
-      go (ℕ-discrete j (length before)) (stands R before (rs ++ after) (innerRegion g a s n ys) e) (forest-siblings f R (before ++ (innerRegion g a s n ys ∷
-      [])) after next-at 7 (omega arith) a (a + s) (omega arith) (omega arith))
-      (forest-yards f R (before ++ (innerRegion g a s n ys ∷ [])) after next-at sane) (λ lo hi. forest-true f R (before ++ (innerRegion g a s n ys ∷ [])) after
-      next-at sane (omega arith) j lo hi)
-    where
-      next-at : R ≡ (before ++ (innerRegion g a s n ys ∷ [])) ++ (rs ++ after)
-      next-at = next-is R before (rs ++ after) (innerRegion g a s n ys) e
+  -- what a leaf and an inner region say of their yards, in whatever order, holds of each region and the yards below it
+  module _ (Says : List ℕ → Region → Type 0) (any-order : (ys zs : List ℕ) (r : Region) → Same ys zs → Says ys r → Says zs r)
+      (of-leaf : (a s : ℕ) (ys : List ℕ) → Says ys (leafRegion g a s ys))
+      (of-inner : (a s q : ℕ) (ys : List ℕ) → 0 < q → 0 < length ys → Says ys (innerRegion g a s q ys)) where
+    pub forest-each : {k n low high : ℕ} {ys : List ℕ} {rs : List Region} → CutForest g junctions k n low high ys rs → (R before after : List Region)
+        → R ≡ before ++ (rs ++ after) → Sane R → k ≤ levels → (j : ℕ) → length before ≤ j → j < length before + length rs
+        → Says (yardsBelow R j) (regionAt R j)
+    unfolding leafRegion innerRegion
+    forest-each (none h) R before after e s q j p w = absurd (omega arith)
+    forest-each (leaf {k = k} {a = a} {s = s} {ys = ys} v c w) R before after e sane q j p u =
+        let z = stands R before after (leafRegion g a s ys) e in
+        let i : j ≡ length before = omega arith in
+        let n : suc (length before) ≡ length before + 1 = omega arith in
+        let end : endOf R (length before) ≡ length before + 1 = end-is R (length before) (length before + 1)
+        (subtree-leaf R 7 (length before) (z .inside) (rw (z .here) refl) (rw (z .here) (leaf-passes g a s ys v)) ∙ ap endAt n) in
+        let below : yardsBelow R (length before) ≡ span R (length before) (length before + 1) = below-span R (length before) ∙ ap (span R (length before)) end in
+        let held = same-swap (span R (length before) (length before + 1)) ys (forest-yards (leaf {k = k} v c w) R before after e sane) in
+        rw (i, below, z .here) (any-order ys (span R (length before) (length before + 1)) (leafRegion g a s ys) held (of-leaf a s ys))
+    forest-each (inner {k = k} {a = a} {s = s} {q = n} {ys = ys} {rs = rs} v c w u f) R before after e sane q j p x =
+        go (ℕ-discrete j (length before)) (stands R before (rs ++ after) (innerRegion g a s n ys) e) (forest-siblings f R (before ++ (innerRegion g a s n ys ∷
+        [])) after next-at 7 (omega arith) a (a + s) (omega arith) (omega arith))
+        (forest-yards f R (before ++ (innerRegion g a s n ys ∷ [])) after next-at sane) (λ lo hi. forest-each f R (before ++ (innerRegion g a s n ys ∷ [])) after
+        next-at sane (omega arith) j lo hi)
+      where
+        next-at : R ≡ (before ++ (innerRegion g a s n ys ∷ [])) ++ (rs ++ after)
+        next-at = next-is R before (rs ++ after) (innerRegion g a s n ys) e
 
-      root : Stands R before (innerRegion g a s n ys)
-          → siblings R (subtree R 7) n (length (before ++ (innerRegion g a s n ys ∷ []))) a (a + s) (length ys)
-          ≡ endAt (length (before ++ (innerRegion g a s n ys ∷ [])) + length rs)
-          → Same (span R (length (before ++ (innerRegion g a s n ys ∷ []))) (length (before ++ (innerRegion g a s n ys ∷ [])) + length rs)) ys
-          → RegionTrue (g .d) (yardsBelow R (length before)) (regionAt R (length before))
-      root z b y =
-          let q1 : 0 < regionAt R (length before) .children = rw (z .here) (omega arith) in
-          let e1 : endOf R (length before) ≡ suc (length before) + length rs = end-is R (length before) (suc (length before) + length rs)
-          ((rw (z .here) at (subtree-inner R 7 (length before) (z .inside) q1)) ∙ (rw (next-length before (innerRegion g a s n ys)) at b)) in
-          let e2 : yardsBelow R (length before) ≡ span R (suc (length before)) (suc (length before) + length rs) = below-span R (length before)
-          ∙ (ap (span R (length before)) e1 ∙ span-inner R sane (length before) (suc (length before) + length rs) (omega arith) q1) in
-          let y2 = same-swap (span R (suc (length before)) (suc (length before) + length rs)) ys (rw (next-length before (innerRegion g a s n ys)) at y) in
-          rw (e2, z .here) (region-same (g .d) ys (span R (suc (length before)) (suc (length before) + length rs)) (innerRegion g a s n ys) y2 (inner-true g a
-          s n ys (omega arith) (v .some)))
+        root : Stands R before (innerRegion g a s n ys)
+            → siblings R (subtree R 7) n (length (before ++ (innerRegion g a s n ys ∷ []))) a (a + s) (length ys)
+            ≡ endAt (length (before ++ (innerRegion g a s n ys ∷ [])) + length rs)
+            → Same (span R (length (before ++ (innerRegion g a s n ys ∷ []))) (length (before ++ (innerRegion g a s n ys ∷ [])) + length rs)) ys
+            → Says (yardsBelow R (length before)) (regionAt R (length before))
+        root z b y =
+            let q1 : 0 < regionAt R (length before) .children = rw (z .here) (omega arith) in
+            let e1 : endOf R (length before) ≡ suc (length before) + length rs = end-is R (length before) (suc (length before) + length rs)
+            ((rw (z .here) at (subtree-inner R 7 (length before) (z .inside) q1)) ∙ (rw (next-length before (innerRegion g a s n ys)) at b)) in
+            let e2 : yardsBelow R (length before) ≡ span R (suc (length before)) (suc (length before) + length rs) = below-span R (length before)
+            ∙ (ap (span R (length before)) e1 ∙ span-inner R sane (length before) (suc (length before) + length rs) (omega arith) q1) in
+            let y2 = same-swap (span R (suc (length before)) (suc (length before) + length rs)) ys (rw (next-length before (innerRegion g a s n ys)) at y) in
+            rw (e2, z .here) (any-order ys (span R (suc (length before)) (suc (length before) + length rs)) (innerRegion g a s n ys) y2 (of-inner a s n ys
+            (omega arith) (v .some)))
 
-      go : Dec (j ≡ length before) → Stands R before (innerRegion g a s n ys)
-          → siblings R (subtree R 7) n (length (before ++ (innerRegion g a s n ys ∷ []))) a (a + s) (length ys)
-          ≡ endAt (length (before ++ (innerRegion g a s n ys ∷ [])) + length rs)
-          → Same (span R (length (before ++ (innerRegion g a s n ys ∷ []))) (length (before ++ (innerRegion g a s n ys ∷ [])) + length rs)) ys
-          → (length (before ++ (innerRegion g a s n ys ∷ [])) ≤ j → j < length (before ++ (innerRegion g a s n ys ∷ [])) + length rs
-          → RegionTrue (g .d) (yardsBelow R j) (regionAt R j)) → RegionTrue (g .d) (yardsBelow R j) (regionAt R j)
-      go (yes i) z b y rec = rw i (root z b y)
-      go (no i) z b y rec = rec (omega (arith, next-length before (innerRegion g a s n ys))) (omega (arith, next-length before (innerRegion g a s n ys)))
-  forest-true (widen a b c f) R before after e s q j p w = forest-true f R before after e s (omega arith) j p w
-  forest-true (join {ys = ys} {zs = zs} {rs = rs} {ss = ss} h f t) R before after e s q j p w =
-      go (decLt j (length before + length rs)) (λ x. forest-true f R before (ss ++ after) first-at s q j p x) (λ lo hi. forest-true t R (before ++ rs) after
-      second-at s q j lo hi)
-    where
-      first-at : R ≡ before ++ (rs ++ (ss ++ after))
-      first-at = e ∙ ap (λ (z : List Region). before ++ z) (append-assoc rs ss after)
+        go : Dec (j ≡ length before) → Stands R before (innerRegion g a s n ys)
+            → siblings R (subtree R 7) n (length (before ++ (innerRegion g a s n ys ∷ []))) a (a + s) (length ys)
+            ≡ endAt (length (before ++ (innerRegion g a s n ys ∷ [])) + length rs)
+            → Same (span R (length (before ++ (innerRegion g a s n ys ∷ []))) (length (before ++ (innerRegion g a s n ys ∷ [])) + length rs)) ys
+            → (length (before ++ (innerRegion g a s n ys ∷ [])) ≤ j → j < length (before ++ (innerRegion g a s n ys ∷ [])) + length rs
+            → Says (yardsBelow R j) (regionAt R j)) → Says (yardsBelow R j) (regionAt R j)
+        go (yes i) z b y rec = rw i (root z b y)
+        go (no i) z b y rec = rec (omega (arith, next-length before (innerRegion g a s n ys))) (omega (arith, next-length before (innerRegion g a s n ys)))
+    forest-each (widen a b c f) R before after e s q j p w = forest-each f R before after e s (omega arith) j p w
+    forest-each (join {ys = ys} {zs = zs} {rs = rs} {ss = ss} h f t) R before after e s q j p w =
+        go (decLt j (length before + length rs)) (λ x. forest-each f R before (ss ++ after) first-at s q j p x) (λ lo hi. forest-each t R (before ++ rs) after
+        second-at s q j lo hi)
+      where
+        first-at : R ≡ before ++ (rs ++ (ss ++ after))
+        first-at = e ∙ ap (λ (z : List Region). before ++ z) (append-assoc rs ss after)
 
-      second-at : R ≡ (before ++ rs) ++ (ss ++ after)
-      second-at = first-at ∙ sym (append-assoc before rs (ss ++ after))
+        second-at : R ≡ (before ++ rs) ++ (ss ++ after)
+        second-at = first-at ∙ sym (append-assoc before rs (ss ++ after))
 
-      go : Dec (j < length before + length rs) → (j < length before + length rs → RegionTrue (g .d) (yardsBelow R j) (regionAt R j))
-          → (length (before ++ rs) ≤ j → j < length (before ++ rs) + length ss → RegionTrue (g .d) (yardsBelow R j) (regionAt R j))
-          → RegionTrue (g .d) (yardsBelow R j) (regionAt R j)
-      go (yes x) one rest = one x
-      go (no x) one rest = rest (omega (arith, length-append before rs)) (omega (arith, length-append before rs, length-append rs ss))
+        go : Dec (j < length before + length rs) → (j < length before + length rs → Says (yardsBelow R j) (regionAt R j))
+            → (length (before ++ rs) ≤ j → j < length (before ++ rs) + length ss → Says (yardsBelow R j) (regionAt R j))
+            → Says (yardsBelow R j) (regionAt R j)
+        go (yes x) one rest = one x
+        go (no x) one rest = rest (omega (arith, length-append before rs)) (omega (arith, length-append before rs, length-append rs ss))

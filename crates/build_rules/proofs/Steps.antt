@@ -135,6 +135,10 @@ module _ (g : Given) (k a s : ℕ) (ys : List ℕ) where
 -- ---- the tree's fields
 
 module _ (g : Given) (junctions : ℕ) (ys : List ℕ) where
+  pub tree-version : cutTree g junctions ys .version ≡ g .version
+  unfolding cutTree
+  tree-version = refl
+
   pub tree-junctions : cutTree g junctions ys .junctions ≡ junctions
   unfolding cutTree
   tree-junctions = refl

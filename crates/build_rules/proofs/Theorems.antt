@@ -6,6 +6,7 @@ use native.Mathlib.Omega.{arith}
 use lib.ListN.{length}
 use lib.Dec.{T}
 use Rattle.book.proofs.Lists.{mem-getD}
+use Rattle.kinds.proofs.Laws.{together-bits}
 use Rattle.tree_layout.specs.Values.{Region, Tree, regionAt}
 use Rattle.tree_layout.specs.Decode.{decode}
 use Rattle.tree_layout.specs.Facts.{RegionValues}
@@ -19,19 +20,20 @@ use Rattle.tree.proofs.Descent.{shaped-by}
 use Rattle.tree.proofs.Ranges.{tree-span}
 use Rattle.tree.proofs.Sums.{sum-all, all-counted}
 use Rattle.tree.proofs.Theorems.{sane-of}
-use Rattle.tree_encode.specs.Encode.{encode}
+use Rattle.tree_encode.specs.Encode.{encode, treeRoom}
 use Rattle.tree_encode.specs.code.Facts.{SoundTree, SmallTree}
 use Rattle.tree_encode.proofs.Theorems.{written}
-use Rattle.check_rules.specs.Facts.{TrueNumbers, Same}
-use Rattle.check_rules.proofs.Theorems.{RegionTrue, tested}
-use Rattle.build_rules.specs.Cut.{Given, cut, cutTree}
-use Rattle.build_rules.specs.code.Facts.{InLimits, Measures, OneTree, Built}
+use Rattle.check_rules.specs.Facts.{TrueNumbers, TrueKinds, Same}
+use Rattle.check_rules.proofs.KindBytes.{RegionKinds, kinds-same}
+use Rattle.check_rules.proofs.Theorems.{RegionTrue, region-same, tested}
+use Rattle.build_rules.specs.Cut.{Given, leafRegion, innerRegion, cut, cutTree}
+use Rattle.build_rules.specs.code.Facts.{InLimits, Measures, Marks, OneTree, Built}
 use Rattle.build_rules.proofs.Parts.{fours, rising-places}
 use Rattle.build_rules.proofs.Cutting.{Held, CutForest, forest-length, cut-forest}
 use Rattle.build_rules.proofs.Steps.{tree-regions}
 use Rattle.build_rules.proofs.OneTree.{cut-exact, range-one}
-use Rattle.build_rules.proofs.Regions.{forest-regions, forest-small, forest-limit}
-use Rattle.build_rules.proofs.Shape.{forest-siblings, forest-yards, forest-true}
+use Rattle.build_rules.proofs.Regions.{Kinded, leaf-true, inner-true, leaf-kinds, inner-kinds, forest-regions, forest-small, forest-limit}
+use Rattle.build_rules.proofs.Shape.{forest-siblings, forest-yards, forest-each}
 
 five-cuts : (junctions : ℕ) → junctions ≤ 1024 → junctions ≤ fours 5
 unfolding fours
@@ -61,6 +63,9 @@ module _ (g : Given) (junctions : ℕ) (ys : List ℕ) (lim : InLimits g junctio
       let e : 0 + junctions ≡ junctions = omega arith in
       rw e at (cut-forest g junctions (lim .limit-in .0) 5 0 junctions ys held (omega arith) (omega (arith, lim .junctions-in .1)))
 
+  kinded : Kinded g ys
+  kinded = record { some = lim .kinded; any = lim .any }
+
   whole : rs ≡ [] ++ (rs ++ [])
   whole = sym (append-nil rs)
 
@@ -69,11 +74,11 @@ module _ (g : Given) (junctions : ℕ) (ys : List ℕ) (lim : InLimits g junctio
 
   formed : FormedTree t
   unfolding cutTree
-  formed r k = forest-regions g junctions (lim .bounded) forest r k .0
+  formed r k = forest-regions g junctions (lim .bounded) forest kinded r k .0
 
   values : (r : Region) → Mem r (t .regions) → RegionValues (t .junctions) r
   unfolding cutTree
-  values r k = forest-regions g junctions (lim .bounded) forest r k .1
+  values r k = forest-regions g junctions (lim .bounded) forest kinded r k .1
 
   sane : Sane rs
   unfolding cutTree
@@ -111,20 +116,21 @@ module _ (g : Given) (junctions : ℕ) (ys : List ℕ) (lim : InLimits g junctio
   sound : SoundTree t
   unfolding cutTree
   sound = record {
-    limits = record { junctions = lim .junctions-in; regions = (there, regions-few); yards = lim .yards-in; landmarks = lim .landmarks-in };
+    limits = record { version = lim .version-in; junctions = lim .junctions-in; regions = (there, regions-few); yards = lim .yards-in; landmarks = lim .landmarks-in };
     formed = formed;
     values = values;
     shape = shape-facts t sane there shape-ok;
   }
 
-  small : SmallTree t
+  small : ((y : ℕ) → Mem y ys → g .kinds y ≤ 255) → SmallTree t
   unfolding cutTree
-  small = record {
+  small most = record {
+    version = omega (arith, lim .version-in .1);
     junctions = omega (arith, lim .junctions-in .1);
     count = omega (arith, regions-few);
     yards = omega (arith, lim .yards-in .1);
     landmarks = omega (arith, lim .landmarks-in .1);
-    regions = λ r k. forest-small g junctions (lim .bounded) forest (lim .junctions-in .1) (lim .yards-in .1) r k;
+    regions = λ r k. forest-small g junctions (lim .bounded) forest kinded most (lim .junctions-in .1) (lim .yards-in .1) r k;
   }
 
   yards-same : Same (treeYards t) ys
@@ -132,12 +138,29 @@ module _ (g : Given) (junctions : ℕ) (ys : List ℕ) (lim : InLimits g junctio
   yards-same = rw (tree-span t) (rw (let e : 0 + length rs ≡ length rs = omega arith in
       e) at (forest-yards g junctions (lim .landmarks-in .0) forest rs [] [] whole sane))
 
+  -- what the regions say of their yards holds of those below them
+  each : (Says : List ℕ → Region → Type 0) → ((ys zs : List ℕ) (r : Region) → Same ys zs → Says ys r → Says zs r)
+      → ((a s : ℕ) (ys : List ℕ) → Says ys (leafRegion g a s ys))
+      → ((a s q : ℕ) (ys : List ℕ) → 0 < q → 0 < length ys → Says ys (innerRegion g a s q ys))
+      → (r : ℕ) → r < length rs → Says (yardsBelow rs r) (regionAt rs r)
+  each Says o f h r k = forest-each g junctions (lim .landmarks-in .0) Says o f h forest rs [] [] whole sane (omega arith) r (omega arith) (omega arith)
+
   region-true : (r : ℕ) → r < length rs → RegionTrue (g .d) (yardsBelow rs r) (regionAt rs r)
-  region-true r h = forest-true g junctions (lim .landmarks-in .0) forest rs [] [] whole sane (omega arith) r (omega arith) (omega arith)
+  region-true = each (RegionTrue (g .d)) (region-same (g .d)) (λ a s ys. leaf-true g a s ys ys) (inner-true g)
+
+  region-kinds : (r : ℕ) → r < length rs → RegionKinds (g .kinds) (yardsBelow rs r) (regionAt rs r)
+  region-kinds = each (RegionKinds (g .kinds)) (kinds-same (g .kinds)) (leaf-kinds g) (λ a s q ys x y. inner-kinds g a s q ys)
 
   numbers-true : TrueNumbers (g .d) t
   unfolding cutTree
   numbers-true = record { lists = λ r h. region-true r h .list; leasts = λ r h. region-true r h .low; greatests = λ r h. region-true r h .high }
+
+  kinds-true : TrueKinds (g .kinds) t
+  unfolding cutTree
+  kinds-true = record {
+    lists = λ r h. region-kinds r h .list;
+    regions = λ r h. rw (region-kinds r h .byte) (together-bits (g .kinds) (yardsBelow rs r));
+  }
 
   back : decode (encode t) ≡ t
   back = written t .back formed
@@ -145,29 +168,35 @@ module _ (g : Given) (junctions : ℕ) (ys : List ℕ) (lim : InLimits g junctio
   accepted : treeRefusal (encode t) ≡ 0
   accepted = written t .accepted sound
 
+  short : length (encode t) ≤ treeRoom (g .version)
+  unfolding cutTree
+  short = written t .short sound
+
   pub built : Built g junctions ys
   built = record {
     accepted = accepted;
     back = back;
-    bytes = written t .bytes sound small;
-    short = written t .short sound;
+    bytes = λ most. written t .bytes sound (small most);
+    short = short;
     yards = yards-same;
     numbers = numbers-true;
     true-tree = rw back at (tested (encode t) accepted .exact (g .d) .1 (rw back numbers-true));
     true-beside = rw back at (tested (encode t) accepted .beside (g .d) ys (rw back yards-same) .1 (rw back numbers-true));
+    bits = kinds-true;
+    kinds-tree = rw back at (tested (encode t) accepted .kinds (g .kinds) .1 (rw back kinds-true));
     few = rw regions-are regions-few;
     six = rw regions-are (found-preorder rs 5 0 (length rs) (descent .0));
     leaf-limit = rw regions-are (forest-limit g forest);
   }
 
--- the built tree is the one that the stated cuts give, by any distance that d measures
-pub one-tree : (g : Given) (D : ℕ → ℕ → ℕ → Type 0) (junctions : ℕ) (ys : List ℕ) → InLimits g junctions ys → Measures D (g .d) junctions
-    → OneTree g D junctions ys
-one-tree g D junctions ys lim known =
+-- the built tree is the one that the stated cuts give, by any distance that d measures and any kinds that it has
+pub one-tree : (g : Given) (D : ℕ → ℕ → ℕ → Type 0) (K : ℕ → ℕ → Type 0) (junctions : ℕ) (ys : List ℕ) → InLimits g junctions ys → Measures D (g .d) junctions
+    → Marks K (g .kinds) ys → OneTree g D K junctions ys
+one-tree g D K junctions ys lim known marked =
     let v = held g junctions ys lim in
     let few = five-cuts junctions (lim .junctions-in .1) in
     let some = lim .limit-in .0 in
     record {
-      cuts = rw (tree-regions g junctions ys) (cut-exact g D junctions known some 5 0 junctions ys v (omega arith) few);
-      one = λ rs c. range-one g D junctions known some c v (omega arith) 5 few ∙ sym (tree-regions g junctions ys);
+      cuts = rw (tree-regions g junctions ys) (cut-exact g D K junctions known some 5 0 junctions ys marked v (omega arith) few);
+      one = λ rs c. range-one g D K junctions known some c marked v (omega arith) 5 few ∙ sym (tree-regions g junctions ys);
     }

@@ -6,6 +6,7 @@ use mathlib.Core.List.{List, [], _∷_, _++_, List·Memᴰ as Mem}
 use Prim.Native.Nat.{ℕ, suc, _+_, _-_, _*_, _/_, _≤_, _<_}
 use lib.ListN.{length, getD}
 use Rattle.book.specs.Lists.{Distinct}
+use Rattle.kinds.specs.Facts.{BitsOf}
 use Rattle.road_layout.specs.Road.{Road}
 use Rattle.tree_layout.specs.Values.{Element, Mark, Region, leafMark, innerMark, noMark}
 use Rattle.tree_layout.specs.Facts.{Rising}
@@ -13,10 +14,12 @@ use Rattle.tree_leaf.specs.Leaf.{yardsIn}
 use Rattle.check_rules.specs.Truth.{within}
 use Rattle.check_rules.specs.Extremes.{LeastOf, GreatestOf}
 
--- "Given m (1 to 4) and a leaf limit (1 to 256).", the roads, and which number is the distance d(u, v)
+-- "Given m (1 to 4) and a leaf limit (1 to 256).", the roads, which number is the distance d(u, v), and which byte is
+-- that of a yard's kinds
 pub record Terms : Type 1 where
   pub roads : List Road
   pub Distance : (u v t : ℕ) → Type 0
+  pub Kinds : (y k : ℕ) → Type 0
   pub landmarks : ℕ
   pub limit : ℕ
 
@@ -59,11 +62,13 @@ pub record Landmarks (g : Terms) (a s : ℕ) (ks : List Mark) : Type 0 where
 
 -- ---- a region's record
 
--- a leaf's list of landmark l: "one pair (distance u32, yard u16) per yard, rising strictly by distance and then yard"
+-- a leaf's list of landmark l: "one pair (distance u32, yard u16) per yard, rising strictly by distance and then yard";
+-- "a yard's kind byte after each of its list entries"
 pub record ListOf (g : Terms) (ys : List ℕ) (l : ℕ) (es : List Element) : Type 0 where
   pub named : (y : ℕ) → Mem y (yardsIn es) ↔ Mem y ys
   pub once : Distinct (yardsIn es)
   pub measured : (e : Element) → Mem e es → g .Distance l (e .yard) (e .distance)
+  pub kinded : (e : Element) → Mem e es → g .Kinds (e .yard) (e .kinds)
   pub rising : Rising es
 
 -- "per landmark its junction u16 and, in a leaf," its list
@@ -84,6 +89,8 @@ pub record RecordOf (g : Terms) (a s q : ℕ) (ys : List ℕ) (Fits : Mark → T
   pub ends : r .after ≡ a + s
   pub parts : r .children ≡ q
   pub holds : r .yards ≡ length ys
+  -- "a bit is set exactly if some yard in that region has it"
+  pub bits : BitsOf (λ y. Mem y ys) (g .Kinds) (r .kinds)
   -- "then per landmark .."
   pub placed : Landmarks g a s (r .marks)
   pub each : (k : Mark) → Mem k (r .marks) → Fits k

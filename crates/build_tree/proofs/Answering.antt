@@ -8,6 +8,7 @@ use lib.ListN.{length}
 use lib.Dec.{leb, eqb, leb→le}
 use borrow.Author.Tests.{le-leb, lt-leb}
 use Rattle.book.specs.Choose.{refuse, firstOf}
+use Rattle.book.specs.Open.{version}
 use Rattle.book.specs.Writing.{write}
 use Rattle.book.proofs.Choosing.{passes-if, fails-if, passed, first-earlier, first-later, first-none, choose-yes, choose-no}
 use Rattle.book.proofs.Lists.{eq→eqb, ne→neqb}
@@ -23,8 +24,9 @@ use Rattle.yard.specs.Yards.{yardCount, yardRefusalIn, yardBook, yardNumber}
 use Rattle.yard.specs.declared.YardBook.{YardBook}
 use Rattle.yard.specs.declared.YardBook.the-variants.{Yards, Refused as yard-refused}
 use Rattle.yard.proofs.Answering.{yards-number, refused-number, number-is}
-use Rattle.tree_encode.specs.Encode.{encode}
-use Rattle.build_tree.specs.Build.{treeBytes, rangeRefusal, roomRefusal, buildAnswer, builtTree, builtLength, treeAfter}
+use Rattle.yard.proofs.YardLayout.{passes-alone, five}
+use Rattle.tree_encode.specs.Encode.{encode, treeRoom}
+use Rattle.build_tree.specs.Build.{rangeRefusal, roomRefusal, buildAnswer, builtTree, builtLength, treeAfter}
 use Rattle.build_tree.specs.Facts.{InRange, BuildAreas, AcceptedBuild}
 
 -- ---- m and the leaf limit
@@ -70,24 +72,28 @@ module _ (m limit : ℕ) where
 
 -- ---- the areas
 
-module _ (words room : ℕ) where
-  pub short-work : words < workWords → 12 ≡ roomRefusal words room
+module _ (v words room : ℕ) where
+  pub short-work : words < workWords → 12 ≡ roomRefusal v words room
   unfolding roomRefusal
   short-work h = sym (first-earlier (workRefusal words) _ (omega (arith, work-short words h)) ∙ work-short words h)
 
-  short-tree : workWords ≤ words → room < treeBytes → 12 ≡ roomRefusal words room
+  short-tree : workWords ≤ words → room < treeRoom v → 12 ≡ roomRefusal v words room
   unfolding roomRefusal
-  short-tree h k = sym (first-later (workRefusal words) _ (work-enough words h) ∙ fails-if (leb treeBytes room) 12 0 (lt-leb treeBytes room k))
+  short-tree h k = sym (first-later (workRefusal words) _ (work-enough words h) ∙ fails-if (leb (treeRoom v) room) 12 0 (lt-leb (treeRoom v) room k))
 
-  pub long-enough : workWords ≤ words → treeBytes ≤ room → 0 ≡ roomRefusal words room
+  pub long-enough : workWords ≤ words → treeRoom v ≤ room → 0 ≡ roomRefusal v words room
   unfolding roomRefusal
-  long-enough h k = sym (first-later (workRefusal words) _ (work-enough words h) ∙ passes-if (leb treeBytes room) 12 0 (le-leb treeBytes room k))
+  long-enough h k = sym (first-later (workRefusal words) _ (work-enough words h) ∙ passes-if (leb (treeRoom v) room) 12 0 (le-leb (treeRoom v) room k))
 
-  pub room-facts : roomRefusal words room ≡ 0 → BuildAreas words room
+  pub room-facts : roomRefusal v words room ≡ 0 → BuildAreas v words room
   unfolding roomRefusal
   room-facts e =
       let a = first-none _ _ e in
-      record { work = enough-work words (a .0); tree = leb→le treeBytes room (passed _ _ _ (a .1) (omega arith) .0) }
+      record { work = enough-work words (a .0); tree = leb→le (treeRoom v) room (passed _ _ _ (a .1) (omega arith) .0) }
+
+-- a yard book that is read has a version byte
+pub yard-five : (yard : List ℕ) (n count : ℕ) (y : YardBook) → y ≡ yardBook (yardRefusalIn yard n) (yardCount yard) → y ≡ Yards count → 5 ≤ length yard
+yard-five yard n count y g p = five yard (passes-alone yard n (yards-number (yardRefusalIn yard n) (yardCount yard) count (sym g ∙ p) .0))
 
 -- ---- the whole answer
 
@@ -98,19 +104,19 @@ module _ (road yard : List ℕ) (m limit words room : ℕ) where
       let a = first-none _ _ e in
       let b = first-none _ _ (a .1) in
       let c = first-none _ _ (b .1) in
-      record { roads = a .0; yards = b .0; range = range-facts m limit (c .0); areas = room-facts words room (c .1) }
+      record { roads = a .0; yards = b .0; range = range-facts m limit (c .0); areas = room-facts (version yard) words room (c .1) }
 
   module _ (rok : roadRefusal road ≡ 0) (yok : yardRefusalIn yard (junctions road) ≡ 0) where
-    pub call-tests : buildAnswer road yard m limit words room ≡ firstOf (rangeRefusal m limit) (roomRefusal words room)
+    pub call-tests : buildAnswer road yard m limit words room ≡ firstOf (rangeRefusal m limit) (roomRefusal (version yard) words room)
     unfolding buildAnswer
     call-tests = first-later _ _ rok ∙ first-later _ _ yok
 
-    pub area-tests : rangeRefusal m limit ≡ 0 → buildAnswer road yard m limit words room ≡ roomRefusal words room
+    pub area-tests : rangeRefusal m limit ≡ 0 → buildAnswer road yard m limit words room ≡ roomRefusal (version yard) words room
     area-tests e = call-tests ∙ first-later _ _ e
 
   pub facts-accepted : AcceptedBuild road yard m limit words room → buildAnswer road yard m limit words room ≡ 0
   facts-accepted a =
-      area-tests (a .roads) (a .yards) (facts-range m limit (a .range)) ∙ sym (long-enough words room (a .areas .work) (a .areas .tree))
+      area-tests (a .roads) (a .yards) (facts-range m limit (a .range)) ∙ sym (long-enough (version yard) words room (a .areas .work) (a .areas .tree))
 
   pub road-turned : 1 ≤ roadRefusal road → buildAnswer road yard m limit words room ≡ roadRefusal road
   unfolding buildAnswer
@@ -154,17 +160,22 @@ module _ (road yard : List ℕ) (m limit words room : ℕ) where
           build-range z = q ∙ sym (call-tests (road-sound .0) yard-sound ∙ first-earlier (rangeRefusal m limit) _ (omega (arith, q)))
 
           module _ (z : r ≡ 0) where
-            tests : buildAnswer road yard m limit words room ≡ roomRefusal words room
+            tests : buildAnswer road yard m limit words room ≡ roomRefusal (version yard) words room
             tests = area-tests (road-sound .0) yard-sound (sym q ∙ z)
 
             pub build-work : words < workWords → 12 ≡ buildAnswer road yard m limit words room
-            build-work h = short-work words room h ∙ sym tests
+            build-work h = short-work (version yard) words room h ∙ sym tests
 
-            pub build-room : workWords ≤ words → room < treeBytes → 12 ≡ buildAnswer road yard m limit words room
-            build-room h k = short-tree words room h k ∙ sym tests
+            -- beside the bytes that the area must have, by the version that is read
+            module _ (v size : ℕ) (ev : v ≡ version yard) (es : size ≡ treeRoom v) where
+              needed : size ≡ treeRoom (version yard)
+              needed = es ∙ ap treeRoom ev
 
-            pub build-passes : workWords ≤ words → treeBytes ≤ room → 0 ≡ buildAnswer road yard m limit words room
-            build-passes h k = long-enough words room h k ∙ sym tests
+              pub build-room : workWords ≤ words → room < size → 12 ≡ buildAnswer road yard m limit words room
+              build-room h k = short-tree (version yard) words room h (omega (arith, needed)) ∙ sym tests
+
+              pub build-passes : workWords ≤ words → size ≤ room → 0 ≡ buildAnswer road yard m limit words room
+              build-passes h k = long-enough (version yard) words room h (omega (arith, needed)) ∙ sym tests
 
 -- ---- the length and the areas after a call
 

@@ -6,31 +6,31 @@ use mathlib.Core.List.{List, [], _∷_, List·Memᴰ as Mem}
 use Prim.Native.Nat.{ℕ, _≤_, _<_}
 use native.Mathlib.Omega.{arith}
 use lib.ListN.{length}
+use Rattle.book.specs.Open.{version}
 use Rattle.book.specs.Writing.{write}
-use Rattle.book.specs.Bytes.{Bytes}
 use Rattle.book.proofs.Choosing.{refuse-case, first-case, first-earlier, lt-or-ge}
 use Rattle.work_area.specs.Work.{workWords, workRefusal}
 use Rattle.work_area.proofs.Zeroing.{work-short, work-enough, accepted-zeroed}
 use Rattle.road_layout.specs.Road.{junctions}
 use Rattle.road.specs.Dijkstra.{dist}
 use Rattle.road.specs.Refusal.{roadRefusal}
-use Rattle.yard.specs.Yards.{yardsOf, yardRefusalIn}
+use Rattle.yard.specs.Yards.{yardsOf, kindOf, yardRefusalIn}
 use Rattle.tree_layout.specs.Values.{Region, Tree}
 use Rattle.tree_layout.specs.Decode.{junctionCount, decode}
 use Rattle.tree_layout.proofs.Places.{decode-junctions}
 use Rattle.tree.specs.Shape.{treeRefusal}
 use Rattle.tree.specs.Yards.{treeYards}
 use Rattle.tree.specs.Facts.{Preorder}
-use Rattle.check_rules.specs.Truth.{trueTree}
+use Rattle.check_rules.specs.Truth.{trueTree, kindsTree}
 use Rattle.check_rules.specs.Facts.{Same}
 use Rattle.tree_encode.specs.Encode.{encode}
-use Rattle.build_records.proofs.Fields.{given-d, given-limit}
+use Rattle.build_records.proofs.Fields.{given-d, given-kinds, given-limit}
 use Rattle.check_tree.specs.Check.{checkAnswer}
 use Rattle.check_tree.proofs.Theorems.{true-passes}
 use Rattle.build_tree.specs.Build.{rangeRefusal, roomRefusal, buildAnswer, builtTree, builtLength, treeAfter}
 use Rattle.build_tree.specs.Facts.{InRange, BuildAreas, AcceptedBuild, Refusals, Kept, writtenBook, Writes, BuildExact}
 use Rattle.build_tree.proofs.Heading.{written-front, written-rest, written-whole}
-use Rattle.build_tree.proofs.Limits.{built-tree, its-junctions, short}
+use Rattle.build_tree.proofs.Limits.{built-tree, its-junctions, short, bytes}
 use Rattle.build_tree.proofs.Stated.{built-from, built-one}
 use Rattle.build_tree.proofs.Answering.{range-facts, facts-range, room-facts, long-enough, accepted-facts, facts-accepted, call-tests, area-tests}
 use Rattle.build_tree.proofs.Answering.{road-turned, yard-turned, turned-length, turned-work, turned-tree, taken-length, taken-tree}
@@ -53,9 +53,9 @@ work-cases words = go (lt-or-ge words workWords)
     go (inl h) = inr (work-short words h)
     go (inr h) = inl (work-enough words h)
 
-room-cases : (words room : ℕ) → (roomRefusal words room ≡ 0) ⊎ (roomRefusal words room ≡ 12)
+room-cases : (v words room : ℕ) → (roomRefusal v words room ≡ 0) ⊎ (roomRefusal v words room ≡ 12)
 unfolding roomRefusal
-room-cases words room =
+room-cases v words room =
     first-case (λ n. (n ≡ 0) ⊎ (n ≡ 12)) (workRefusal words) (λ h. work-cases words) (λ e.
     refuse-case (λ n. (n ≡ 0) ⊎ (n ≡ 12)) _ (λ _. inr refl) (λ _. inl refl))
 
@@ -67,12 +67,12 @@ module _ (road yard : List ℕ) (m limit words room : ℕ) where
     eleven : (buildAnswer road yard m limit words room ≡ 11) ↔ (InRange m limit → ⊥)
     eleven = (to, from)
       where
-        other : (roomRefusal words room ≡ 0) ⊎ (roomRefusal words room ≡ 12) → roomRefusal words room ≢ 11
+        other : (roomRefusal (version yard) words room ≡ 0) ⊎ (roomRefusal (version yard) words room ≡ 12) → roomRefusal (version yard) words room ≢ 11
         other (inl e) z = omega arith
         other (inr e) z = omega arith
 
         to : answer ≡ 11 → InRange m limit → ⊥
-        to e f = other (room-cases words room) (sym (area-tests road yard m limit words room rok yok (facts-range m limit f)) ∙ e)
+        to e f = other (room-cases (version yard) words room) (sym (area-tests road yard m limit words room rok yok (facts-range m limit f)) ∙ e)
 
         go : (InRange m limit → ⊥) → (rangeRefusal m limit ≡ 0) ⊎ (rangeRefusal m limit ≡ 11) → answer ≡ 11
         go h (inl e) = absurd (h (range-facts m limit e))
@@ -81,21 +81,21 @@ module _ (road yard : List ℕ) (m limit words room : ℕ) where
         from : (InRange m limit → ⊥) → answer ≡ 11
         from h = go h (range-cases m limit)
 
-    twelve : InRange m limit → (buildAnswer road yard m limit words room ≡ 12) ↔ (BuildAreas words room → ⊥)
+    twelve : InRange m limit → (buildAnswer road yard m limit words room ≡ 12) ↔ (BuildAreas (version yard) words room → ⊥)
     twelve f = (to, from)
       where
-        tests : answer ≡ roomRefusal words room
+        tests : answer ≡ roomRefusal (version yard) words room
         tests = area-tests road yard m limit words room rok yok (facts-range m limit f)
 
-        to : answer ≡ 12 → BuildAreas words room → ⊥
-        to e a = omega (arith, tests, long-enough words room (a .work) (a .tree))
+        to : answer ≡ 12 → BuildAreas (version yard) words room → ⊥
+        to e a = omega (arith, tests, long-enough (version yard) words room (a .work) (a .tree))
 
-        go : (BuildAreas words room → ⊥) → (roomRefusal words room ≡ 0) ⊎ (roomRefusal words room ≡ 12) → answer ≡ 12
-        go h (inl e) = absurd (h (room-facts words room e))
+        go : (BuildAreas (version yard) words room → ⊥) → (roomRefusal (version yard) words room ≡ 0) ⊎ (roomRefusal (version yard) words room ≡ 12) → answer ≡ 12
+        go h (inl e) = absurd (h (room-facts (version yard) words room e))
         go h (inr e) = tests ∙ e
 
-        from : (BuildAreas words room → ⊥) → answer ≡ 12
-        from h = go h (room-cases words room)
+        from : (BuildAreas (version yard) words room → ⊥) → answer ≡ 12
+        from h = go h (room-cases (version yard) words room)
 
   pub build-refusals : Refusals road yard m limit words room
   build-refusals = record {
@@ -151,7 +151,11 @@ module _ (road yard : List ℕ) (m limit : ℕ) (work tree : List ℕ) where
 
     numbers-true : trueTree (dist road) (decode (encode (builtTree road yard m limit))) ≡ true
     unfolding builtTree
-    numbers-true = rw (back, ← given-d road m limit) (built-tree road yard m limit (length work) (length tree) acc .true-tree)
+    numbers-true = rw (back, ← given-d road yard m limit) (built-tree road yard m limit (length work) (length tree) acc .true-tree)
+
+    kinds-true : kindsTree (kindOf yard) (decode (encode (builtTree road yard m limit))) ≡ true
+    unfolding builtTree
+    kinds-true = rw (back, ← given-kinds road yard m limit) (built-tree road yard m limit (length work) (length tree) acc .kinds-tree)
 
     counts : junctionCount (encode (builtTree road yard m limit)) ≡ junctions road
     counts =
@@ -160,11 +164,7 @@ module _ (road yard : List ℕ) (m limit : ℕ) (work tree : List ℕ) where
     passes : (words : ℕ) → workWords ≤ words → checkAnswer road yard (encode (builtTree road yard m limit)) words ≡ 0
     passes words h =
         true-passes road yard (encode t) words (record { roads = acc .roads; yards = acc .yards; shape = shape; counts = counts; full = h }) yards-same
-        numbers-true
-
-    bytes : Bytes (encode (builtTree road yard m limit))
-    unfolding builtTree
-    bytes = built-tree road yard m limit (length work) (length tree) acc .bytes
+        numbers-true kinds-true
 
     few : length (builtTree road yard m limit .regions) ≤ 511
     unfolding builtTree
@@ -176,7 +176,7 @@ module _ (road yard : List ℕ) (m limit : ℕ) (work tree : List ℕ) where
 
     leaf-limit : (r : Region) → Mem r (builtTree road yard m limit .regions) → r .children ≡ 0 → r .yards ≤ limit
     unfolding builtTree
-    leaf-limit r k c = omega (arith, given-limit road m limit, built-tree road yard m limit (length work) (length tree) acc .leaf-limit r k c)
+    leaf-limit r k c = omega (arith, given-limit road yard m limit, built-tree road yard m limit (length work) (length tree) acc .leaf-limit r k c)
 
     writes : Writes road yard m limit work tree
     writes = record {
@@ -184,7 +184,7 @@ module _ (road yard : List ℕ) (m limit : ℕ) (work tree : List ℕ) where
       size = length-is;
       back = rw book-is back;
       passes = λ words h. rw book-is (passes words h);
-      bytes = rw book-is bytes;
+      bytes = λ bs. rw book-is (bytes road yard m limit (length work) (length tree) acc bs);
       sized = ap length book-is ∙ sym length-is;
       short = rw length-is (short road yard m limit (length work) (length tree) acc);
       rest = rw (length-is, tree-is) (written-rest (encode t) tree fits);

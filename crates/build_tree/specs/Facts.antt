@@ -5,6 +5,7 @@ use mathlib.Core.List.{List, [], _∷_, _++_, List·Memᴰ as Mem}
 use Prim.Native.Nat.{ℕ, _≤_}
 use lib.ListN.{length, take, drop}
 use Rattle.book.specs.Bytes.{Bytes}
+use Rattle.book.specs.Open.{version}
 use Rattle.work_area.specs.Work.{workWords, zeroed, workAfter}
 use Rattle.road_layout.specs.Road.{junctions}
 use Rattle.adjacency.specs.Adjacency.{Adjacency}
@@ -13,9 +14,9 @@ use Rattle.yard.specs.Yards.{yardRefusalIn}
 use Rattle.tree_layout.specs.Values.{Region, Tree}
 use Rattle.tree_layout.specs.Decode.{decode}
 use Rattle.tree.specs.Facts.{Preorder}
-use Rattle.tree_encode.specs.Encode.{encode}
+use Rattle.tree_encode.specs.Encode.{encode, treeRoom}
 use Rattle.check_tree.specs.Check.{checkAnswer}
-use Rattle.build_tree.specs.Build.{treeBytes, buildAnswer, builtTree, builtLength, treeAfter}
+use Rattle.build_tree.specs.Build.{buildAnswer, builtTree, builtLength, treeAfter}
 use Rattle.build_tree.specs.Building.{BuiltFrom}
 
 -- "m (1 to 4) and a leaf limit (1 to 256)"
@@ -23,17 +24,17 @@ pub record InRange (m limit : ℕ) : Type 0 where
   pub landmarks : (1 ≤ m) × (m ≤ 4)
   pub leaf : (1 ≤ limit) × (limit ≤ 256)
 
--- both areas are long enough
-pub record BuildAreas (words room : ℕ) : Type 0 where
+-- both areas are long enough for a tree of a version
+pub record BuildAreas (version words room : ℕ) : Type 0 where
   pub work : workWords ≤ words
-  pub tree : treeBytes ≤ room
+  pub tree : treeRoom version ≤ room
 
 -- a call that is accepted
 pub record AcceptedBuild (road yard : List ℕ) (m limit words room : ℕ) : Type 0 where
   pub roads : roadRefusal road ≡ 0
   pub yards : yardRefusalIn yard (junctions road) ≡ 0
   pub range : InRange m limit
-  pub areas : BuildAreas words room
+  pub areas : BuildAreas (version yard) words room
 
 -- a call that is accepted with some road book, which adj is the adjacency of
 pub record AcceptedBy (adj yard : List ℕ) (m limit words room : ℕ) : Type 0 where
@@ -52,7 +53,7 @@ pub record Refusals (road yard : List ℕ) (m limit words room : ℕ) : Type 0 w
   pub eleven : roadRefusal road ≡ 0 → yardRefusalIn yard (junctions road) ≡ 0
       → (buildAnswer road yard m limit words room ≡ 11) ↔ (InRange m limit → ⊥)
   pub twelve : roadRefusal road ≡ 0 → yardRefusalIn yard (junctions road) ≡ 0 → InRange m limit
-      → (buildAnswer road yard m limit words room ≡ 12) ↔ (BuildAreas words room → ⊥)
+      → (buildAnswer road yard m limit words room ≡ 12) ↔ (BuildAreas (version yard) words room → ⊥)
   -- and no other call is turned back
   pub none : (buildAnswer road yard m limit words room ≡ 0) ↔ AcceptedBuild road yard m limit words room
 
@@ -78,11 +79,12 @@ pub record Writes (road yard : List ℕ) (m limit : ℕ) (work tree : List ℕ) 
   -- the written tree passes the check beside the two books, with a full work area
   pub passes : (words : ℕ) → workWords ≤ words
       → checkAnswer road yard (writtenBook road yard m limit (length work) tree) words ≡ 0
-  -- it is a book of bytes, as long as is returned, and that is at most 21,981
-  pub bytes : Bytes (writtenBook road yard m limit (length work) tree)
+  -- it is a book of bytes if the yard book is, as long as is returned, and that is at most 21,981, or 23,516 in version
+  -- 2
+  pub bytes : Bytes yard → Bytes (writtenBook road yard m limit (length work) tree)
   pub sized : length (writtenBook road yard m limit (length work) tree)
       ≡ builtLength road yard m limit (length work) (length tree)
-  pub short : builtLength road yard m limit (length work) (length tree) ≤ treeBytes
+  pub short : builtLength road yard m limit (length work) (length tree) ≤ treeRoom (version yard)
   -- "Bytes after a built tree stay."
   pub rest : drop (builtLength road yard m limit (length work) (length tree))
       (treeAfter road yard m limit (length work) tree)

@@ -13,12 +13,14 @@ ghost use Rattle.book.specs.Writing.{write};
 ghost use Rattle.work_area.specs.Work.{workWords, workAfter};
 ghost use Rattle.adjacency.specs.Adjacency.{adjacencyWords, Adjacency};
 ghost use Rattle.road.specs.Refusal.{roadRefusal};
-ghost use Rattle.tree_encode.specs.Encode.{encode};
+ghost use Rattle.tree_encode.specs.Encode.{encode, treeRoom};
 ghost use Rattle.build_tree.specs.Build.{rangeRefusal, buildAnswer, builtTree, builtLength, treeAfter};
 ghost use Rattle.build_tree.specs.Facts.{AcceptedBy};
 
-// The bytes of the longest built tree.
+// The bytes of the longest built tree of version 1, and of version 2.
 pub const TREE_BYTES: usize = 21981;
+
+pub const TREE_BYTES_2: usize = 23516;
 
 // The most landmarks that a region has, and the most yards that a leaf may be limited to.
 const MOST_LANDMARKS: u32 = 4;
@@ -57,6 +59,16 @@ fn range_refusal(m: u32, limit: u32) -> u8
     0
 }
 
+// The bytes that the area of a built tree of a version must have.
+fn tree_room(version: u8) -> usize
+    ensures { λ r. ⌜ r ≡ treeRoom version ⌝ }
+{
+    if version == 1 {
+        return TREE_BYTES;
+    }
+    TREE_BYTES_2
+}
+
 // The number of the first test that turns a build back, with so many work words and so much room for the tree, or 0;
 // the road book's adjacency is kept.
 fn refusal(
@@ -88,7 +100,7 @@ fn refusal(
     if words < work_area::WORDS {
         return 12;
     }
-    if room < TREE_BYTES {
+    if room < tree_room(book::version(yard)) {
         return 12;
     }
     0
@@ -107,7 +119,9 @@ fn put_tree(adj: &[u16], yard: &[u8], plan: Plan, tree: &mut [u8]) -> usize
     let all = build_cuts::ranges::range(yard, Junction { number: 0 }, n as usize);
     let put = build_cuts::cut(CUTS, all, plan, adj, yard, tree, FIRST_RECORD);
     let end = put.at;
+    let v = book::version(yard);
     let header = Header {
+        version: v,
         junctions: n,
         regions: put.regions as u16,
         yards: yard::count(yard),

@@ -1,7 +1,4 @@
-pub mod Turns
 pub mod Rows
-pub mod Records
 pub mod Listing
 pub mod Spanning
 pub mod Regions
-pub mod Truth

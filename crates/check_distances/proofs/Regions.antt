@@ -17,12 +17,12 @@ use Rattle.tree_layout.specs.code.Marks.{marksAt}
 use Rattle.tree_layout.specs.Refusal.{all}
 use Rattle.tree_layout.specs.declared.Fields.{Fields}
 use Rattle.tree_layout.proofs.Accepting.{layout-facts}
-use Rattle.tree_layout.proofs.Reading.{region-first, region-after, region-children}
+use Rattle.tree_layout.proofs.Reading.{region-first, region-after}
 use Rattle.tree_layout.proofs.RegionRecords.{layout-region, layout-member, layout-placed, layout-record}
 use Rattle.check_rules.specs.Truth.{trueList, trueSpan, within, trueBesideRegion, trueBeside}
 use Rattle.check_rules.proofs.Testing.{beside-region-test, beside-test}
+use Rattle.check_rules.proofs.Records.{marks-are, children-are, first-is, after-is, own-place}
 use Rattle.check_distances.specs.code.Beside.{Marked, Beside}
-use Rattle.check_distances.proofs.Records.{marks-read}
 
 -- ---- the region whose record is at a place, by its fields
 
@@ -30,39 +30,21 @@ module _ (tree : List ℕ) (i m : ℕ) (em : m ≡ landmarkCount tree) (f : Fiel
   abbrev r : Region
   r = readRegion tree m i
 
-  marks-are : marksAt tree (f .at) ≡ r .marks
-  marks-are = rw (ap (λ (x : Fields). x .at) ef, em) (marks-read tree i)
-
-  children-are : r .children ≡ f .children
-  children-are = region-children tree m i ∙ sym (ap (λ (x : Fields). x .children) ef)
-
-  first-is : r .first ≡ f .first .number
-  first-is = region-first tree m i ∙ sym (ap (λ (x : Fields). x .first .number) ef)
-
-  after-is : r .after ≡ f .after
-  after-is = region-after tree m i ∙ sym (ap (λ (x : Fields). x .after) ef)
-
   pub region-leaf : (t : Bool) → f .children ≡ 0 → t ≡ all (trueList d) (marksAt tree (f .at)) → t ≡ trueBesideRegion d ys r
   region-leaf t z e =
-      e ∙ ap (all (trueList d)) marks-are
-      ∙ sym (beside-region-test d ys r ∙ choose-yes (eqb (r .children) 0) _ _ (eq→eqb (r .children) 0 (children-are ∙ z)))
+      e ∙ ap (all (trueList d)) (marks-are tree i m em f ef)
+      ∙ sym (beside-region-test d ys r ∙ choose-yes (eqb (r .children) 0) _ _ (eq→eqb (r .children) 0 (children-are tree i m em f ef ∙ z)))
 
   pub region-inner : (t : Bool) → (f .children ≡ 0 → ⊥)
       → t ≡ all (trueSpan d (within (f .first .number) (f .after) ys)) (marksAt tree (f .at)) → t ≡ trueBesideRegion d ys r
   region-inner t z e =
-      let g : t ≡ all (trueSpan d (within (r .first) (r .after) ys)) (r .marks) = rw (first-is, after-is, ← marks-are) e in
-      g ∙ sym (beside-region-test d ys r ∙ choose-no (eqb (r .children) 0) _ _ (ne→neqb (r .children) 0 (λ q. z (sym children-are ∙ q))))
+      let g : t ≡ all (trueSpan d (within (r .first) (r .after) ys)) (r .marks) = rw (first-is tree i m em f ef, after-is tree i m em f ef, ← marks-are tree i m em f ef) e in
+      g ∙ sym (beside-region-test d ys r ∙ choose-no (eqb (r .children) 0) _ _ (ne→neqb (r .children) 0 (λ q. z (sym (children-are tree i m em f ef) ∙ q))))
 
 -- what is known at the place is known at the fields' own
 module _ (tree : List ℕ) (i : ℕ) (f : Fields) (ef : f ≡ fieldsAt tree i) where
-  own : f .at ≡ i
-  own = ap (λ (x : Fields). x .at) ef
-
-  pub fields-own : f ≡ fieldsAt tree (f .at)
-  fields-own = ef ∙ ap (λ (x : ℕ). fieldsAt tree x) (sym own)
-
   pub marked-own : (adj : List ℕ) → Marked adj tree i → Marked adj tree (f .at)
-  marked-own adj k = rw own k
+  marked-own adj k = rw (own-place tree i f ef) k
 
   pub held-own : (ys : List ℕ) → 0 < length (within (u16At tree i) (u16At tree (i + 2)) ys) → 0 < length (within (f .first .number) (f .after) ys)
   held-own ys h =

@@ -1,14 +1,13 @@
 -- An inner region's landmarks, one yard and one landmark at a time. Assumes nothing.
-use mathlib.Core.Path.{_≡_, refl, sym, ap, _∙_}
-use mathlib.Core.Logic.{_⊎_, inl, inr}
+use mathlib.Core.Path.{_≡_, sym, _∙_}
+use mathlib.Core.Logic.{inl, inr}
 use mathlib.Core.Bool.{Bool, true, false}
 use mathlib.Core.List.{List, [], _∷_}
 use Prim.Native.Nat.{ℕ, _+_, _≤_, _<_, min, max}
 use native.Mathlib.Omega.{arith}
 use borrow.Author.Tests.{eq-eqb, ne-eqb}
-use lib.ListN.{length, getD, drop, drop-of-length-le}
+use lib.ListN.{length, getD, drop}
 use lib.Dec.{eqb}
-use Rattle.book.proofs.Choosing.{lt-or-ge}
 use Rattle.road_layout.proofs.Layouts.{passing-layout}
 use Rattle.adjacency.specs.Adjacency.{countIn, Adjacency}
 use Rattle.road.specs.Dijkstra.{far, at, dist}
@@ -21,52 +20,14 @@ use Rattle.tree_layout.specs.declared.Landmark.{Landmark}
 use Rattle.check_rules.specs.Truth.{leastDistanceFrom, greatestFrom, trueSpan, within}
 use Rattle.check_rules.proofs.Extremes.{least-none, least-next, least-from, greatest-none, greatest-next, greatest-from}
 use Rattle.check_rules.proofs.Testing.{span-test}
-use Rattle.check_rules.proofs.Within.{within-yes, within-no, within-empty}
+use Rattle.check_rules.proofs.Folding.{outside, inside, turn, ended}
 use Rattle.check_distances.specs.code.Row.{spanIn}
 use Rattle.check_distances.specs.code.Beside.{Marked}
-use Rattle.check_distances.proofs.Turns.{drop-next, all-goes, all-stops}
+use Rattle.check_rules.proofs.Turns.{all-goes, all-stops}
 use Rattle.check_distances.proofs.Rows.{looks, dist-most}
-use Rattle.check_distances.proofs.Records.{mark-number, mark-mem}
+use Rattle.check_rules.proofs.Records.{mark-number, mark-mem}
 
 -- ---- the yards of a range, one at a time
-
-module _ (low high y : ℕ) (ys : List ℕ) where
-  -- before the range, or after it
-  skip : (y < low) ⊎ (high ≤ y) → within low high (y ∷ ys) ≡ within low high ys
-  skip (inl h) = within-no low high y ys (λ a b. omega arith)
-  skip (inr h) = within-no low high y ys (λ a b. omega arith)
-
--- a number that is carried along a list: `fold x ys` is that of the list, `next` that of one yard
-module _ (fold : ℕ → List ℕ → ℕ) (next : ℕ → ℕ → ℕ) (none : (x : ℕ) → fold x [] ≡ x)
-    (more : (x y : ℕ) (ys : List ℕ) → fold x (y ∷ ys) ≡ fold (next x y) ys) (low high x y : ℕ) where
-  outside : (y < low) ⊎ (high ≤ y) → x ≡ fold x (within low high (y ∷ []))
-  outside h = sym (ap (fold x) (skip low high y [] h ∙ within-empty low high) ∙ none x)
-
-  inside : low ≤ y → y < high → next x y ≡ fold x (within low high (y ∷ []))
-  inside h l = sym (ap (fold x) (within-yes low high y [] h l ∙ ap (λ (t : List ℕ). y ∷ t) (within-empty low high)) ∙ more x y [] ∙ none (next x y))
-
-  -- the yard, then the later ones
-  onward : (ys : List ℕ) → fold (fold x (within low high (y ∷ []))) (within low high ys) ≡ fold x (within low high (y ∷ ys))
-  onward ys = go (lt-or-ge y low) (lt-or-ge y high)
-    where
-      out : (y < low) ⊎ (high ≤ y) → fold (fold x (within low high (y ∷ []))) (within low high ys) ≡ fold x (within low high (y ∷ ys))
-      out h = rw (skip low high y ys h, ← outside h) refl
-
-      go : (y < low) ⊎ (low ≤ y) → (y < high) ⊎ (high ≤ y) → fold (fold x (within low high (y ∷ []))) (within low high ys) ≡ fold x (within low high (y ∷ ys))
-      go (inl h) l = out (inl h)
-      go (inr h) (inr l) = out (inr l)
-      go (inr h) (inl l) = rw (within-yes low high y ys h l, more x y (within low high ys), ← inside h l) refl
-
--- with k of a list's yards done
-module _ (fold : ℕ → List ℕ → ℕ) (next : ℕ → ℕ → ℕ) (none : (x : ℕ) → fold x [] ≡ x)
-    (more : (x y : ℕ) (ys : List ℕ) → fold x (y ∷ ys) ≡ fold (next x y) ys) (low high : ℕ) (ys : List ℕ) where
-  turn : (k x z y : ℕ) → k < length ys → y ≡ getD ys k 0 → z ≡ fold x (within low high (y ∷ []))
-      → fold z (within low high (drop (k + 1) ys)) ≡ fold x (within low high (drop k ys))
-  turn k x z y h e f =
-      rw (drop-next ys 0 k h, ← e, f) (onward fold next none more low high x y (drop (k + 1) ys))
-
-  ended : (k x : ℕ) → length ys ≤ k → fold x (within low high (drop k ys)) ≡ x
-  ended k x h = rw (drop-of-length-le ys h, within-empty low high) (none x)
 
 module _ (f : ℕ → ℕ) (low high : ℕ) where
   module _ (x y : ℕ) where

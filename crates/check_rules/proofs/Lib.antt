@@ -1,5 +1,12 @@
+pub mod Turns
 pub mod Extremes
 pub mod Within
+pub mod Folding
+pub mod InRange
+pub mod KindBytes
 pub mod Theorems
 pub mod Testing
+pub mod Records
+pub mod Elements
+pub mod Beside
 pub mod ByDistance

@@ -1,38 +1,34 @@
--- Test 9 holds of an accepted tree exactly if its numbers are true. Assumes nothing.
-use mathlib.Core.Path.{_≡_, refl, sym, ap, _∙_}
-use mathlib.Core.Logic.{_⊎_, inl, inr, _↔_}
-use mathlib.Core.Bool.{Bool, true, false, not, _&&_}
-use mathlib.Core.List.{List, [], _∷_, List·Memᴰ as Mem, List·Memᴰ·head as head, List·Memᴰ·tail as tail, List·Memᴰ·not-nil as not-nil}
-use mathlib.Core.List.{List·Memᴰ·cases-cons as cases-cons}
+-- Test 9 holds of an accepted tree exactly if its numbers are true, and its kinds. Assumes nothing.
+use mathlib.Core.Path.{_≡_}
+use mathlib.Core.Logic.{_⊎_, inl, inr}
+use mathlib.Core.Bool.{true, not, _&&_}
+use mathlib.Core.List.{List, List·Memᴰ as Mem}
 use Prim.Native.Nat.{ℕ, zero, suc, _+_, _≤_, _<_}
 use native.Mathlib.Decide.{ℕ-discrete}
 use native.Mathlib.Omega.{arith}
 use lib.ListN.{length}
 use lib.Dec.{T, eqb, eqb→eq}
-use Rattle.book.specs.Choose.{choose}
 use Rattle.book.proofs.Choosing.{choose-yes, choose-no, T-split, T-true, true-T, and-left, and-right, and-both}
 use Rattle.book.proofs.Lists.{eq→eqb, ne→neqb, neqb→ne}
-use Rattle.tree_layout.specs.Values.{Element, Mark, Region, Tree, regionAt, leafMark}
+use Rattle.tree_layout.specs.Values.{Element, Mark, Region, Tree, regionAt}
 use Rattle.tree_layout.specs.Decode.{decode}
 use Rattle.tree_layout.specs.Refusal.{all}
-use Rattle.tree_layout.specs.Facts.{RegionValues, Rising}
+use Rattle.tree_layout.specs.Facts.{RegionValues}
 use Rattle.tree_layout.proofs.Tests.{all-mem, all-intro}
-use Rattle.tree_layout.specs.code.Formed.{Formed}
 use Rattle.tree_layout.proofs.Formed.{decode-formed, at-mem}
 use Rattle.tree_layout.proofs.Places.{decode-junctions}
 use Rattle.tree_layout.proofs.Rising.{leaf-encloses, region-mem}
 use Rattle.tree.specs.Shape.{treeRefusal}
-use Rattle.tree_leaf.specs.Leaf.{yardsIn}
 use Rattle.tree.specs.Yards.{yardsBelow, treeYards}
 use Rattle.tree.specs.Theorems.{Whole}
 use Rattle.tree_leaf.proofs.Named.{yards-from}
-use Rattle.tree.proofs.Ranges.{below-tree, range-below}
 use Rattle.tree.proofs.Theorems.{tree-facts, accepted-whole}
 use Rattle.check_rules.specs.Truth.{least, greatest, trueElement, trueList, trueSpan, trueRegion, trueFrom, trueTree, within, trueBesideRegion}
 use Rattle.check_rules.specs.Truth.{trueBeside}
 use Rattle.check_rules.specs.Facts.{IsLeast, IsGreatest, TrueNumbers, Same, Tested}
 use Rattle.check_rules.proofs.Extremes.{least-is, greatest-is, one-least, one-greatest, least-same, greatest-same, same-swap, some-same}
-use Rattle.check_rules.proofs.Within.{within-mem, mem-within}
+use Rattle.check_rules.proofs.InRange.{range-same}
+use Rattle.check_rules.proofs.KindBytes.{test-bytes, bytes-test, beside-bytes, bytes-beside}
 
 -- ---- a region, with a list of its yards
 
@@ -148,20 +144,13 @@ module _ (b : List ℕ) (ok : treeRefusal b ≡ 0) where
 
     -- beside a list of the tree's yards
     module _ (ys : List ℕ) (same : Same (treeYards t) ys) where
-      range-same : (r : ℕ) → r < length rs → Same (yardsBelow rs r) (within (regionAt rs r .first) (regionAt rs r .after) ys)
-      range-same r h = record {
-        to = λ y k. let x = whole .holdings .inside r y h k in
-            mem-within (regionAt rs r .first) (regionAt rs r .after) ys y (same .to y (below-tree b ok r y h k)) (x .0) (x .1);
-        from = λ y k. let x = within-mem (regionAt rs r .first) (regionAt rs r .after) ys y k in range-below b ok r y h (same .from y (x .0)) (x .1) (x .2);
-      }
-
       some-range : (r : ℕ) → r < length rs → 0 < length (within (regionAt rs r .first) (regionAt rs r .after) ys)
-      some-range r h = some-same (yardsBelow rs r) (within (regionAt rs r .first) (regionAt rs r .after) ys) (range-same r h) (some-below r h)
+      some-range r h = some-same (yardsBelow rs r) (within (regionAt rs r .first) (regionAt rs r .after) ys) (range-same b ok ys same r h) (some-below r h)
 
       beside-numbers : trueBeside d ys t ≡ true → TrueNumbers d t
       unfolding trueBeside trueBesideRegion
       beside-numbers e = numbers (λ r h. region-same d (within (regionAt rs r .first) (regionAt rs r .after) ys) (yardsBelow rs r) (regionAt rs r) (same-swap
-          (yardsBelow rs r) (within (regionAt rs r .first) (regionAt rs r .after) ys) (range-same r h))
+          (yardsBelow rs r) (within (regionAt rs r .first) (regionAt rs r .after) ys) (range-same b ok ys same r h))
           (test-region d (within (regionAt rs r .first) (regionAt rs r .after) ys) (some-range r h) (regionAt rs r) (all-mem (trueBesideRegion d ys) rs (true-T
           e) (regionAt rs r) (at-mem rs r h))))
 
@@ -171,7 +160,7 @@ module _ (b : List ℕ) (ok : treeRefusal b ≡ 0) where
         where
           go : (r : Region) → (x : (j : ℕ) × (j < length rs) × (r ≡ regionAt rs j)) → T (trueBesideRegion d ys r)
           go r x = rw (x .2) (region-test d (within (regionAt rs (x .0) .first) (regionAt rs (x .0) .after) ys) (some-range (x .0) (x .1)) (regionAt rs (x .0))
-              (region-same d (yardsBelow rs (x .0)) (within (regionAt rs (x .0) .first) (regionAt rs (x .0) .after) ys) (regionAt rs (x .0)) (range-same (x .0)
+              (region-same d (yardsBelow rs (x .0)) (within (regionAt rs (x .0) .first) (regionAt rs (x .0) .after) ys) (regionAt rs (x .0)) (range-same b ok ys same (x .0)
               (x .1)) (each n (x .0) (x .1))))
 
     -- each landmark's least and greatest enclose the distances to the yards below
@@ -192,5 +181,7 @@ pub tested : (b : List ℕ) → treeRefusal b ≡ 0 → Tested (decode b)
 tested b ok = record {
   exact = λ d. (test-numbers b ok d, numbers-test b ok d);
   beside = λ d ys s. (beside-numbers b ok d ys s, numbers-beside b ok d ys s);
+  kinds = λ kinds. (test-bytes b kinds, bytes-test b kinds);
+  kinds-beside = λ kinds ys s. (beside-bytes b kinds ok ys s, bytes-beside b kinds ok ys s);
   encloses = λ d. encloses-all b ok d;
 }

@@ -5,9 +5,10 @@ use mathlib.Core.Bool.{true}
 use mathlib.Core.List.{List, List·Memᴰ as Mem}
 use Prim.Native.Nat.{ℕ, _≤_, _<_}
 use lib.ListN.{length}
+use Rattle.kinds.specs.Facts.{BitsOf}
 use Rattle.tree_layout.specs.Values.{Element, Mark, Region, Tree, regionAt}
 use Rattle.tree.specs.Yards.{yardsBelow, treeYards}
-use Rattle.check_rules.specs.Truth.{trueTree, trueBeside}
+use Rattle.check_rules.specs.Truth.{trueTree, trueBeside, kindsTree, kindsBeside}
 
 -- x is the least of a number for each yard of a list: it is some yard's, and none is below it
 pub record IsLeast (f : ℕ → ℕ) (ys : List ℕ) (x : ℕ) : Type 0 where
@@ -31,6 +32,14 @@ pub record TrueNumbers (d : ℕ → ℕ → ℕ) (t : Tree) : Type 0 where
   pub greatests : (r : ℕ) → r < length (t .regions) → 0 < regionAt (t .regions) r .children → (m : Mark)
       → Mem m (regionAt (t .regions) r .marks) → IsGreatest (d (m .place)) (yardsBelow (t .regions) r) (m .greatest)
 
+-- "every kind byte is the yard book's, and every region's byte has exactly the bits of its yards", where `kinds` gives
+-- each yard's byte
+pub record TrueKinds (kinds : ℕ → ℕ) (t : Tree) : Type 0 where
+  pub lists : (r : ℕ) → r < length (t .regions) → (m : Mark) → Mem m (regionAt (t .regions) r .marks)
+      → (e : Element) → Mem e (m .list) → e .kinds ≡ kinds (e .yard)
+  pub regions : (r : ℕ) → r < length (t .regions)
+      → BitsOf (λ y. Mem y (yardsBelow (t .regions) r)) (λ y k. kinds y ≡ k) (regionAt (t .regions) r .kinds)
+
 -- the same yards stand in both lists
 pub record Same (ys zs : List ℕ) : Type 0 where
   pub to : (y : ℕ) → Mem y ys → Mem y zs
@@ -42,8 +51,12 @@ pub record Tested (t : Tree) : Type 0 where
   pub exact : (d : ℕ → ℕ → ℕ) → (trueTree d t ≡ true) ↔ TrueNumbers d t
   -- and so does the test that takes each region's yards from a list of the tree's yards, by its range
   pub beside : (d : ℕ → ℕ → ℕ) (ys : List ℕ) → Same (treeYards t) ys → (trueBeside d ys t ≡ true) ↔ TrueNumbers d t
-  -- then each landmark's least and greatest, in a leaf its list's first and last, enclose the distances to the yards
-  -- below
+  -- likewise of kinds
+  pub kinds : (kinds : ℕ → ℕ) → (kindsTree kinds t ≡ true) ↔ TrueKinds kinds t
+  pub kinds-beside : (kinds : ℕ → ℕ) (ys : List ℕ) → Same (treeYards t) ys
+      → (kindsBeside kinds ys t ≡ true) ↔ TrueKinds kinds t
+  -- of true distances: each landmark's least and greatest, in a leaf its list's first and last, enclose the distances
+  -- to the yards below
   pub encloses : (d : ℕ → ℕ → ℕ) → TrueNumbers d t → (r : ℕ) → r < length (t .regions) → (m : Mark)
       → Mem m (regionAt (t .regions) r .marks) → (y : ℕ) → Mem y (yardsBelow (t .regions) r)
       → (m .least ≤ d (m .place) y) × (d (m .place) y ≤ m .greatest)

@@ -19,7 +19,7 @@ use Rattle.road_layout.proofs.Reading.{told-why, told-sound, number-told}
 use Rattle.adjacency.specs.Adjacency.{countIn, Adjacency, IsAdjacency}
 use Rattle.road.specs.Dijkstra.{dist}
 use Rattle.road.specs.Refusal.{roadRefusal}
-use Rattle.yard.specs.Yards.{yardsOf, yardCount, yardRefusal, yardRefusalIn, yardBook, yardNumber}
+use Rattle.yard.specs.Yards.{yardsOf, yardCount, kindOf, yardRefusal, yardRefusalIn, yardBook, yardNumber}
 use Rattle.yard.specs.declared.YardBook.{YardBook}
 use Rattle.yard.specs.declared.YardBook.the-variants.{Yards, Refused as yard-refused}
 use Rattle.yard.proofs.YardLayout.{passes-alone}
@@ -38,10 +38,10 @@ use Rattle.tree.specs.declared.Tree.{Tree}
 use Rattle.tree.specs.declared.Tree.the-variants.{Shaped, Refused as tree-refused}
 use Rattle.tree.proofs.Theorems.{tree-facts}
 use Rattle.tree.proofs.Answering.{shaped-answer, shaped-found, number-is as tree-number-is}
-use Rattle.check_rules.specs.Truth.{trueTree, trueBeside}
+use Rattle.check_rules.specs.Truth.{trueTree, trueBeside, kindsTree, kindsBeside}
 use Rattle.check_rules.specs.Facts.{Same}
 use Rattle.check_distances.specs.code.Beside.{Beside}
-use Rattle.check_distances.proofs.Truth.{ranges-held, beside-true}
+use Rattle.check_rules.proofs.Beside.{ranges-held, beside-true, beside-kinds}
 use Rattle.check_tree.specs.Check.{sameSet, treeRefusalBeside, checkAnswer}
 use Rattle.check_tree.specs.code.Known.{knownTree}
 use Rattle.check_tree.proofs.Sets.{set-same}
@@ -76,16 +76,20 @@ module _ (road yard tree : List ℕ) where
           ∙ fails-if (sameSet (treeYards (decode tree)) (yardsOf yard)) 8 _ s)
 
       module _ (s : sameSet (treeYards (decode tree)) (yardsOf yard) ≡ true) where
-        last : treeRefusalBeside road yard tree ≡ refuse (trueTree (dist road) (decode tree)) 9 0
+        last : treeRefusalBeside road yard tree ≡ refuse (trueTree (dist road) (decode tree)) 9 (refuse (kindsTree (kindOf yard) (decode tree)) 9 0)
         unfolding treeRefusalBeside
         last = first-later _ _ ok ∙ passes-if (eqb (junctionCount tree) (junctions road)) 8 _ (eq-eqb _ _ counts)
             ∙ passes-if (sameSet (treeYards (decode tree)) (yardsOf yard)) 8 _ s
 
         pub untrue : trueTree (dist road) (decode tree) ≡ false → 9 ≡ treeRefusalBeside road yard tree
-        untrue f = sym (last ∙ fails-if (trueTree (dist road) (decode tree)) 9 0 f)
+        untrue f = sym (last ∙ fails-if (trueTree (dist road) (decode tree)) 9 _ f)
 
-        pub all-true : trueTree (dist road) (decode tree) ≡ true → 0 ≡ treeRefusalBeside road yard tree
-        all-true f = sym (last ∙ passes-if (trueTree (dist road) (decode tree)) 9 0 f)
+        module _ (f : trueTree (dist road) (decode tree) ≡ true) where
+          pub untrue-kinds : kindsTree (kindOf yard) (decode tree) ≡ false → 9 ≡ treeRefusalBeside road yard tree
+          untrue-kinds g = sym (last ∙ passes-if (trueTree (dist road) (decode tree)) 9 _ f ∙ fails-if (kindsTree (kindOf yard) (decode tree)) 9 0 g)
+
+          pub all-true : kindsTree (kindOf yard) (decode tree) ≡ true → 0 ≡ treeRefusalBeside road yard tree
+          all-true g = sym (last ∙ passes-if (trueTree (dist road) (decode tree)) 9 _ f ∙ passes-if (kindsTree (kindOf yard) (decode tree)) 9 0 g)
 
 -- ---- the steps of the tree book's tests, from what the reader found
 
@@ -139,8 +143,15 @@ module _ (adj yard tree : List ℕ) (roads : IsAdjacency adj) (alone : yardRefus
             pub step-untrue : w ≡ false → 9 ≡ treeRefusalBeside road yard tree
             step-untrue b = untrue road yard tree ok (beside road a) (sym same ∙ sym k ∙ z) (truth ∙ b)
 
-            pub step-true : w ≡ true → 0 ≡ treeRefusalBeside road yard tree
-            step-true b = all-true road yard tree ok (beside road a) (sym same ∙ sym k ∙ z) (truth ∙ b)
+            module _ (b : w ≡ true) (v : Bool) (seen : v ≡ kindsBeside (kindOf yard) (yardsOf yard) (decode tree)) where
+              kinds-truth : kindsTree (kindOf yard) (decode tree) ≡ v
+              kinds-truth = sym (seen ∙ beside-kinds tree (yardsOf yard) ok set (kindOf yard))
+
+              pub step-untrue-kinds : v ≡ false → 9 ≡ treeRefusalBeside road yard tree
+              step-untrue-kinds g = untrue-kinds road yard tree ok (beside road a) (sym same ∙ sym k ∙ z) (truth ∙ b) (kinds-truth ∙ g)
+
+              pub step-true : v ≡ true → 0 ≡ treeRefusalBeside road yard tree
+              step-true g = all-true road yard tree ok (beside road a) (sym same ∙ sym k ∙ z) (truth ∙ b) (kinds-truth ∙ g)
 
 -- ---- what the readers of the road book and the yard book found
 

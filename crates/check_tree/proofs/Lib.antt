@@ -2,6 +2,7 @@ pub mod Sets
 pub mod Knowing
 pub mod Matching
 pub mod Answering
+pub mod KindBytes
 pub mod Theorems
 pub mod Passing
 pub mod Vectors

@@ -1,4 +1,4 @@
--- Demand 2, of check: a tree passes if and only if its leaves hold the yards and its numbers are least totals of walks. Assumes nothing.
+-- Demand 2, of check: a tree passes if and only if its leaves hold the yards, its numbers are least totals of walks, and its kind bytes are true. Assumes nothing.
 use mathlib.Core.Path.{_≡_, _∙_}
 use mathlib.Core.Logic.{_↔_}
 use mathlib.Core.Bool.{true}
@@ -17,7 +17,8 @@ use Rattle.road.specs.Dijkstra.{dist}
 use Rattle.road.specs.Facts.{Metric}
 use Rattle.road.proofs.Walks.{least-unique}
 use Rattle.road.proofs.Theorems.{passing, metric}
-use Rattle.yard.specs.Yards.{yardsOf}
+use Rattle.yard.specs.Yards.{yardsOf, kindOf}
+use Rattle.yard.proofs.YardLayout.{passes-alone}
 use Rattle.tree_layout.specs.Values.{Element, Mark, Region, Tree, regionAt}
 use Rattle.tree_layout.specs.Decode.{junctionCount, decode}
 use Rattle.tree_layout.proofs.Places.{decode-junctions, decode-landmarks}
@@ -29,12 +30,13 @@ use Rattle.tree.proofs.Ranges.{below-tree}
 use Rattle.tree.specs.RegionYards.{YardOf}
 use Rattle.tree.proofs.RegionYards.{region-yards}
 use Rattle.tree.proofs.Theorems.{tree-facts, accepted-whole}
-use Rattle.check_rules.specs.Truth.{trueTree}
+use Rattle.check_rules.specs.Truth.{trueTree, kindsTree}
 use Rattle.check_rules.specs.Facts.{IsLeast, IsGreatest, TrueNumbers, Same}
 use Rattle.check_rules.proofs.Theorems.{tested}
 use Rattle.check_tree.specs.Check.{sameSet, treeRefusalBeside, checkAnswer}
-use Rattle.check_tree.specs.Facts.{LeafHolds, HoldsEach, LeastTotal, GreatestTotal, TrueTotals, SoundBeside, CheckExact}
+use Rattle.check_tree.specs.Facts.{LeafHolds, HoldsEach, LeastTotal, GreatestTotal, TrueTotals, TrueBytes, SoundBeside, CheckExact}
 use Rattle.check_tree.proofs.Sets.{set-same, same-set}
+use Rattle.check_tree.proofs.KindBytes.{bytes-exact}
 
 module _ (road yard tree : List ℕ) (words : ℕ) (laid : SoundBeside road yard tree words) where
   abbrev t : Tree
@@ -157,25 +159,27 @@ module _ (road yard tree : List ℕ) (words : ℕ) (laid : SoundBeside road yard
   -- ---- the answer
 
   -- what is left of the tests for such books: the yards, and test 9
-  passes-there : checkAnswer road yard tree words ≡ 0 → Same (treeYards t) ys × (trueTree (dist road) t ≡ true)
+  passes-there : checkAnswer road yard tree words ≡ 0 → Same (treeYards t) ys × (trueTree (dist road) t ≡ true) × (kindsTree (kindOf yard) t ≡ true)
   unfolding checkAnswer treeRefusalBeside
   passes-there e =
       let a = first-none _ _ (first-none _ _ (first-none _ _ e .1) .1) .0 in
       let b = passed _ _ _ (first-none _ _ a .1) (omega arith) in
       let c = passed _ _ _ (b .1) (omega arith) in
       let d = passed _ _ _ (c .1) (omega arith) in
-      (set-same (treeYards t) ys (c .0), T-true _ (d .0))
+      let f = passed _ _ _ (d .1) (omega arith) in
+      (set-same (treeYards t) ys (c .0), T-true _ (d .0), T-true _ (f .0))
 
-  there-passes : Same (treeYards t) ys → trueTree (dist road) t ≡ true → checkAnswer road yard tree words ≡ 0
+  there-passes : Same (treeYards t) ys → trueTree (dist road) t ≡ true → kindsTree (kindOf yard) t ≡ true → checkAnswer road yard tree words ≡ 0
   unfolding checkAnswer treeRefusalBeside
-  there-passes s e =
+  there-passes s e f =
       first-later _ _ (laid .roads)
       ∙ first-later _ _ (laid .yards)
       ∙ first-later _ _
       (first-later _ _ (laid .shape)
       ∙ passes (eqb (junctionCount tree) (junctions road)) _ _ (eq→eqb (junctionCount tree) (junctions road) (laid .counts))
       ∙ passes (sameSet (treeYards t) ys) _ _ (same-set (treeYards t) ys s)
-      ∙ passes (trueTree (dist road) t) _ _ (true-T e))
+      ∙ passes (trueTree (dist road) t) _ _ (true-T e)
+      ∙ passes (kindsTree (kindOf yard) t) _ _ (true-T f))
       ∙ work-enough words (laid .full)
 
   -- the test of yards, and test 9
@@ -188,18 +192,23 @@ module _ (road yard tree : List ℕ) (words : ℕ) (laid : SoundBeside road yard
     (λ n. tested tree (laid .shape) .exact (dist road) .1 (totals-numbers n)),
   )
 
-  exact : (checkAnswer road yard tree words ≡ 0) ↔ (HoldsEach rs ys × TrueTotals (net road) rs)
+  -- of kinds, where the yards are the yard book's
+  pub kinds-exact : HoldsEach (decode tree .regions) (yardsOf yard) → (kindsTree (kindOf yard) (decode tree) ≡ true) ↔ TrueBytes yard (decode tree .regions)
+  kinds-exact h = bytes-exact yard tree (passes-alone yard (junctions road) (laid .yards)) (laid .shape) (holds-same h)
+
+  exact : (checkAnswer road yard tree words ≡ 0) ↔ (HoldsEach rs ys × TrueTotals (net road) rs × TrueBytes yard rs)
   exact = (
-    (λ e. let p = passes-there e in (same-holds (p .0), totals-exact .0 (p .1))),
-    (λ p. there-passes (holds-same (p .0)) (totals-exact .1 (p .1))),
+    (λ e. let p = passes-there e in let h = same-holds (p .0) in (h, totals-exact .0 (p .1), kinds-exact h .0 (p .2))),
+    (λ p. there-passes (holds-same (p .0)) (totals-exact .1 (p .1)) (kinds-exact (p .0) .1 (p .2))),
   )
 
 -- demand 2, of check
 pub check-exact : CheckExact
 check-exact = exact
 
--- a tree with the book's yards and true numbers passes
+-- a tree with the book's yards, true numbers and true kinds passes
 pub true-passes : (road yard tree : List ℕ) (words : ℕ) → SoundBeside road yard tree words → Same (treeYards (decode tree)) (yardsOf yard)
     → trueTree (dist road) (decode tree) ≡ true
+    → kindsTree (kindOf yard) (decode tree) ≡ true
     → checkAnswer road yard tree words ≡ 0
-true-passes road yard tree words laid s e = there-passes road yard tree words laid s e
+true-passes road yard tree words laid s e f = there-passes road yard tree words laid s e f

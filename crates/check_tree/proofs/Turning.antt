@@ -1,4 +1,4 @@
--- The tests that turn a check back, in their order, with the yards and numbers by `HoldsEach` and `TrueTotals`. Assumes nothing.
+-- The tests that turn a check back, in their order, with the yards, numbers and kinds by `HoldsEach`, `TrueTotals` and `TrueBytes`. Assumes nothing.
 use mathlib.Core.Path.{_≡_}
 use mathlib.Core.List.{List, [], _∷_, _++_}
 use Prim.Native.Nat.{ℕ, _≤_}
@@ -16,7 +16,7 @@ use Rattle.road.specs.Dijkstra.{dist}
 use Rattle.road.specs.Refusal.{roadRefusal}
 use Rattle.road.specs.Tests.{roadTests}
 use Rattle.road.proofs.Theorems.{road-tests}
-use Rattle.yard.specs.Yards.{yardsOf, yardRefusalIn}
+use Rattle.yard.specs.Yards.{yardsOf, kindOf, yardRefusalIn}
 use Rattle.yard.specs.Tests.{yardTestsIn}
 use Rattle.yard.proofs.FirstFailing.{yard-tests-in}
 use Rattle.tree_layout.specs.Decode.{junctionCount, decode}
@@ -24,10 +24,10 @@ use Rattle.tree.specs.Shape.{treeRefusal}
 use Rattle.tree.specs.Yards.{treeYards}
 use Rattle.tree.specs.Tests.{treeTests}
 use Rattle.tree.proofs.FirstFailing.{tree-tests}
-use Rattle.check_rules.specs.Truth.{trueTree}
+use Rattle.check_rules.specs.Truth.{trueTree, kindsTree}
 use Rattle.check_tree.specs.Check.{sameSet, treeRefusalBeside, checkAnswer}
-use Rattle.check_tree.specs.Facts.{HoldsEach, TrueTotals, SoundBeside}
-use Rattle.check_tree.proofs.Theorems.{yards-exact, totals-exact}
+use Rattle.check_tree.specs.Facts.{HoldsEach, TrueTotals, TrueBytes, SoundBeside}
+use Rattle.check_tree.proofs.Theorems.{yards-exact, totals-exact, kinds-exact}
 
 module _ (road yard tree : List ℕ) where
   -- the tree book's tests beside the other two
@@ -37,6 +37,7 @@ module _ (road yard tree : List ℕ) where
       ++ test 8 (junctionCount tree ≡ junctions road)
       ∷ test 8 (HoldsEach (decode tree .regions) (yardsOf yard))
       ∷ test 9 (TrueTotals (net road) (decode tree .regions))
+      ∷ test 9 (TrueBytes yard (decode tree .regions))
       ∷ []
 
   beside-tests : roadRefusal road ≡ 0 → yardRefusalIn yard (junctions road) ≡ 0 → FirstFailing besideTests (treeRefusalBeside road yard tree)
@@ -47,8 +48,10 @@ module _ (road yard tree : List ℕ) where
       let laid : SoundBeside road yard tree workWords = record { roads = r; yards = y; shape = s; counts = c; full = omega arith } in
       let yards = yards-exact road yard tree workWords laid in
       let totals = totals-exact road yard tree workWords laid in
-      first-test (sameSet (treeYards (decode tree)) (yardsOf yard)) 8 _ _ (yards .0) (yards .1) (λ _.
-      first-test (trueTree (dist road) (decode tree)) 9 0 _ (λ t. totals .0 (T-true _ t)) (λ n. true-T (totals .1 n)) (λ _. first-end))))
+      first-test (sameSet (treeYards (decode tree)) (yardsOf yard)) 8 _ _ (yards .0) (yards .1) (λ h.
+      let kinds = kinds-exact road yard tree workWords laid h in
+      first-test (trueTree (dist road) (decode tree)) 9 _ _ (λ t. totals .0 (T-true _ t)) (λ n. true-T (totals .1 n)) (λ _.
+      first-test (kindsTree (kindOf yard) (decode tree)) 9 0 _ (λ t. kinds .0 (T-true _ t)) (λ n. true-T (kinds .1 n)) (λ _. first-end)))))
 
   -- a check's answer is the number of the first of its tests that fails
   pub check-tests : (words : ℕ)
@@ -57,6 +60,7 @@ module _ (road yard tree : List ℕ) where
       ++ test 8 (junctionCount tree ≡ junctions road)
       ∷ test 8 (HoldsEach (decode tree .regions) (yardsOf yard))
       ∷ test 9 (TrueTotals (net road) (decode tree .regions))
+      ∷ test 9 (TrueBytes yard (decode tree .regions))
       ∷ test 12 (workWords ≤ words)
       ∷ [])
       (checkAnswer road yard tree words)

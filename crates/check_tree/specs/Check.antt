@@ -8,12 +8,12 @@ use Rattle.work_area.specs.Work.{workRefusal}
 use Rattle.road_layout.specs.Road.{junctions}
 use Rattle.road.specs.Dijkstra.{dist}
 use Rattle.road.specs.Refusal.{roadRefusal}
-use Rattle.yard.specs.Yards.{yardsOf, yardRefusalIn}
+use Rattle.yard.specs.Yards.{yardsOf, kindOf, yardRefusalIn}
 use Rattle.tree_layout.specs.Decode.{junctionCount, decode}
 use Rattle.tree_layout.specs.Refusal.{all}
 use Rattle.tree.specs.Shape.{treeRefusal}
 use Rattle.tree.specs.Yards.{treeYards}
-use Rattle.check_rules.specs.Truth.{trueTree}
+use Rattle.check_rules.specs.Truth.{trueTree, kindsTree}
 
 -- a list has yard y
 unfoldable pub has : List ℕ → ℕ → Bool
@@ -32,8 +32,9 @@ treeRefusalBeside road yard tree =
     -- 8: "Junction counts or yards disagree between books"
     (refuse (eqb (junctionCount tree) (junctions road)) 8
     (refuse (sameSet (treeYards (decode tree)) (yardsOf yard)) 8
-    -- 9: "In a check only: a stored distance, least or greatest isn't the true one."
-    (refuse (trueTree (dist road) (decode tree)) 9 0)))
+    -- 9: "In a check only: a stored distance, least or greatest isn't the true one.", nor a kind byte
+    (refuse (trueTree (dist road) (decode tree)) 9
+    (refuse (kindsTree (kindOf yard) (decode tree)) 9 0))))
 
 -- "Books are tested in the order road, yard, tree, query, each through its own tests, a test between books going with
 -- the later one; then the call's .. areas."

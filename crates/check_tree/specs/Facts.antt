@@ -11,7 +11,8 @@ use Rattle.road_layout.specs.Road.{junctions}
 use Rattle.adjacency.specs.Arcs.{Arc, net}
 use Rattle.road.specs.Walk.{Least}
 use Rattle.road.specs.Refusal.{roadRefusal}
-use Rattle.yard.specs.Yards.{yardsOf, yardRefusalIn}
+use Rattle.kinds.specs.Facts.{BitsOf}
+use Rattle.yard.specs.Yards.{yardsOf, HasKinds, yardRefusalIn}
 use Rattle.tree_layout.specs.Values.{Element, Mark, Region, regionAt}
 use Rattle.tree_layout.specs.Decode.{junctionCount, decode}
 use Rattle.tree_leaf.specs.Leaf.{yardsIn}
@@ -56,6 +57,12 @@ pub record TrueTotals (arcs : List Arc) (rs : List Region) : Type 0 where
   pub greatests : (r : ℕ) → r < length rs → 0 < regionAt rs r .children → (m : Mark) → Mem m (regionAt rs r .marks)
       → GreatestTotal arcs (m .place) (YardOf rs r) (m .greatest)
 
+-- "every kind byte is the yard book's, and every region's byte has exactly the bits of its yards"
+pub record TrueBytes (yard : List ℕ) (rs : List Region) : Type 0 where
+  pub lists : (r : ℕ) → r < length rs → regionAt rs r .children ≡ 0 → (m : Mark) → Mem m (regionAt rs r .marks)
+      → (e : Element) → Mem e (m .list) → HasKinds yard (e .yard) (e .kinds)
+  pub regions : (r : ℕ) → r < length rs → BitsOf (YardOf rs r) (HasKinds yard) (regionAt rs r .kinds)
+
 -- "Beside a sound road book and yard book, with full areas, a tree of sound layout and shape and of the road book's
 -- junction count"
 pub record SoundBeside (road yard tree : List ℕ) (words : ℕ) : Type 0 where
@@ -67,8 +74,9 @@ pub record SoundBeside (road yard tree : List ℕ) (words : ℕ) : Type 0 where
 
 -- Demand 2, of check: such a tree "passes the check if and only if its leaves hold each yard of the yard book once and
 -- no other, and each stored distance is the least total of any walk .., with each least and greatest true of its
--- region's yards"
+-- region's yards", and also every kind byte is the yard book's, and every region's byte has exactly the bits of its yards
 abbrev pub CheckExact : Type 0
 CheckExact = (road yard tree : List ℕ) (words : ℕ) → SoundBeside road yard tree words
     → (checkAnswer road yard tree words ≡ 0)
-    ↔ (HoldsEach (decode tree .regions) (yardsOf yard) × TrueTotals (net road) (decode tree .regions))
+    ↔ (HoldsEach (decode tree .regions) (yardsOf yard) × TrueTotals (net road) (decode tree .regions)
+    × TrueBytes yard (decode tree .regions))

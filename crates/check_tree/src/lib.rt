@@ -37,6 +37,9 @@ fn tree_refusal(adj: &[u16], yard: &[u8], tree: &[u8]) -> u8
     if !check_distances::numbers_true(adj, yard, tree) {
         return 9;
     }
+    if !check_kinds::kinds_true(yard, tree) {
+        return 9;
+    }
     0
 }
 

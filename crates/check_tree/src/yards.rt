@@ -3,9 +3,10 @@ use book::Junction;
 use tree_layout::landmarks;
 use tree_layout::records;
 ghost use mathlib.Core.Path.{_≡_};
-ghost use Prim.Native.Nat.{_*_, _≤_};
+ghost use Prim.Native.Nat.{_≤_};
 ghost use lib.ListN.{length};
 ghost use Rattle.yard.specs.Yards.{yardsOf, yardRefusal};
+ghost use Rattle.tree_layout.specs.Sizes.{listSize};
 ghost use Rattle.tree_layout.specs.Decode.{readList, readRegion, decode, landmarkCount};
 ghost use Rattle.tree_layout.specs.code.Marks.{RecordAt};
 ghost use Rattle.tree_layout.specs.Refusal.{treeLayoutRefusal};
@@ -30,13 +31,13 @@ fn has_yard(yard: &[u8], y: Junction) -> bool
 }
 
 // Whether a yard book has each yard that n elements name.
-fn list_known(yard: &[u8], p: &[u8], n: usize) -> bool
-    requires { ⌜ (yardRefusal (now yard) ≡ 0) × (6 * n ≤ length (now p)) ⌝ }
-    ensures { λ r. ⌜ r ≡ knownList (yardsOf (now (yard .entry))) (readList (now (p .entry)) n 0) ⌝ }
+fn list_known(yard: &[u8], p: &[u8], v: u8, n: usize) -> bool
+    requires { ⌜ (yardRefusal (now yard) ≡ 0) × (n ≤ 65535) × (listSize v n ≤ length (now p)) ⌝ }
+    ensures { λ r. ⌜ r ≡ knownList (yardsOf (now (yard .entry))) (readList v (now (p .entry)) n 0) ⌝ }
 {
     let mut k: usize = 0;
     while k < n {
-        let e = records::element(p, k);
+        let e = records::element(p, v, k);
         if !has_yard(yard, e.yard) {
             return false;
         }
@@ -58,7 +59,7 @@ fn region_known(yard: &[u8], tree: &[u8], at: usize) -> bool
     let yards = f.yards as usize;
     let first = landmarks::mark_place(tree, at, 0);
     let list = records::list(tree, first, yards);
-    list_known(yard, list, yards)
+    list_known(yard, list, book::version(tree), yards)
 }
 
 // Whether a yard book has each yard of a tree's leaves.

@@ -4,12 +4,11 @@ use build_tree::Built;
 use search_tree::Found;
 ghost use mathlib.Core.Path.{_≡_};
 ghost use mathlib.Core.List.{_∷_, []};
-ghost use mathlib.Core.Option.{none, some};
 ghost use lib.ListN.{length};
 ghost use Rattle.work_area.specs.Work.{workAfter};
 ghost use Rattle.build_tree.specs.Build.{buildAnswer, builtLength, treeAfter};
 ghost use Rattle.build_tree.specs.Facts.{writtenBook};
-ghost use Rattle.search_call.specs.Call.{searchRefusal, searchFound, resultsAfter};
+ghost use Rattle.search_call.specs.Call.{wantNearest, wantWithin, searchRefusal, searchFound, resultsAfter};
 ghost use Rattle.search_call.specs.Demand.{Promised};
 ghost use Rattle.search_tree.specs.Found.{foundOf};
 ghost use Rattle.client.specs.Calls.{callOf, areasOf};
@@ -55,16 +54,17 @@ pub fn build_and_search(
     m: u32,
     limit: u32,
     query: &[u8],
+    wanted: u8,
     work: &mut [u32],
     tree: &mut [u8],
     results: &mut [u32],
 ) -> Found
     ensures found { λ r. ⌜ foundOf r ≡ searchFound (now (road .entry))
         (writtenBook (now (road .entry)) (now (yard .entry)) m limit (length (now (work .entry))) (now (tree .entry)))
-        (now (query .entry)) none (length (now (work .entry))) (length (now (results .entry))) ⌝ }
+        (now (query .entry)) (wantNearest wanted) (length (now (work .entry))) (length (now (results .entry))) ⌝ }
     ensures work { λ _. ⌜ now (work .exit) ≡ workAfter (searchRefusal (now (road .entry))
         (writtenBook (now (road .entry)) (now (yard .entry)) m limit (length (now (work .entry))) (now (tree .entry)))
-        (now (query .entry)) none (length (now (work .entry))) (length (now (results .entry))))
+        (now (query .entry)) (wantNearest wanted) (length (now (work .entry))) (length (now (results .entry))))
         (workAfter (buildAnswer (now (road .entry)) (now (yard .entry)) m limit
         (length (now (work .entry))) (length (now (tree .entry))))
         (workAfter (buildAnswer (now (road .entry)) (now (yard .entry)) m limit
@@ -73,11 +73,11 @@ pub fn build_and_search(
         (length (now (work .entry))) (now (tree .entry)) ⌝ }
     ensures results { λ _. ⌜ now (results .exit) ≡ resultsAfter (now (road .entry))
         (writtenBook (now (road .entry)) (now (yard .entry)) m limit (length (now (work .entry))) (now (tree .entry)))
-        (now (query .entry)) none (length (now (work .entry))) (now (results .entry)) ⌝ }
+        (now (query .entry)) (wantNearest wanted) (length (now (work .entry))) (now (results .entry)) ⌝ }
 {
     let built = build_checked(road, yard, m, limit, work, tree);
     let n = built.length as usize;
-    finder::finder_search(road, &tree[..n], query, work, results)
+    finder::finder_search(road, &tree[..n], query, wanted, work, results)
 }
 
 // Searches, and has what demand 3 promises of this search: of a tree that passes the list is exactly the first yards.
@@ -85,15 +85,18 @@ pub fn search_promised(
     road: &[u8],
     tree: &[u8],
     query: &[u8],
+    wanted: u8,
     work: &mut [u32],
     results: &mut [u32],
 ) -> Found
-    ensures found { λ r. ⌜ foundOf r ≡ searchFound (now (road .entry)) (now (tree .entry)) (now (query .entry)) none
+    ensures found { λ r. ⌜ foundOf r ≡ searchFound (now (road .entry)) (now (tree .entry)) (now (query .entry))
+        (wantNearest wanted)
         (length (now (work .entry))) (length (now (results .entry))) ⌝ }
-    ensures promised { λ _. ⌜ Promised (callOf (now (road .entry)) (now (tree .entry)) (now (query .entry)) none ∷ [])
+    ensures promised { λ _. ⌜ Promised (callOf (now (road .entry)) (now (tree .entry)) (now (query .entry))
+        (wantNearest wanted) ∷ [])
         (areasOf (now (work .entry)) (now (results .entry))) ⌝ }
 {
-    finder::finder_search(road, tree, query, work, results)
+    finder::finder_search(road, tree, query, wanted, work, results)
 }
 
 // Searches within a drive, and has what demand 3 promises of it: of a tree that passes the list is exactly the yards
@@ -102,15 +105,16 @@ pub fn within_promised(
     road: &[u8],
     tree: &[u8],
     query: &[u8],
+    wanted: u8,
     seconds: u32,
     work: &mut [u32],
     results: &mut [u32],
 ) -> Found
     ensures found { λ r. ⌜ foundOf r ≡ searchFound (now (road .entry)) (now (tree .entry)) (now (query .entry))
-        (some seconds) (length (now (work .entry))) (length (now (results .entry))) ⌝ }
+        (wantWithin wanted seconds) (length (now (work .entry))) (length (now (results .entry))) ⌝ }
     ensures promised { λ _. ⌜ Promised
-        (callOf (now (road .entry)) (now (tree .entry)) (now (query .entry)) (some seconds) ∷ [])
+        (callOf (now (road .entry)) (now (tree .entry)) (now (query .entry)) (wantWithin wanted seconds) ∷ [])
         (areasOf (now (work .entry)) (now (results .entry))) ⌝ }
 {
-    finder::finder_within(road, tree, query, seconds, work, results)
+    finder::finder_within(road, tree, query, wanted, seconds, work, results)
 }

@@ -4,7 +4,7 @@ use mathlib.Core.Option.{none}
 use mathlib.Core.List.{List, [], _∷_, _++_}
 use Prim.Native.Nat.{ℕ, _+_, _*_, _/_}
 use lib.ListN.{length, drop, replicate}
-use Rattle.search_call.specs.Call.{Found, refused, Call, Areas, foundOn, callOn}
+use Rattle.search_call.specs.Call.{wantAny, wantNearest, Found, refused, Call, Areas, foundOn, callOn}
 
 -- ---- net N
 
@@ -26,6 +26,15 @@ treeN =
     ∷ 0 ∷ 0 ∷ 0 ∷ 2 ∷ 0 ∷ 1
     ∷ 0 ∷ 0 ∷ 0 ∷ 9 ∷ 0 ∷ 3
     ∷ 0 ∷ 0 ∷ 0 ∷ 10 ∷ 0 ∷ 4 ∷ []
+
+-- the same tree in version 2, with kind 1 for yard 1, kind 2 for yard 3 and both for yard 4
+unfoldable pub treeKinds : List ℕ
+treeKinds =
+    0 ∷ 0 ∷ 0 ∷ 39 ∷ 2 ∷ 0 ∷ 5 ∷ 0 ∷ 1 ∷ 0 ∷ 3 ∷ 1
+    ∷ 0 ∷ 0 ∷ 0 ∷ 5 ∷ 0 ∷ 0 ∷ 3 ∷ 3 ∷ 0 ∷ 0
+    ∷ 0 ∷ 0 ∷ 0 ∷ 2 ∷ 0 ∷ 1 ∷ 1
+    ∷ 0 ∷ 0 ∷ 0 ∷ 9 ∷ 0 ∷ 3 ∷ 2
+    ∷ 0 ∷ 0 ∷ 0 ∷ 10 ∷ 0 ∷ 4 ∷ 3 ∷ []
 
 -- ---- "One junction, no road, yard 0"
 
@@ -66,13 +75,17 @@ asking code k limit crews = 0 ∷ 0 ∷ 0 ∷ (8 + 2 * length crews) ∷ 1 ∷ c
     crewBytes crews
 
 unfoldable pub onN : List ℕ → Call
-onN query = record { road = roadN; tree = treeN; query = query; drive = none }
+onN query = record { road = roadN; tree = treeN; query = query; want = wantAny none }
+
+-- net N's tree with kinds, for yards of some wanted kinds
+unfoldable pub onKinds : (wanted : ℕ) → List ℕ → Call
+onKinds wanted query = record { road = roadN; tree = treeKinds; query = query; want = wantNearest wanted }
 
 unfoldable pub onOne : List ℕ → Call
-onOne query = record { road = roadOne; tree = treeOne; query = query; drive = none }
+onOne query = record { road = roadOne; tree = treeOne; query = query; want = wantAny none }
 
 unfoldable pub onThree : List ℕ → Call
-onThree query = record { road = roadThree; tree = treeThree; query = query; drive = none }
+onThree query = record { road = roadThree; tree = treeThree; query = query; want = wantAny none }
 
 -- ---- what is seen of a call
 

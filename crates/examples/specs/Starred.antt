@@ -1,5 +1,6 @@
 -- The paper's starred examples, as the rows of one result. Assumes nothing: these are statements.
 use mathlib.Core.Path.{_≡_}
+use mathlib.Core.Bool.{true}
 use mathlib.Core.List.{List, [], _∷_}
 use Prim.Native.Nat.{ℕ, _≤_}
 use Rattle.tree_layout.specs.Values.{Element}
@@ -16,17 +17,20 @@ valued crews = record {
   rule = nearest 1;
   crews = crews;
   tree = record {
+    version = 1;
     junctions = 0;
     yards = 0;
     landmarks = 0;
     regions = [];
   };
   d = λ l q. q;
+  admits = λ r. true;
+  wants = λ y. true;
 }
 
 -- a list's element at a distance
 unfoldable pub exampleList : ℕ → Element
-exampleList distance = record { distance = distance; yard = 0 }
+exampleList distance = record { distance = distance; yard = 0; kinds = 255 }
 
 -- "For N, sum, k 2, limit 4, crews 0 and 2"; "Below, values not named are the listing's, with limit 6."
 pub record Starred : Type 0 where

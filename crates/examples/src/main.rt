@@ -1,13 +1,14 @@
 // The paper's examples that are not starred, executed: a line for each, with what a search by its books answers. The
 // starred ones are proved, as the rows of one result (specs/Starred.antt).
 use search_tree::Goal;
+use search_tree::Want;
 ghost use mathlib.Core.Path.{_≡_};
 ghost use mathlib.Core.List.{_∷_, []};
 ghost use Prim.Native.Nat.{_+_, _*_, _≤_, _<_};
 ghost use lib.ListN.{length};
 ghost use Rattle.text.specs.Text.{Appended};
 ghost use mathlib.Core.Option.{none};
-ghost use Rattle.search_call.specs.Call.{searchRefusal};
+ghost use Rattle.search_call.specs.Call.{wantAny, searchRefusal};
 ghost use Rattle.examples.specs.Books.{roadN, treeN, asking};
 ghost use Rattle.examples.specs.Output.{exampleLine};
 
@@ -34,11 +35,16 @@ fn query_n() -> [u8; 16]
 
 // The number by which a search by an example's books is refused, or 0.
 fn refusal(road: &[u8], tree: &[u8], query: &[u8]) -> u32
-    ensures { λ r. ⌜ r ≡ searchRefusal (now (road .entry)) (now (tree .entry)) (now (query .entry)) none 16384 128 ⌝ }
+    ensures { λ r. ⌜ r ≡ searchRefusal (now (road .entry)) (now (tree .entry)) (now (query .entry)) (wantAny none) 16384 128 ⌝ }
 {
     let mut work = [0u32; work_area::WORDS];
     let mut results = [0u32; 128];
-    let found = search_tree::search(road, tree, query, Goal::Nearest, &mut work, &mut results);
+    let goal = Goal::Nearest;
+    let want = Want {
+        kinds: kinds::ANY,
+        goal,
+    };
+    let found = search_tree::search(road, tree, query, want, &mut work, &mut results);
     found.refusal
 }
 

@@ -9,9 +9,9 @@
 use mathlib.Core.Path.{_≡_}
 use mathlib.Core.Logic.{_≢_, _↔_}
 use mathlib.Core.List.{List, [], _∷_, _++_}
-use mathlib.Core.Option.{Option}
 use Prim.Native.Nat.{ℕ, _*_, _≤_, _<_}
 use lib.ListN.{length, drop}
+use Rattle.book.specs.Open.{version}
 use Rattle.book.specs.Tests.{Test, test, FirstFailing}
 use Rattle.work_area.specs.Work.{workWords, zeroed, workAfter}
 use Rattle.road_layout.specs.Road.{junctions}
@@ -27,18 +27,18 @@ use Rattle.tree_layout.specs.Facts.{TreeLayout}
 use Rattle.tree.specs.Facts.{TreeShape}
 use Rattle.tree.specs.Theorems.{TreeFacts}
 use Rattle.tree.specs.Tests.{treeTests}
-use Rattle.tree_encode.specs.Encode.{encode}
+use Rattle.tree_encode.specs.Encode.{encode, treeRoom}
 use Rattle.check_tree.specs.Check.{checkAnswer}
-use Rattle.check_tree.specs.Facts.{HoldsEach, TrueTotals}
-use Rattle.build_tree.specs.Build.{treeBytes, buildAnswer, builtTree, builtLength, treeAfter}
+use Rattle.check_tree.specs.Facts.{HoldsEach, TrueTotals, TrueBytes}
+use Rattle.build_tree.specs.Build.{buildAnswer, builtTree, builtLength, treeAfter}
 use Rattle.build_tree.specs.Building.{BuiltFrom}
 use Rattle.build_tree.specs.Facts.{InRange, BuildAreas, writtenBook}
 use Rattle.query.specs.Query.{QueryLayout}
 use Rattle.query.specs.Tests.{queryTests}
 use Rattle.search_rules.specs.Ceiling.{AboveKept}
 use Rattle.search_measure.specs.Facts.{MeasuresTrue}
-use Rattle.search_call.specs.Call.{mostYards, Call, Found, foundOn, callOn, Areas as Lent, refused as refusedWith}
-use Rattle.search_call.specs.Demand.{Promised, OfBytes, AnyTree, WorkUnread, SearchesAgree}
+use Rattle.search_call.specs.Call.{Want, mostYards, Call, Found, foundOn, callOn, Areas as Lent, refused as refusedWith}
+use Rattle.search_call.specs.Demand.{Promised, OfBytes, AnyTree, WorkUnread, SearchesAgree, VersionsAgree}
 
 -- ---- sound books
 
@@ -66,6 +66,10 @@ YardsHeld yard tree = HoldsEach (decode tree .regions) (yardsOf yard)
 abbrev pub NumbersTrue : (road tree : List ℕ) → Type 0
 NumbersTrue road tree = TrueTotals (net road) (decode tree .regions)
 
+-- "every kind byte is the yard book's, and every region's byte has exactly the bits of its yards"
+abbrev pub KindsTrue : (yard tree : List ℕ) → Type 0
+KindsTrue yard tree = TrueBytes yard (decode tree .regions)
+
 -- ---- demand 1, of check
 --
 -- Nothing handed in can make a call read or write outside what is lent, wrap, or fail to end. That is no statement
@@ -87,8 +91,10 @@ checkTests road yard tree words =
     -- 8: "Junction counts or yards disagree between books"
     ++ test 8 (junctionCount tree ≡ junctions road)
     ∷ test 8 (YardsHeld yard tree)
-    -- 9: "In a check only: a stored distance, least or greatest isn't the true one."
+    -- 9: "In a check only: a stored distance, least or greatest isn't the true one."; "a false kind byte in a tree fails
+    -- the check by 9"
     ∷ test 9 (NumbersTrue road tree)
+    ∷ test 9 (KindsTrue yard tree)
     -- 12: "A lent area is too short: work below 16,384 words"
     ∷ test 12 (workWords ≤ words)
     ∷ []
@@ -108,6 +114,7 @@ pub record AcceptedCheck (road yard tree : List ℕ) (words : ℕ) : Type 0 wher
   pub tree-sound : SoundTreeBook road tree
   pub yards : YardsHeld yard tree
   pub numbers : NumbersTrue road tree
+  pub kinds : KindsTrue yard tree
   pub full : workWords ≤ words
 
 -- a check's answer, and its work area before and after
@@ -130,10 +137,11 @@ CheckSafe = (road yard tree work : List ℕ)
 -- "Beside a sound road book and yard book, with full areas, a tree of sound layout and shape and of the road book's
 -- junction count passes the check if and only if its leaves hold each yard of the yard book once and no other, and each
 -- stored distance is the least total of any walk through the roads, as the COLT paper defines it, with each least and
--- greatest true of its region's yards."
+-- greatest true of its region's yards.", and also every kind byte is the yard book's, and every region's byte has exactly
+-- the bits of its yards
 abbrev pub CheckTrue : Type 0
 CheckTrue = (road yard tree : List ℕ) (words : ℕ) → SoundBooks road yard → workWords ≤ words → SoundTreeBook road tree
-    → (checkAnswer road yard tree words ≡ 0) ↔ (YardsHeld yard tree × NumbersTrue road tree)
+    → (checkAnswer road yard tree words ≡ 0) ↔ (YardsHeld yard tree × NumbersTrue road tree × KindsTrue yard tree)
 
 -- ---- demand 1, of build
 
@@ -149,9 +157,9 @@ buildTests road yard m limit words room =
     ∷ test 11 (m ≤ 4)
     ∷ test 11 (1 ≤ limit)
     ∷ test 11 (limit ≤ 256)
-    -- 12: "work below 16,384 words, .. a built tree's area below 21,981 bytes"
+    -- 12: "work below 16,384 words, .. a built tree's area below 21,981 bytes", or 23,516 in version 2
     ∷ test 12 (workWords ≤ words)
-    ∷ test 12 (treeBytes ≤ room)
+    ∷ test 12 (treeRoom (version yard) ≤ room)
     ∷ []
 
 -- the answer of a build is the number of the first test that fails
@@ -164,7 +172,7 @@ pub record FirstBuildRefusal (road yard : List ℕ) (m limit words room answer :
 pub record BuildAccepted (road yard : List ℕ) (m limit words room : ℕ) : Type 0 where
   pub books : SoundBooks road yard
   pub range : InRange m limit
-  pub areas : BuildAreas words room
+  pub areas : BuildAreas (version yard) words room
 
 -- a build's answer and length, and its work area and its tree's area before and after
 pub record BuildKept (road yard : List ℕ) (m limit : ℕ) (work tree : List ℕ) (answer size : ℕ) (workLater treeLater :
@@ -198,7 +206,7 @@ pub record BuildWrites (road yard : List ℕ) (m limit : ℕ) (work tree : List 
       → t ≡ decode (writtenBook road yard m limit (length work) tree)
   -- "Build returns the tree's length.", and no tree is longer than the area that is asked for
   pub size : builtLength road yard m limit (length work) (length tree) ≡ length (encode (builtTree road yard m limit))
-  pub short : length (encode (builtTree road yard m limit)) ≤ treeBytes
+  pub short : length (encode (builtTree road yard m limit)) ≤ treeRoom (version yard)
   -- "it passes": the bytes that were written, so many as are returned, beside the two books, with any full work area
   pub passes : (words : ℕ) → workWords ≤ words
       → checkAnswer road yard (writtenBook road yard m limit (length work) tree) words ≡ 0
@@ -207,20 +215,20 @@ pub record BuildWrites (road yard : List ℕ) (m limit : ℕ) (work tree : List 
 
 abbrev pub BuildTrue : Type 0
 BuildTrue = (road yard : List ℕ) (m limit : ℕ) (work tree : List ℕ) → SoundBooks road yard → InRange m limit
-    → BuildAreas (length work) (length tree)
+    → BuildAreas (version yard) (length work) (length tree)
     → BuildWrites road yard m limit work tree
 
 -- ---- demand 1, of search
 
 -- "work below 16,384 words, results below 2 × k words", or, of a drive search, below "two words for each yard in the
 -- tree": both areas are long enough
-pub record SearchAreas (tree query : List ℕ) (drive : Option ℕ) (words room : ℕ) : Type 0 where
+pub record SearchAreas (tree query : List ℕ) (want : Want) (words room : ℕ) : Type 0 where
   pub work : workWords ≤ words
-  pub results : 2 * mostYards tree query drive ≤ room
+  pub results : 2 * mostYards tree query want ≤ room
 
 -- "Turned back, in this order": a search's tests. A drive search has its seconds, and a search for k yards none.
-abbrev pub searchTests : (road tree query : List ℕ) (drive : Option ℕ) (words room : ℕ) → List Test
-searchTests road tree query drive words room =
+abbrev pub searchTests : (road tree query : List ℕ) (want : Want) (words room : ℕ) → List Test
+searchTests road tree query want words room =
     -- "Books are tested in the order road, .., tree, query": the road book's 1 to 6
     roadTests road
     -- the tree book's 1 to 5, and 7
@@ -229,31 +237,34 @@ searchTests road tree query drive words room =
     ++ test 8 (junctionCount tree ≡ junctions road)
     -- the query book's 1 to 4, 10 and 11
     ∷ queryTests query (junctions road)
+    -- 13: "the wanted byte is 0, tested directly after 11"
+    ++ test 13 (1 ≤ want .kinds)
     -- 12: "work below 16,384 words, results below 2 × k words", or below "two words for each yard in the tree"
-    ++ test 12 (workWords ≤ words)
-    ∷ test 12 (2 * mostYards tree query drive ≤ room)
+    ∷ test 12 (workWords ≤ words)
+    ∷ test 12 (2 * mostYards tree query want ≤ room)
     ∷ []
 
 -- the refusal of a search is the number of the first test that fails
-pub record FirstSearchRefusal (road tree query : List ℕ) (drive : Option ℕ) (words room answer : ℕ) : Type 0 where
-  pub first : (n : ℕ) → (answer ≡ n) ↔ FirstFailing (searchTests road tree query drive words room) n
+pub record FirstSearchRefusal (road tree query : List ℕ) (want : Want) (words room answer : ℕ) : Type 0 where
+  pub first : (n : ℕ) → (answer ≡ n) ↔ FirstFailing (searchTests road tree query want words room) n
   -- 6 exactly if the road book's layout is sound and some junction has no walk from junction 0
   pub six : (answer ≡ 6) ↔ (RoadLayout road × CutOff road)
   -- 7 exactly if the road book is sound and so is the tree's layout, but "Tree shape" does not hold
   pub seven : (answer ≡ 7) ↔ (Passing road × TreeLayout tree × (TreeShape (decode tree) → ⊥))
 
 -- what holds whenever a search's refusal is 0
-pub record SearchAccepted (road tree query : List ℕ) (drive : Option ℕ) (words room : ℕ) : Type 0 where
+pub record SearchAccepted (road tree query : List ℕ) (want : Want) (words room : ℕ) : Type 0 where
   pub roads : Passing road
   pub tree-sound : SoundTreeBook road tree
   pub asked : QueryLayout query (junctions road)
-  pub areas : SearchAreas tree query drive words room
+  pub kinds : 1 ≤ want .kinds
+  pub areas : SearchAreas tree query want words room
 
 -- a search's answer, and both areas before and after
 pub record SearchKept (c : Call) (a : Lent) (found : Found) (after : Lent) : Type 0 where
-  pub refused : FirstSearchRefusal (c .road) (c .tree) (c .query) (c .drive) (length (a .work))
+  pub refused : FirstSearchRefusal (c .road) (c .tree) (c .query) (c .want) (length (a .work))
       (length (a .results)) (found .refusal)
-  pub accepted : (found .refusal ≡ 0) ↔ SearchAccepted (c .road) (c .tree) (c .query) (c .drive) (length (a .work))
+  pub accepted : (found .refusal ≡ 0) ↔ SearchAccepted (c .road) (c .tree) (c .query) (c .want) (length (a .work))
       (length (a .results))
   -- "A refusal returns its number, with every other returned field 0, and changes no lent byte or word."
   pub kept : found .refusal ≢ 0 → (found ≡ refusedWith (found .refusal)) × (after ≡ a)
@@ -268,7 +279,7 @@ SearchSafe = (c : Call) (a : Lent) → SearchKept c a (foundOn c a) (callOn c a)
 -- Any list of searches of both kinds, mixed, on one work area and one result area, which hold anything at first: each
 -- is given both areas as the one before left them, and brings its own books. `Promised`
 -- (crates/search_call/specs/Demand.antt) has the demand's four sentences: a settled search on a tree that passes lists
--- exactly the first k yards, or exactly those within its drive; none of these measured a yard whose bound exceeds the
+-- exactly the first k wanted yards, or exactly those within its drive; none of these measured a yard whose bound exceeds the
 -- last listed distance of a full list, or the seconds; enough steps always settle; at the end the result area is what
 -- it held at first with all the settled lists written over its start in turn. A tree book is asked to be of bytes,
 -- which a lent book is.
@@ -276,9 +287,10 @@ abbrev pub SearchesTrue : Type 0
 SearchesTrue = (calls : List Call) → OfBytes calls → (first : Lent) → Promised calls first
 
 -- Beside it: what holds of every search, on a tree that "check would refuse by 9" too; that the work area's contents
--- never matter; and that the two kinds of search agree.
+-- never matter; that the two kinds of search agree; and that a version 1 tree is searched as the version 2 tree with 255
+-- throughout.
 abbrev pub SearchesDecided : Type 0
-SearchesDecided = AnyTree × WorkUnread × SearchesAgree
+SearchesDecided = AnyTree × WorkUnread × SearchesAgree × VersionsAgree
 
 -- ---- measuring
 --

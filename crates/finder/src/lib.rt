@@ -3,14 +3,14 @@
 use build_tree::Built;
 use search_tree::Found;
 use search_tree::Goal;
+use search_tree::Want;
 ghost use mathlib.Core.Path.{_≡_};
-ghost use mathlib.Core.Option.{none, some};
 ghost use lib.ListN.{length};
 ghost use Rattle.book.specs.Bytes.{Bytes};
 ghost use Rattle.work_area.specs.Work.{workAfter};
 ghost use Rattle.check_tree.specs.Check.{checkAnswer};
 ghost use Rattle.build_tree.specs.Build.{buildAnswer, builtLength, treeAfter};
-ghost use Rattle.search_call.specs.Call.{searchRefusal, searchFound, resultsAfter};
+ghost use Rattle.search_call.specs.Call.{wantNearest, wantWithin, searchRefusal, searchFound, resultsAfter};
 ghost use Rattle.search_tree.specs.Found.{foundOf};
 
 // Checks a tree book beside a road book and a yard book: 0, or the number of the first test that fails. An accepted
@@ -60,20 +60,26 @@ pub extern "C" fn finder_search(
     road: &[u8],
     tree: &[u8],
     query: &[u8],
+    wanted: u8,
     work: &mut [u32],
     results: &mut [u32],
 ) -> Found
-    ensures found { λ r. ⌜ foundOf r ≡ searchFound (now (road .entry)) (now (tree .entry)) (now (query .entry)) none
-        (length (now (work .entry))) (length (now (results .entry))) ⌝ }
+    ensures found { λ r. ⌜ foundOf r ≡ searchFound (now (road .entry)) (now (tree .entry)) (now (query .entry))
+        (wantNearest wanted) (length (now (work .entry))) (length (now (results .entry))) ⌝ }
     ensures work { λ _. ⌜ now (work .exit) ≡ workAfter (searchRefusal (now (road .entry)) (now (tree .entry)) (now
-        (query .entry)) none
+        (query .entry)) (wantNearest wanted)
         (length (now (work .entry))) (length (now (results .entry)))) (now (work .entry)) ⌝ }
     ensures results { λ _. ⌜ now (results .exit)
-        ≡ resultsAfter (now (road .entry)) (now (tree .entry)) (now (query .entry)) none
-        (length (now (work .entry))) (now (results .entry)) ⌝ }
+        ≡ resultsAfter (now (road .entry)) (now (tree .entry)) (now (query .entry))
+        (wantNearest wanted) (length (now (work .entry))) (now (results .entry)) ⌝ }
     ensures bytes { λ _. ⌜ Bytes (now (road .entry)) × Bytes (now (tree .entry)) × Bytes (now (query .entry)) ⌝ }
 {
-    search_tree::search(road, tree, query, Goal::Nearest, work, results)
+    let goal = Goal::Nearest;
+    let nearest = Want {
+        kinds: wanted,
+        goal,
+    };
+    search_tree::search(road, tree, query, nearest, work, results)
 }
 
 // Searches a tree book beside a road book for every yard whose aggregate is at most so many seconds, by the query's
@@ -84,19 +90,25 @@ pub extern "C" fn finder_within(
     road: &[u8],
     tree: &[u8],
     query: &[u8],
+    wanted: u8,
     seconds: u32,
     work: &mut [u32],
     results: &mut [u32],
 ) -> Found
     ensures found { λ r. ⌜ foundOf r ≡ searchFound (now (road .entry)) (now (tree .entry)) (now (query .entry))
-        (some seconds) (length (now (work .entry))) (length (now (results .entry))) ⌝ }
+        (wantWithin wanted seconds) (length (now (work .entry))) (length (now (results .entry))) ⌝ }
     ensures work { λ _. ⌜ now (work .exit) ≡ workAfter (searchRefusal (now (road .entry)) (now (tree .entry)) (now
-        (query .entry)) (some seconds)
+        (query .entry)) (wantWithin wanted seconds)
         (length (now (work .entry))) (length (now (results .entry)))) (now (work .entry)) ⌝ }
     ensures results { λ _. ⌜ now (results .exit)
         ≡ resultsAfter (now (road .entry)) (now (tree .entry)) (now (query .entry))
-        (some seconds) (length (now (work .entry))) (now (results .entry)) ⌝ }
+        (wantWithin wanted seconds) (length (now (work .entry))) (now (results .entry)) ⌝ }
     ensures bytes { λ _. ⌜ Bytes (now (road .entry)) × Bytes (now (tree .entry)) × Bytes (now (query .entry)) ⌝ }
 {
-    search_tree::search(road, tree, query, Goal::InDrive(seconds), work, results)
+    let goal = Goal::InDrive(seconds);
+    let within = Want {
+        kinds: wanted,
+        goal,
+    };
+    search_tree::search(road, tree, query, within, work, results)
 }

@@ -7,7 +7,7 @@ use native.Mathlib.Omega.{arith}
 use lib.ListN.{length, take, drop, length-drop}
 use lib.Seq.{length-take-le, take-all}
 use Rattle.work_area.specs.Work.{workWords}
-use Rattle.search_call.specs.Call.{searchFound, resultsAfter}
+use Rattle.search_call.specs.Call.{wantAny, searchFound, resultsAfter}
 use Rattle.listing.specs.Input.{bookEnd, firstBook, afterBook, treeIn, queryIn, foundIn, resultsIn}
 
 -- a book ends inside the bytes
@@ -42,11 +42,11 @@ module _ (s : List ℕ) (end stop : ℕ) (e : end ≡ bookEnd s) (f : stop ≡ b
 
   -- the search by the parts is the search by the books
   pub found-is : (drive : Option ℕ) (results : ℕ)
-      → searchFound (take end s) (take stop (from s end)) (from (from s end) stop) drive workWords results ≡ foundIn s drive results
+      → searchFound (take end s) (take stop (from s end)) (from (from s end) stop) (wantAny drive) workWords results ≡ foundIn s drive results
   unfolding foundIn
   found-is drive results = cc (first-is s end e, tree-is, query-is)
 
   pub results-are : (drive : Option ℕ) (results : List ℕ)
-      → resultsAfter (take end s) (take stop (from s end)) (from (from s end) stop) drive workWords results ≡ resultsIn s drive results
+      → resultsAfter (take end s) (take stop (from s end)) (from (from s end) stop) (wantAny drive) workWords results ≡ resultsIn s drive results
   unfolding resultsIn
   results-are drive results = cc (first-is s end e, tree-is, query-is)

@@ -6,7 +6,7 @@ use Prim.Native.Nat.{ℕ, _+_, min}
 use lib.ListN.{length, take, drop}
 use Rattle.book.specs.Bytes.{u32At}
 use Rattle.work_area.specs.Work.{workWords}
-use Rattle.search_call.specs.Call.{Found, searchFound, resultsAfter}
+use Rattle.search_call.specs.Call.{wantAny, Found, searchFound, resultsAfter}
 
 -- "The first two each take four bytes and as many more as those count, or what is left if that is less": where the
 -- first book of some bytes ends (of fewer than four bytes it takes all)
@@ -32,8 +32,8 @@ queryIn s = afterBook (afterBook s)
 
 -- what a search by them returns, for k yards or within so many seconds, with a full work area and so many result words
 unfoldable pub foundIn : List ℕ → (drive : Option ℕ) → ℕ → Found
-foundIn s drive results = searchFound (roadIn s) (treeIn s) (queryIn s) drive workWords results
+foundIn s drive results = searchFound (roadIn s) (treeIn s) (queryIn s) (wantAny drive) workWords results
 
 -- the result area after it
 unfoldable pub resultsIn : List ℕ → (drive : Option ℕ) → List ℕ → List ℕ
-resultsIn s drive results = resultsAfter (roadIn s) (treeIn s) (queryIn s) drive workWords results
+resultsIn s drive results = resultsAfter (roadIn s) (treeIn s) (queryIn s) (wantAny drive) workWords results

@@ -8,7 +8,8 @@ use lib.Seq.{length-take-le}
 use lib.Dec.{eqb}
 use Rattle.book.proofs.Choosing.{choose-yes, choose-no}
 use Rattle.book.proofs.Lists.{eq→eqb, ne→neqb}
-use Rattle.text.specs.Text.{inTurn, refusedText}
+use Rattle.book.specs.Open.{version}
+use Rattle.text.specs.Text.{decimal, space, lineEnd, inTurn, refusedText}
 use Rattle.tree_layout.specs.Decode.{regionCount, decode}
 use Rattle.tree_layout.specs.Reading.{headerOf}
 use Rattle.tree_layout.specs.declared.Header.{Header}
@@ -22,7 +23,7 @@ use Rattle.tree.specs.Yards.{endOf, levelBy, levelOf}
 use Rattle.tree.specs.Answer.{treeOf, treeNumber, placesAfter, endsAfter}
 use Rattle.tree.proofs.Answering.{shaped-found, shaped-answer, accepted-laid, accepted-slots, accepted-room, accepted-ends, number-is}
 use Rattle.outline.specs.Known.{Known}
-use Rattle.outline.specs.Output.{headerText, lineOf, regionText, outlineText}
+use Rattle.outline.specs.Output.{columns, columnsKinds, columnsOf, headerText, lineEndOf, lineOf, regionText, outlineText}
 use Rattle.outline.proofs.Levels.{level-same}
 
 module _ (b : List ℕ) (o : Tree) (h : Header) (read : o ≡ treeOf b) (shaped : o ≡ Shaped h) where
@@ -78,8 +79,30 @@ refused-text b o w why read told number =
 
 -- a region's line, by its level among the ends and its fields
 pub region-is : (b places ends : List ℕ) (i level : ℕ) (f : Fields) → Known b places ends → i < length places → f ≡ fieldsOf b i
-    → level ≡ levelBy (λ j. getD ends j 0) i → lineOf level f ≡ regionText b i
+    → level ≡ levelBy (λ j. getD ends j 0) i → (v : ℕ) → v ≡ version b → lineOf v level f ≡ regionText b i
 unfolding regionText levelOf
-region-is b places ends i level f k h e l =
+region-is b places ends i level f k h e l v w =
     let same = level-same (λ j. getD ends j 0) (endOf (decode b .regions)) i (λ x p. k .ended x (omega (arith, k .count))) in
-    cc (l ∙ same)
+    cc (l ∙ same, w)
+
+-- ---- by the version
+
+pub columns-plain : (v : ℕ) → v ≡ 1 → columns ≡ columnsOf v
+unfolding columnsOf
+columns-plain v e = sym (choose-yes (eqb v 1) columns columnsKinds (eq→eqb v 1 e))
+
+pub columns-kinds : (v : ℕ) → (v ≡ 1 → ⊥) → columnsKinds ≡ columnsOf v
+unfolding columnsOf
+columns-kinds v n = sym (choose-no (eqb v 1) columns columnsKinds (ne→neqb v 1 n))
+
+pub end-plain : (v yards kinds : ℕ) → v ≡ 1 → decimal yards ++ lineEnd ≡ lineEndOf v yards kinds
+unfolding lineEndOf
+end-plain v yards kinds e = sym (choose-yes (eqb v 1) _ _ (eq→eqb v 1 e))
+
+pub end-kinds : (v yards kinds : ℕ) → (v ≡ 1 → ⊥) → (decimal yards ++ space) ++ (decimal kinds ++ lineEnd) ≡ lineEndOf v yards kinds
+unfolding lineEndOf
+end-kinds v yards kinds n = sym (choose-no (eqb v 1) _ _ (ne→neqb v 1 n))
+
+-- a book that is known has a version byte
+pub five : (b places ends : List ℕ) → Known b places ends → 5 ≤ length b
+five b places ends k = omega (arith, k .laid .layout .opens .headed)

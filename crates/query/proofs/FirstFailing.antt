@@ -13,7 +13,7 @@ use Rattle.query.proofs.CrewList.{each-inside, inside-all}
 pub query-tests : (b : List ℕ) (n : ℕ) → FirstFailing (queryTests b n) (queryRefusal b n)
 unfolding queryRefusal queryBodyRefusal valueRefusal crewsOf
 query-tests b n =
-    first-join (openTests b 7) _ (openRefusal b 7) _ tt (open-tests b 7) (λ _.
+    first-join (openTests b 1 7) _ (openRefusal b 1 7) _ tt (open-tests b 1 7) (λ _.
     first-eq (length b) (12 + 2 * crewCount b) 4 _ _ (λ _.
     first-le 1 (crewCount b) 10 _ _ (λ _.
     first-le (crewCount b) 16 10 _ _ (λ _.

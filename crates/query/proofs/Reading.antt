@@ -44,12 +44,12 @@ module _ (a w : ℕ) where
 
 -- ---- the tests of a book that opens
 
-module _ (b : List ℕ) (n : ℕ) (o : openRefusal b 7 ≡ 0) (crews : ℕ) (ec : crews ≡ crewCount b) where
+module _ (b : List ℕ) (n : ℕ) (o : openRefusal b 1 7 ≡ 0) (crews : ℕ) (ec : crews ≡ crewCount b) where
   body : queryRefusal b n
       ≡ refuse (eqb (length b) (12 + 2 * crews)) 4
       (refuse (leb 1 crews) 10 (refuse (leb crews 16) 10 (refuse (inside n (crewsOf b)) 10 (valueRefusal (aggregateOf b) (kOf b)))))
   unfolding queryRefusal queryBodyRefusal
-  body = first-later (openRefusal b 7) _ o ∙ rw ec refl
+  body = first-later (openRefusal b 1 7) _ o ∙ rw ec refl
 
   pub misfit : (length b ≡ 12 + 2 * crews → ⊥) → queryRefusal b n ≡ 4
   misfit h = body ∙ fails-if _ 4 _ (ne-eqb (length b) (12 + 2 * crews) h)
@@ -84,12 +84,12 @@ pub answer-refused : (b : List ℕ) (n why : ℕ) → why ≡ queryRefusal b n �
 answer-refused b n why e z = rw (← e) (refused-is why (queryOf b) z)
 
 -- of a book that does not open
-pub not-opened : (b : List ℕ) (n : ℕ) (o : Opened) (why r : ℕ) → o ≡ opened (openRefusal b 7) → o ≡ unread why → r ≡ openedNumber o
+pub not-opened : (b : List ℕ) (n : ℕ) (o : Opened) (why r : ℕ) → o ≡ opened (openRefusal b 1 7) → o ≡ unread why → r ≡ openedNumber o
     → Refused r ≡ queryBook (queryRefusal b n) (queryOf b)
 unfolding queryRefusal
 not-opened b n o why r e f g =
-    let p = number-why (openRefusal b 7) o why r e f g in
-    let s = first-earlier (openRefusal b 7) (queryBodyRefusal b n) (omega (arith, p .0, p .1)) ∙ p .0 in
+    let p = number-why (openRefusal b 1 7) o why r e f g in
+    let s = first-earlier (openRefusal b 1 7) (queryBodyRefusal b n) (omega (arith, p .0, p .1)) ∙ p .0 in
     answer-refused b n r (sym s) (omega (arith, p .1))
 
 pub answer-asked : (b : List ℕ) (n why : ℕ) (q : Query) → why ≡ queryRefusal b n → why ≡ 0 → q ≡ queryOf b
@@ -166,7 +166,7 @@ module _ (b : List ℕ) (n : ℕ) where
   pub passing : queryRefusal b n ≡ 0 → QueryLayout b n
   unfolding queryRefusal queryBodyRefusal valueRefusal crewsOf
   passing e =
-      let o = first-none (openRefusal b 7) _ e in
+      let o = first-none (openRefusal b 1 7) _ e in
       let a = passed _ _ _ (o .1) (omega arith) in
       let c = passed _ _ _ (a .1) (omega arith) in
       let d = passed _ _ _ (c .1) (omega arith) in
@@ -175,7 +175,7 @@ module _ (b : List ℕ) (n : ℕ) where
       let h = passed _ _ _ (g .1) (omega arith) in
       let i = passed _ _ _ (h .1) (omega arith) in
       record {
-        opening = opens b 7 (o .0);
+        opening = opens b 1 7 (o .0);
         sized = eqb→eq (length b) (12 + 2 * crewCount b) (a .0);
         some-crew = leb→le 1 (crewCount b) (c .0);
         few-crews = leb→le (crewCount b) 16 (d .0);
@@ -188,7 +188,7 @@ module _ (b : List ℕ) (n : ℕ) where
   pub passes-all : QueryLayout b n → queryRefusal b n ≡ 0
   unfolding queryRefusal queryBodyRefusal crewsOf
   passes-all l =
-      first-later _ _ (open-zero b 7 (l .opening))
+      first-later _ _ (open-zero b 1 7 (l .opening))
       ∙ passes _ 4 _ (eq→eqb (length b) (12 + 2 * crewCount b) (l .sized)) ∙ passes _ 10 _ (le→leb 1 (crewCount b) (l .some-crew))
       ∙ passes _ 10 _ (le→leb (crewCount b) 16 (l .few-crews))
       ∙ passes _ 10 _ (inside-all b n (crewCount b) 0 (λ i p q. l .placed i (omega arith)))

@@ -65,7 +65,7 @@ queryBodyRefusal b junctions =
 
 -- the number of the first test that turns the book back, or 0: "Query values fall to 10 and 11, never to 3 or 5."
 unfoldable pub queryRefusal : List ℕ → ℕ → ℕ
-queryRefusal b junctions = firstOf (openRefusal b 7) (queryBodyRefusal b junctions)
+queryRefusal b junctions = firstOf (openRefusal b 1 7) (queryBodyRefusal b junctions)
 
 -- what the book asks
 unfoldable pub queryOf : List ℕ → Query
@@ -92,7 +92,7 @@ queryNumber o = queryCase o .number
 -- a query book that no test turns back, sentence by sentence
 pub record QueryLayout (b : List ℕ) (junctions : ℕ) : Type 0 where
   -- "a 4-byte count of the bytes after it, a version byte (1), then fields", seven bytes of header among them
-  pub opening : Opens b 7
+  pub opening : Opens b 1 7
   -- "then crew junctions u16": two bytes for each crew, and none after them
   pub sized : length b ≡ 12 + 2 * crewCount b
   -- "crews u8 (1 to 16)"

@@ -11,7 +11,7 @@ use Rattle.query.specs.Query.{aggregateOf, kOf, crewCount, crewAt}
 abbrev pub queryTests : List ℕ → ℕ → List Test
 queryTests b n =
     -- 1, 2, and 3: "The header is incomplete": seven bytes after the version
-    openTests b 7
+    openTests b 1 7
     -- 4: "A record is incomplete, or bytes follow the last one.": two bytes for each crew, after the twelve before them
     ++ test 4 (length b ≡ 12 + 2 * crewCount b)
     -- 10: "Crews are none, more than 16, or at no junction of the road book."

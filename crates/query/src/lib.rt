@@ -56,9 +56,10 @@ pub fn crew_at(b: &[u8], i: usize) -> Junction
 }
 
 // Copies the crews' junctions of a book that is read.
-pub fn crews(b: &[u8], out: &mut [u16])
+pub fn crews(b: &[u8], out: &mut [u16]) -> usize
     requires { ⌜ (length (now b) ≡ 12 + 2 * crewCount (now b)) × (crewCount (now b) ≤ length (now out)) ⌝ }
-    ensures { λ _. ⌜ take (crewCount (now (b .entry))) (now (out .exit)) ≡ crewsOf (now (b .entry)) ⌝ }
+    ensures count { λ r. ⌜ r ≡ crewCount (now (b .entry)) ⌝ }
+    ensures crews { λ _. ⌜ take (crewCount (now (b .entry))) (now (out .exit)) ≡ crewsOf (now (b .entry)) ⌝ }
 {
     let q = header(b);
     let n = q.crews as usize;
@@ -68,6 +69,7 @@ pub fn crews(b: &[u8], out: &mut [u16])
         out[i] = c.number;
         i += 1;
     }
+    n
 }
 
 // Whether each of the `count` crews of a book stands at a junction below n.
@@ -104,7 +106,7 @@ fn values(aggregate: u8, k: u8) -> u8
 
 // The number of the first test that turns back a book that opens and asks q, beside a road book with n junctions, or 0.
 fn refusal(b: &[u8], q: Query, n: u16) -> u8
-    requires { ⌜ (openRefusal (now b) 7 ≡ 0) × (q ≡ queryOf (now b)) ⌝ }
+    requires { ⌜ (openRefusal (now b) 1 7 ≡ 0) × (q ≡ queryOf (now b)) ⌝ }
     ensures { λ r. ⌜ r ≡ queryRefusal (now (b .entry)) n ⌝ }
 {
     let count = q.crews as usize;
@@ -127,7 +129,7 @@ fn refusal(b: &[u8], q: Query, n: u16) -> u8
 pub fn read(b: &[u8], n: u16) -> QueryBook
     ensures { λ r. ⌜ r ≡ queryBook (queryRefusal (now (b .entry)) n) (queryOf (now (b .entry))) ⌝ }
 {
-    let o = book::open(b, 7);
+    let o = book::open(b, 1, 7);
     let Opened::Body = o else {
         return QueryBook::Refused(book::number(o));
     };

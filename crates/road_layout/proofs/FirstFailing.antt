@@ -13,7 +13,7 @@ use Rattle.road_layout.proofs.Layouts.{roads-values, values-roads}
 pub road-layout-tests : (b : List ℕ) → FirstFailing (roadLayoutTests b) (roadLayoutRefusal b)
 unfolding roadLayoutRefusal
 road-layout-tests b =
-    first-join (openTests b 4) _ (openRefusal b 4) _ tt (open-tests b 4) (λ _.
+    first-join (openTests b 1 4) _ (openRefusal b 1 4) _ tt (open-tests b 1 4) (λ _.
     first-le 1 (junctions b) 3 _ _ (λ _.
     first-le (junctions b) 1024 3 _ _ (λ _.
     first-le (roadCount b) 4096 3 _ _ (λ _.

@@ -116,7 +116,7 @@ module _ (b : List ℕ) where
   pub passing-layout : roadLayoutRefusal b ≡ 0 → RoadLayout b
   unfolding roadLayoutRefusal
   passing-layout e =
-      let o = first-none (openRefusal b 4) _ e in
+      let o = first-none (openRefusal b 1 4) _ e in
       let a = passed _ _ _ (o .1) (omega arith) in
       let c = passed _ _ _ (a .1) (omega arith) in
       let d = passed _ _ _ (c .1) (omega arith) in
@@ -124,7 +124,7 @@ module _ (b : List ℕ) where
       let g = passed _ _ _ (f .1) (omega arith) in
       let v = roads-values (g .0) in
       record {
-        opens = opens b 4 (o .0);
+        opens = opens b 1 4 (o .0);
         some-junction = leb→le _ _ (a .0);
         few-junctions = leb→le _ _ (c .0);
         few-roads = leb→le _ _ (d .0);
@@ -136,7 +136,7 @@ module _ (b : List ℕ) where
   pub layout-passes : RoadLayout b → roadLayoutRefusal b ≡ 0
   unfolding roadLayoutRefusal
   layout-passes r =
-      first-later _ _ (open-zero b 4 (r .opens))
+      first-later _ _ (open-zero b 1 4 (r .opens))
       ∙ passes _ _ _ (le→leb _ _ (r .some-junction)) ∙ passes _ _ _ (le→leb _ _ (r .few-junctions)) ∙ passes _ _ _ (le→leb _ _ (r .few-roads))
       ∙ passes _ _ _ (eq→eqb _ _ (r .whole)) ∙ passes _ _ _ (values-roads (record { fits = r .fits; rising = r .rising }))
 
@@ -163,6 +163,6 @@ roads-member b layout r m =
 pub layout-low : (b : List ℕ) → roadLayoutRefusal b ≤ 5
 unfolding roadLayoutRefusal
 layout-low b =
-    first-low (openRefusal b 4) _ 5 (omega (arith, open-most b 4))
+    first-low (openRefusal b 1 4) _ 5 (omega (arith, open-most b 1 4))
     (refuse-low _ 3 _ 5 (omega arith) (refuse-low _ 3 _ 5 (omega arith) (refuse-low _ 3 _ 5 (omega arith)
     (refuse-low _ 4 _ 5 (omega arith) (refuse-low _ 5 _ 5 (omega arith) (omega arith))))))

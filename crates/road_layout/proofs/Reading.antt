@@ -42,14 +42,14 @@ told-sound zero j r n m e = (refl, cc, cc)
 told-sound (suc x) j r n m e = let z : _≡_ {A = ℕ} 0 1 = cc in absurd (omega arith)
 
 -- a book that does not open
-pub unopened : (b : List ℕ) (o : Opened) (why r : ℕ) → o ≡ opened (openRefusal b 4) → o ≡ unread why → r ≡ openedNumber o
+pub unopened : (b : List ℕ) (o : Opened) (why r : ℕ) → o ≡ opened (openRefusal b 1 4) → o ≡ unread why → r ≡ openedNumber o
     → Refused r ≡ told (roadLayoutRefusal b) (junctions b) (roadCount b)
 unfolding roadLayoutRefusal
 unopened b o why r e f g =
-    let p = number-why (openRefusal b 4) o why r e f g in
-    rw (first-earlier (openRefusal b 4) _ (omega (arith, p .0, p .1)), p .0) (sym (told-refused r (junctions b) (roadCount b) (p .1)))
+    let p = number-why (openRefusal b 1 4) o why r e f g in
+    rw (first-earlier (openRefusal b 1 4) _ (omega (arith, p .0, p .1)), p .0) (sym (told-refused r (junctions b) (roadCount b) (p .1)))
 
-module _ (b : List ℕ) (o : openRefusal b 4 ≡ 0) (n count : ℕ) (en : n ≡ junctions b) (ec : count ≡ roadCount b) where
+module _ (b : List ℕ) (o : openRefusal b 1 4 ≡ 0) (n count : ℕ) (en : n ≡ junctions b) (ec : count ≡ roadCount b) where
   -- an answer, from the number that the tests give
   pub refused : (x : ℕ) → roadLayoutRefusal b ≡ x → 1 ≤ x → Refused x ≡ told (roadLayoutRefusal b) (junctions b) (roadCount b)
   refused x e h = rw e (sym (told-refused x (junctions b) (roadCount b) h))

@@ -21,7 +21,7 @@ EndsBefore r s = (r .low < s .low) ⊎ ((r .low ≡ s .low) × (r .high < s .hig
 
 -- "Road book: junctions u16 (1 to 1,024), roads u16 (0 to 4,096); per road .."
 pub record RoadLayout (b : List ℕ) : Type 0 where
-  pub opens : Opens b 4
+  pub opens : Opens b 1 4
   pub some-junction : 1 ≤ junctions b
   pub few-junctions : junctions b ≤ 1024
   pub few-roads : roadCount b ≤ 4096

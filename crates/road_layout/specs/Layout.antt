@@ -30,7 +30,7 @@ roadsOk b n (suc left) k l h = roadOk n l h (roadAt b k)
 -- the first of tests 1 to 5 that fails, or 0, each over the whole book before the next
 unfoldable pub roadLayoutRefusal : List ℕ → ℕ
 roadLayoutRefusal b =
-    firstOf (openRefusal b 4)
+    firstOf (openRefusal b 1 4)
     -- 3: "a junction, road .. count is outside its limits": junctions 1 to 1,024, roads 0 to 4,096
     (refuse (leb 1 (junctions b)) 3
     (refuse (leb (junctions b) 1024) 3

@@ -15,7 +15,7 @@ pub record RoadValues (b : List ℕ) : Type 0 where
 abbrev pub roadLayoutTests : List ℕ → List Test
 roadLayoutTests b =
     -- 1, 2, and 3: "The header is incomplete": four bytes after the version
-    openTests b 4
+    openTests b 1 4
     -- 3: "a junction, road .. count is outside its limits": junctions 1 to 1,024, roads 0 to 4,096
     ++ test 3 (1 ≤ junctions b)
     ∷ test 3 (junctions b ≤ 1024)

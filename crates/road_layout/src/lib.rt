@@ -119,7 +119,7 @@ pub fn read(b: &[u8]) -> RoadBook
     ensures { λ r. ⌜ r
         ≡ told (roadLayoutRefusal (now (b .entry))) (junctions (now (b .entry))) (roadCount (now (b .entry))) ⌝ }
 {
-    let o = book::open(b, 4);
+    let o = book::open(b, 1, 4);
     let Opened::Body = o else {
         return RoadBook::Refused(book::number(o));
     };

@@ -13,7 +13,7 @@ use Rattle.tree_layout.specs.Facts.{TreeLayout}
 use Rattle.tree_layout.proofs.Places.{place-first, decode-junctions}
 use Rattle.tree_layout.specs.Reading.{headerOf}
 use Rattle.tree_layout.specs.declared.Header.{Header}
-use Rattle.search_rules.specs.Rule.{Rule}
+use Rattle.search_rules.specs.Rule.{Asking}
 use Rattle.search_rules.specs.Instance.{Instance, marks}
 use Rattle.search_rules.specs.Books.{searchOf}
 use Rattle.search_rules.specs.Bounds.{tableAt}
@@ -79,18 +79,18 @@ module _ (tree : List ℕ) (layout : TreeLayout tree) where
 
 -- ---- a search's landmark table
 
-module _ (road tree : List ℕ) (layout : TreeLayout tree) (code : ℕ) (goal : Rule) (crews : List ℕ) where
+module _ (road tree : List ℕ) (layout : TreeLayout tree) (a : Asking) (crews : List ℕ) where
   abbrev i : Instance
-  i = searchOf road tree code goal crews
+  i = searchOf road tree a crews
 
   root-marks : marksAt tree 12 ≡ marks i 0
-  root-marks = layout-marks tree layout 0 (layout .regions .0) 12 (sym (place-first tree)) ∙ sym (marks-book road tree code goal crews 0)
+  root-marks = layout-marks tree layout 0 (layout .regions .0) 12 (sym (place-first tree)) ∙ sym (marks-book road tree a crews 0)
 
   distance-is : (k : Mark) (v : ℕ) → dist road (k .place) v ≡ tableAt i k v
-  distance-is k v = ap (λ (x : Instance). x .d (k .place) v) (sym (search-of road tree code goal crews)) ∙ sym (table-at i k v)
+  distance-is k v = ap (λ (x : Instance). x .d (k .place) v) (sym (search-of road tree a crews)) ∙ sym (table-at i k v)
 
   junctions-are : i .tree .junctions ≡ junctionCount tree
-  junctions-are = ap (λ (x : Instance). x .tree .junctions) (search-of road tree code goal crews) ∙ decode-junctions tree
+  junctions-are = ap (λ (x : Instance). x .tree .junctions) (search-of road tree a crews) ∙ decode-junctions tree
 
   -- "The sheet holds d from the root's landmarks r to every junction."
   pub table-filled : (table : List ℕ) → length table ≡ tableWords → Rowed road (rootPlaces tree) table → LandmarkTable i (landmarkCount tree) table

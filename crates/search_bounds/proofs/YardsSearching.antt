@@ -9,7 +9,7 @@ use Rattle.book.proofs.Lists.{getD-mem}
 use Rattle.road.specs.Dijkstra.{dist}
 use Rattle.tree_layout.specs.Values.{Element, Mark}
 use Rattle.tree_layout.specs.Decode.{decode}
-use Rattle.search_rules.specs.Rule.{Rule}
+use Rattle.search_rules.specs.Rule.{Asking}
 use Rattle.search_rules.specs.Instance.{Instance}
 use Rattle.search_rules.specs.Books.{searchOf}
 use Rattle.search_rules.specs.Bounds.{absDiff, combine, aggregate, lower, f, yardBound}
@@ -32,17 +32,25 @@ aggregate-to code g road l (q ∷ qs) =
 
 -- ---- of a search of two books
 
-module _ (road tree : List ℕ) (code : ℕ) (goal : Rule) (crews : List ℕ) where
+module _ (road tree : List ℕ) (a : Asking) (crews : List ℕ) where
   abbrev i : Instance
-  i = searchOf road tree code goal crews
+  i = searchOf road tree a crews
 
   abbrev j : Instance
-  j = record { code = code; rule = goal; crews = crews; tree = decode tree; d = dist road }
+  j = record {
+    code = a .code;
+    rule = a .rule;
+    crews = crews;
+    tree = decode tree;
+    d = dist road;
+    admits = i .admits;
+    wants = i .wants;
+  }
 
   module _ (m : Mark) (e : Element) (out : List ℕ) (o : out ≡ toCrews road (m .place) crews) where
-    pub f-by : fBy code out (e .distance) ≡ f i m e
+    pub f-by : fBy (a .code) out (e .distance) ≡ f i m e
     unfolding fBy
-    f-by = rw (search-of road tree code goal crews, o) (aggregate-to code (λ x. absDiff x (e .distance)) road (m .place) crews ∙ sym (f-is j m e))
+    f-by = rw (search-of road tree a crews, o) (aggregate-to (a .code) (λ x. absDiff x (e .distance)) road (m .place) crews ∙ sym (f-is j m e))
 
     module _ (table : List ℕ) (rows : ℕ) (low : (q : ℕ) → Mem q crews → rowsLower table rows (e .yard) q ≡ lower i (e .yard) q) where
       abbrev g : ℕ → ℕ
@@ -52,22 +60,22 @@ module _ (road tree : List ℕ) (code : ℕ) (goal : Rule) (crews : List ℕ) wh
       unfolding crewAbsDiff
       one k h = rw (low (getD crews k 0) (getD-mem crews k 0 h), o, to-at road (m .place) crews k h) refl
 
-      first : (k : ℕ) → k ≤ length crews → yardBoundBy code table rows crews out (e .yard) (e .distance) k ≡ aggregate code g (take k crews)
+      first : (k : ℕ) → k ≤ length crews → yardBoundBy (a .code) table rows crews out (e .yard) (e .distance) k ≡ aggregate (a .code) g (take k crews)
       unfolding yardBoundBy
-      first zero h = sym (aggregate-none code g)
-      first (suc k) h = rw (one k h, first k (omega arith)) (sym (aggregate-take code g crews k h))
+      first zero h = sym (aggregate-none (a .code) g)
+      first (suc k) h = rw (one k h, first k (omega arith)) (sym (aggregate-take (a .code) g crews k h))
 
-      whole : yardBoundBy code table rows crews out (e .yard) (e .distance) (length crews) ≡ aggregate code g crews
-      whole = first (length crews) (omega arith) ∙ ap (aggregate code g) (take-all (length crews) crews (omega arith))
+      whole : yardBoundBy (a .code) table rows crews out (e .yard) (e .distance) (length crews) ≡ aggregate (a .code) g crews
+      whole = first (length crews) (omega arith) ∙ ap (aggregate (a .code) g) (take-all (length crews) crews (omega arith))
 
-      pub bound-by : yardBoundBy code table rows crews out (e .yard) (e .distance) (length crews) ≡ yardBound i m e
-      bound-by = whole ∙ alike ∙ sym (yard-bound-is j m e) ∙ sym (ap (λ (z : Instance). yardBound z m e) (search-of road tree code goal crews))
+      pub bound-by : yardBoundBy (a .code) table rows crews out (e .yard) (e .distance) (length crews) ≡ yardBound i m e
+      bound-by = whole ∙ alike ∙ sym (yard-bound-is j m e) ∙ sym (ap (λ (z : Instance). yardBound z m e) (search-of road tree a crews))
         where
-          alike : aggregate code g crews ≡ aggregate code (λ q. max (lower j (e .yard) q) (absDiff (dist road (m .place) q) (e .distance))) crews
-          alike = aggregate-same code g (λ q. max (lower j (e .yard) q) (absDiff (dist road (m .place) q) (e .distance))) crews
-              (λ q k. ap (λ (z : Instance). max (lower z (e .yard) q) (absDiff (dist road (m .place) q) (e .distance))) (search-of road tree code goal crews))
+          alike : aggregate (a .code) g crews ≡ aggregate (a .code) (λ q. max (lower j (e .yard) q) (absDiff (dist road (m .place) q) (e .distance))) crews
+          alike = aggregate-same (a .code) g (λ q. max (lower j (e .yard) q) (absDiff (dist road (m .place) q) (e .distance))) crews
+              (λ q k. ap (λ (z : Instance). max (lower z (e .yard) q) (absDiff (dist road (m .place) q) (e .distance))) (search-of road tree a crews))
 
     -- under the search's landmark table
     pub bound-of : (rows : ℕ) (table : List ℕ) → LandmarkTable i rows table → e .yard < i .tree .junctions → ((q : ℕ) → Mem q crews → q < i .tree .junctions)
-        → yardBoundBy code table rows crews out (e .yard) (e .distance) (length crews) ≡ yardBound i m e
+        → yardBoundBy (a .code) table rows crews out (e .yard) (e .distance) (length crews) ≡ yardBound i m e
     bound-of rows table s h there = bound-by table rows (λ q k. lower-table i rows table s (e .yard) q h (there q k))

@@ -3,100 +3,91 @@ use mathlib.Core.Path.{_≡_, refl, sym, ap, _∙_}
 use mathlib.Core.Logic.{_⊎_, inl, inr}
 use mathlib.Core.Bool.{Bool, not}
 use mathlib.Core.List.{List}
-use mathlib.Core.Option.{Option}
-use Prim.Native.Nat.{ℕ, _*_, _≤_}
+use Prim.Native.Nat.{ℕ}
 use native.Mathlib.Omega.{arith}
 use lib.ListN.{length}
-use lib.Dec.{T, eqb, eqb→eq, leb→le}
+use lib.Dec.{T, eqb, eqb→eq}
 use Rattle.book.specs.Choose.{choose}
-use Rattle.book.specs.Bytes.{Bytes}
-use Rattle.book.proofs.Choosing.{choose-yes, choose-no, choose-case, passed, first-none, T-split}
+use Rattle.book.proofs.Choosing.{choose-yes, choose-no, choose-case, T-split}
 use Rattle.book.proofs.Lists.{eq→eqb, ne→neqb, neqb→ne, choose-positive}
 use Rattle.work_area.specs.Work.{workWords, zeroed}
-use Rattle.work_area.proofs.Zeroing.{enough-work, accepted-zeroed, refused-kept}
+use Rattle.work_area.proofs.Zeroing.{accepted-zeroed, refused-kept}
 use Rattle.road_layout.specs.Road.{junctions}
-use Rattle.road.specs.Refusal.{roadRefusal}
 use Rattle.road.proofs.Theorems.{passing}
-use Rattle.tree_layout.specs.Decode.{junctionCount}
-use Rattle.tree.specs.Shape.{treeRefusal}
-use Rattle.query.specs.Query.{crewsOf, QueryLayout}
+use Rattle.query.specs.Query.{QueryLayout}
 use Rattle.query.proofs.CrewList.{crews-length, crews-below}
 use Rattle.query.proofs.Reading.{passing as query-passing}
 use Rattle.search_rules.specs.Run.{Answer, words}
 use Rattle.search_call.specs.code.Accepted.{AcceptedSearch}
-use Rattle.search_call.specs.Call.{mostYards, treeRefusalIn, areasRefusal, searchRefusal, searchAnswer, Found, refused, accepted, searchFound, overStart}
+use Rattle.search_call.specs.Call.{Want, mostYards, searchRefusal, searchAnswer, Found, refused, accepted, searchFound, overStart}
 use Rattle.search_call.specs.Call.{resultsAfter, Call, Areas, foundOn, callOn}
+use Rattle.search_call.proofs.Refusing.{tree-passed, areas-passed, none-refused}
 
 -- ---- the tests
 
-module _ (road tree query : List ℕ) (drive : Option ℕ) (work results : ℕ) where
-  pub tests : searchRefusal road tree query drive work results ≡ 0 → AcceptedSearch road tree query drive work results
-  unfolding searchRefusal treeRefusalIn areasRefusal
+module _ (road tree query : List ℕ) (want : Want) (work results : ℕ) where
+  pub tests : searchRefusal road tree query want work results ≡ 0 → AcceptedSearch road tree query want work results
   tests e =
-      let a = first-none _ _ e in
-      let b = first-none _ _ (a .1) in
-      let c = first-none _ _ (b .0) in
-      let i = passed _ _ _ (c .1) (omega arith) in
-      let d = first-none _ _ (b .1) in
-      let f = first-none _ _ (d .1) in
-      let g = passed _ _ _ (f .1) (omega arith) in
-      let q : QueryLayout query (junctions road) = query-passing query (junctions road) (d .0) in
-      let same = eqb→eq (junctionCount tree) (junctions road) (i .0) in
+      let (a, b, c, k, f) = none-refused road tree query want work results e in
+      let (shaped, same) = tree-passed tree (junctions road) b in
+      let (full, long) = areas-passed (mostYards tree query want) work results f in
+      let q : QueryLayout query (junctions road) = query-passing query (junctions road) c in
       record {
-        roads = a .0;
-        shape = c .0;
+        roads = a;
+        shape = shaped;
         counts = same;
         asked = q;
         books = λ bytes. record {
-          roads = passing road (a .0);
+          roads = passing road a;
           bytes = bytes;
-          shaped = c .0;
+          shaped = shaped;
           counts = sym same;
           few = omega (arith, crews-length query, q .few-crews);
           there = crews-below query (junctions road) (q .placed);
         };
-        work-full = enough-work work (f .0);
-        results-full = leb→le (2 * mostYards tree query drive) results (g .0);
+        some-kind = k;
+        work-full = full;
+        results-full = long;
       }
 
   -- ---- what is returned
 
   abbrev why : ℕ
-  why = searchRefusal road tree query drive work results
+  why = searchRefusal road tree query want work results
 
   abbrev said : Answer
-  said = searchAnswer road tree query drive
+  said = searchAnswer road tree query want
 
-  pub found-accepted : why ≡ 0 → searchFound road tree query drive work results ≡ accepted said
+  pub found-accepted : why ≡ 0 → searchFound road tree query want work results ≡ accepted said
   unfolding searchFound
   found-accepted e = choose-yes (eqb why 0) (accepted said) (refused why) (eq→eqb why 0 e)
 
-  pub found-refused : (why ≡ 0 → ⊥) → searchFound road tree query drive work results ≡ refused why
+  pub found-refused : (why ≡ 0 → ⊥) → searchFound road tree query want work results ≡ refused why
   unfolding searchFound
   found-refused h = choose-no (eqb why 0) (accepted said) (refused why) (ne→neqb why 0 h)
 
   -- the returned number is the first test's
-  pub found-number : searchFound road tree query drive work results .refusal ≡ why
+  pub found-number : searchFound road tree query want work results .refusal ≡ why
   unfolding searchFound accepted refused
   found-number = choose-case (λ (x : Found). x .refusal ≡ why) (eqb why 0) (λ t. sym (eqb→eq why 0 t)) (λ t. refl)
 
 -- the result area after a call with so many work words
-module _ (road tree query : List ℕ) (drive : Option ℕ) (work : ℕ) (results : List ℕ) where
+module _ (road tree query : List ℕ) (want : Want) (work : ℕ) (results : List ℕ) where
   abbrev refusal : ℕ
-  refusal = searchRefusal road tree query drive work (length results)
+  refusal = searchRefusal road tree query want work (length results)
 
   abbrev answered : Answer
-  answered = searchAnswer road tree query drive
+  answered = searchAnswer road tree query want
 
-  pub settled-writes : refusal ≡ 0 → T (answered .settled) → resultsAfter road tree query drive work results ≡ overStart (words (answered .listed)) results
+  pub settled-writes : refusal ≡ 0 → T (answered .settled) → resultsAfter road tree query want work results ≡ overStart (words (answered .listed)) results
   unfolding resultsAfter
   settled-writes e t = choose-yes (eqb refusal 0) _ results (eq→eqb refusal 0 e) ∙ choose-yes (answered .settled) _ results t
 
-  pub spent-keeps : refusal ≡ 0 → T (not (answered .settled)) → resultsAfter road tree query drive work results ≡ results
+  pub spent-keeps : refusal ≡ 0 → T (not (answered .settled)) → resultsAfter road tree query want work results ≡ results
   unfolding resultsAfter
   spent-keeps e t = choose-yes (eqb refusal 0) _ results (eq→eqb refusal 0 e) ∙ choose-no (answered .settled) _ results t
 
-  pub refused-keeps : (refusal ≡ 0 → ⊥) → resultsAfter road tree query drive work results ≡ results
+  pub refused-keeps : (refusal ≡ 0 → ⊥) → resultsAfter road tree query want work results ≡ results
   unfolding resultsAfter
   refused-keeps h = choose-no (eqb refusal 0) _ results (ne→neqb refusal 0 h)
 
@@ -125,22 +116,22 @@ same-areas e f = rw (e, f) refl
 
 module _ (c : Call) (a : Areas) where
   abbrev number : ℕ
-  number = searchRefusal (c .road) (c .tree) (c .query) (c .drive) (length (a .work)) (length (a .results))
+  number = searchRefusal (c .road) (c .tree) (c .query) (c .want) (length (a .work)) (length (a .results))
 
   abbrev reply : Answer
-  reply = searchAnswer (c .road) (c .tree) (c .query) (c .drive)
+  reply = searchAnswer (c .road) (c .tree) (c .query) (c .want)
 
   pub on-number : foundOn c a .refusal ≡ number
   unfolding foundOn
-  on-number = found-number (c .road) (c .tree) (c .query) (c .drive) (length (a .work)) (length (a .results))
+  on-number = found-number (c .road) (c .tree) (c .query) (c .want) (length (a .work)) (length (a .results))
 
   pub on-accepted : foundOn c a .refusal ≡ 0 → foundOn c a ≡ accepted reply
   unfolding foundOn
-  on-accepted e = found-accepted (c .road) (c .tree) (c .query) (c .drive) (length (a .work)) (length (a .results)) (sym on-number ∙ e)
+  on-accepted e = found-accepted (c .road) (c .tree) (c .query) (c .want) (length (a .work)) (length (a .results)) (sym on-number ∙ e)
 
   pub on-refused : (foundOn c a .refusal ≡ 0 → ⊥) → foundOn c a ≡ refused (foundOn c a .refusal)
   unfolding foundOn
-  on-refused h = found-refused (c .road) (c .tree) (c .query) (c .drive) (length (a .work)) (length (a .results)) (λ e. h (on-number ∙ e)) ∙ ap refused (sym on-number)
+  on-refused h = found-refused (c .road) (c .tree) (c .query) (c .want) (length (a .work)) (length (a .results)) (λ e. h (on-number ∙ e)) ∙ ap refused (sym on-number)
 
   -- what is settled is not refused
   pub on-settled : foundOn c a .settled ≡ 1 → (foundOn c a .refusal ≡ 0) × T (reply .settled)
@@ -175,8 +166,8 @@ module _ (c : Call) (a : Areas) where
   unfolding accepted
   on-measured e = ap (λ (x : Found). x .measured) (on-accepted e)
 
-  pub on-tests : foundOn c a .refusal ≡ 0 → AcceptedSearch (c .road) (c .tree) (c .query) (c .drive) (length (a .work)) (length (a .results))
-  on-tests e = tests (c .road) (c .tree) (c .query) (c .drive) (length (a .work)) (length (a .results)) (sym on-number ∙ e)
+  pub on-tests : foundOn c a .refusal ≡ 0 → AcceptedSearch (c .road) (c .tree) (c .query) (c .want) (length (a .work)) (length (a .results))
+  on-tests e = tests (c .road) (c .tree) (c .query) (c .want) (length (a .work)) (length (a .results)) (sym on-number ∙ e)
 
   -- ---- the areas
 
@@ -192,17 +183,17 @@ module _ (c : Call) (a : Areas) where
   unfolding callOn
   results-written e =
       let (z, t) = on-settled e in
-      settled-writes (c .road) (c .tree) (c .query) (c .drive) (length (a .work)) (a .results) (sym on-number ∙ z) t
+      settled-writes (c .road) (c .tree) (c .query) (c .want) (length (a .work)) (a .results) (sym on-number ∙ z) t
 
   pub results-kept : (foundOn c a .settled ≡ 1 → ⊥) → callOn c a .results ≡ a .results
   unfolding callOn
   results-kept h = go (T-split (eqb number 0)) (T-split (reply .settled))
     where
       go : T (eqb number 0) ⊎ T (not (eqb number 0)) → T (reply .settled) ⊎ T (not (reply .settled))
-          → resultsAfter (c .road) (c .tree) (c .query) (c .drive) (length (a .work)) (a .results) ≡ a .results
+          → resultsAfter (c .road) (c .tree) (c .query) (c .want) (length (a .work)) (a .results) ≡ a .results
       go (inl p) (inl t) = absurd (h (settled-on (on-number ∙ eqb→eq number 0 p) t))
-      go (inl p) (inr t) = spent-keeps (c .road) (c .tree) (c .query) (c .drive) (length (a .work)) (a .results) (eqb→eq number 0 p) t
-      go (inr p) t = refused-keeps (c .road) (c .tree) (c .query) (c .drive) (length (a .work)) (a .results) (neqb→ne number 0 p)
+      go (inl p) (inr t) = spent-keeps (c .road) (c .tree) (c .query) (c .want) (length (a .work)) (a .results) (eqb→eq number 0 p) t
+      go (inr p) t = refused-keeps (c .road) (c .tree) (c .query) (c .want) (length (a .work)) (a .results) (neqb→ne number 0 p)
 
   -- a refusal changes neither area
   pub areas-kept : (foundOn c a .refusal ≡ 0 → ⊥) → callOn c a ≡ a

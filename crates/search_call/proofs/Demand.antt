@@ -1,13 +1,15 @@
 -- Demand 3, and what is promised beside it. Assumes nothing.
-use mathlib.Core.Bool.{not}
-use mathlib.Core.Path.{_≡_, ap, _∙_}
-use mathlib.Core.List.{List, _++_, List·Memᴰ as Mem}
+use mathlib.Core.Bool.{true, not}
+use mathlib.Core.Path.{_≡_, refl, ap, _∙_}
+use mathlib.Core.List.{List, [], _++_, List·Memᴰ as Mem}
 use mathlib.Core.Option.{Option, none, some, Option·some-ne-none, Option·none-ne-some, Option·some-injective}
-use Prim.Native.Nat.{ℕ, _+_, _≤_}
+use Prim.Native.Nat.{ℕ, _+_, _*_, _≤_}
 use native.Mathlib.Omega.{arith}
 use lib.ListN.{length, drop}
 use lib.Dec.{T, not-T}
+use Rattle.book.specs.Choose.{choose}
 use Rattle.book.specs.Bytes.{Bytes}
+use Rattle.book.specs.Lists.{keepIf}
 use Rattle.book.specs.Writing.{write}
 use Rattle.book.proofs.Writing.{write-is}
 use Rattle.road.specs.Dijkstra.{dist}
@@ -17,24 +19,26 @@ use Rattle.check_rules.proofs.Theorems.{tested}
 use Rattle.check_tree.specs.Facts.{SoundBeside}
 use Rattle.check_tree.proofs.Passing.{passed-laid, passed-yards, passed-true}
 use Rattle.search_rules.specs.Run.{words, run, answer}
-use Rattle.search_rules.specs.Facts.{WellFormed, SoundInstance}
-use Rattle.search_rules.specs.Rule.{Rule, nearest, inDrive}
+use Rattle.search_rules.specs.Facts.{Below, WellFormed, SoundInstance}
+use Rattle.search_rules.specs.Rule.{Rule, nearest, inDrive, Asking}
+use Rattle.search_rules.specs.Instance.{Instance}
 use Rattle.search_rules.specs.Books.{searchOf}
 use Rattle.search_rules.specs.Walks.{FirstYards, DriveYards}
-use Rattle.search_rules.specs.Theorems.{NotPast, TreeYards, Listing, Decided as RulesDecided}
-use Rattle.search_rules.proofs.Held.{greatest-is}
+use Rattle.search_rules.specs.Theorems.{NotPast, Listing, Decided as RulesDecided}
 use Rattle.search_rules.specs.Books.{Passed}
-use Rattle.search_rules.proofs.Books.{well-of, sound-of}
-use Rattle.search_rules.proofs.Asked.{asked-rule, asked-yards, asked-there, asked-ends}
-use Rattle.search_rules.proofs.Theorems.{decided, answer-taken, answer-measured, answer-listed, answer-listing, answer-spent, words-length}
+use Rattle.search_rules.proofs.Books.{accepted-of, well-of, sound-of}
+use Rattle.search_rules.proofs.ByKinds.{asked-wanted, asked-out, asked-held}
+use Rattle.search_rules.proofs.Asked.{asked-rule, asked-covers, asked-there, asked-ends, asked-settles}
+use Rattle.search_rules.proofs.Theorems.{decided, answer-taken, answer-measured, answer-listed, answer-listing, answer-spent, words-length, unrooted-answer}
 use Rattle.search_rules.proofs.Level.{run-bound-within}
 use Rattle.search_rules.proofs.Walks.{yards-distinct, total-least, first-yards, drive-yards}
 use Rattle.search_rules.proofs.Fronts.{nearest-allowed, drive-allowed, nearest-not-past, drive-not-past}
-use Rattle.search_call.specs.Call.{ruleBy, Call, Areas, Search, searches}
-use Rattle.search_call.specs.Demand.{OnPassing, NotRefused, Settled, ForYards, ForDrive, code, k, crews, arcs, limit, yards, instanceOf, list, Full, lastDistance, measured}
+use Rattle.search_call.specs.Call.{ruleBy, askingBy, accepted, Call, Areas, Search, searches}
+use Rattle.search_call.specs.Demand.{OnPassing, NotRefused, Settled, ForYards, ForDrive, code, k, crews, arcs, limit, yards, wantedYards, innerRegions, instanceOf, list, Full, lastDistance, measured}
 use Rattle.search_call.specs.Demand.{BoundOf, Demand3, TrueList, DecidedSearch, AnyTree, OwnYards}
-use Rattle.search_call.proofs.Calls.{on-settled, settled-on, spent-on, on-listed, on-taken, on-measured, on-tests, on-refused, work-zeroed}
+use Rattle.search_call.proofs.Calls.{on-settled, settled-on, spent-on, on-listed, on-taken, on-measured, on-tests, on-accepted, on-refused, work-zeroed}
 use Rattle.search_call.proofs.Calls.{results-written, results-kept, areas-kept}
+use Rattle.search_call.proofs.Admitting.{admits}
 use Rattle.search_call.proofs.Bounded.{has-bound, one-bound}
 use Rattle.search_call.proofs.Room.{listed-most}
 use Rattle.search_call.proofs.Lists.{call-of, written-in-turn}
@@ -47,6 +51,12 @@ own-yards road tree p = passed-yards road (p .yard) tree (p .work) (p .zero)
 over-start : (w b : List ℕ) → length w ≤ length b → write b 0 w ≡ w ++ drop (length w) b
 over-start w b h = write-is w b 0 (omega arith) ∙ ap (λ (n : ℕ). w ++ drop n b) (let e : 0 + length w ≡ length w = omega arith in e)
 
+-- nothing is returned of an empty list, settled at once
+empty-answer : accepted (record { settled = true; listed = []; taken = 0; measured = 0 })
+    ≡ record { refusal = 0; settled = 1; listed = 0; taken = 0; measured = 0 }
+unfolding accepted choose
+empty-answer = refl
+
 -- ---- one search
 
 module _ (s : Search) where
@@ -56,11 +66,19 @@ module _ (s : Search) where
   abbrev tree : List ℕ
   tree = s .call .tree
 
-  abbrev rule : Rule
-  rule = ruleBy (k s) (s .call .drive)
+  abbrev asking : Asking
+  asking = askingBy (s .call .query) (s .call .want)
 
-  rule-is : instanceOf s .rule ≡ rule
-  rule-is = asked-rule road tree (code s) rule (crews s)
+  -- the same by another rule
+  abbrev asking-by : Rule → Asking
+  asking-by r = record { code = code s; rule = r; wanted = s .call .want .kinds }
+
+  rule-is : instanceOf s .rule ≡ ruleBy (k s) (s .call .want .drive)
+  rule-is = asked-rule road tree asking (crews s)
+
+  -- the yards that it wants are the tree's wanted ones
+  pub wanted-is : keepIf (instanceOf s .wants) (yards s) ≡ wantedYards s
+  wanted-is = asked-wanted road tree asking (crews s)
 
   -- by what it is for
   for-yards : ForYards s → instanceOf s .rule ≡ nearest (k s)
@@ -71,30 +89,32 @@ module _ (s : Search) where
 
   module _ (p : Passed road tree (crews s)) where
     well : WellFormed (instanceOf s)
-    well = well-of road tree (code s) rule (crews s) p
+    well = well-of road tree asking (crews s) p
 
-    tree-yards : TreeYards (instanceOf s) (yards s)
-    tree-yards = asked-yards road tree (code s) rule (crews s) p
+    -- every yard that it reaches is a wanted one of the tree's
+    covers : (y : ℕ) → Below (instanceOf s) 0 y → Mem y (wantedYards s)
+    covers y b = rw wanted-is at (asked-covers road tree asking (crews s) p y b)
 
     -- on a tree that passes it is sound, whatever its rule
-    pub sound-by : (r : Rule) → OnPassing s → SoundInstance (searchOf road tree (code s) r (crews s))
+    pub sound-by : (r : Rule) → OnPassing s → SoundInstance (searchOf road tree (asking-by r) (crews s))
     sound-by r q =
         let numbers : TrueNumbers (dist road) (decode tree) = passed-true road (q .yard) tree (q .work) (q .zero) in
         let laid : SoundBeside road (q .yard) tree (q .work) = passed-laid road (q .yard) tree (q .work) (q .zero) in
-        sound-of road tree (code s) r (crews s) p (numbers .lists) (tested tree (laid .shape) .encloses (dist road) numbers)
+        sound-of road tree (asking-by r) (crews s) p (numbers .lists) (tested tree (laid .shape) .encloses (dist road) numbers)
+        (admits road (q .yard) tree (q .work) (q .zero) (asking-by r) (crews s))
 
     sound : OnPassing s → SoundInstance (instanceOf s)
-    sound = sound-by rule
+    sound = sound-by (ruleBy (k s) (s .call .want .drive))
 
     true-list : T (answer (instanceOf s) (limit s) .settled) → TrueList s
     true-list t =
         let l : Listing (instanceOf s) (list s) = answer-listing (instanceOf s) well (limit s) t in
         record {
           distances = λ e j. rw (l .distances e j)
-              (total-least road tree (code s) rule (crews s) p (e .yard) (asked-there road tree (code s) rule (crews s) p (e .yard) (l .in-tree e j)));
+              (total-least road tree asking (crews s) p (e .yard) (asked-there road tree asking (crews s) p (e .yard) (l .in-tree e j)));
           distinct = yards-distinct (list s) (l .sorted) (l .distinct);
           sorted = l .sorted;
-          in-tree = λ e j. tree-yards .every (e .yard) (l .in-tree e j);
+          in-tree = λ e j. covers (e .yard) (l .in-tree e j);
           few = λ e. nearest-allowed (instanceOf s .rule) (k s) (list s) (for-yards e) (l .allowed);
           inside = λ seconds e. drive-allowed (instanceOf s .rule) seconds (list s) (for-drive seconds e) (l .allowed);
         }
@@ -110,32 +130,41 @@ module _ (s : Search) where
         → b ≤ lastDistance s
     within-last q t e full y b j d =
         let past : NotPast (instanceOf s .rule) (list s) b = rw (answer-listed (instanceOf s) (limit s) t) (not-past q y b j d) in
-        omega (arith, nearest-not-past (instanceOf s .rule) (k s) (list s) b (for-yards e) past full, greatest-is (list s))
+        nearest-not-past (instanceOf s .rule) (k s) (list s) b (for-yards e) past full
 
     -- nor above the seconds of a drive, settled or not
     within-drive : OnPassing s → (seconds : ℕ) → ForDrive s seconds → (y b : ℕ) → Mem y (measured s) → BoundOf s y b → b ≤ seconds
     within-drive q seconds e y b j d = drive-not-past (instanceOf s .rule) seconds _ b (for-drive seconds e) (not-past q y b j d)
 
     -- the list is exact, by what the search is for
-    exact-yards : OnPassing s → T (answer (instanceOf s) (limit s) .settled) → ForYards s → FirstYards (arcs s) (code s) (k s) (crews s) (yards s) (list s)
-    exact-yards q t e = yards-of (s .call .drive) e (sound q) t
+    exact-yards : OnPassing s → T (answer (instanceOf s) (limit s) .settled) → ForYards s
+        → FirstYards (arcs s) (code s) (k s) (crews s) (wantedYards s) (list s)
+    exact-yards q t e = rw wanted-is at (yards-of (s .call .want .drive) e (sound q) t)
       where
-        yards-of : (d : Option ℕ) → d ≡ none → SoundInstance (searchOf road tree (code s) (ruleBy (k s) d) (crews s))
-            → T (answer (searchOf road tree (code s) (ruleBy (k s) d) (crews s)) (limit s) .settled)
-            → FirstYards (arcs s) (code s) (k s) (crews s) (yards s) (answer (searchOf road tree (code s) (ruleBy (k s) d) (crews s)) (limit s) .listed)
-        yards-of none e so u = first-yards road tree (code s) (k s) (crews s) p so (limit s) u
+        by : Option ℕ → Instance
+        by d = searchOf road tree (asking-by (ruleBy (k s) d)) (crews s)
+
+        yards-of : (d : Option ℕ) → d ≡ none → SoundInstance (by d) → T (answer (by d) (limit s) .settled)
+            → FirstYards (arcs s) (code s) (k s) (crews s) (keepIf (by d .wants) (yards s)) (answer (by d) (limit s) .listed)
+        yards-of none e so u = first-yards road tree (code s) (k s) (s .call .want .kinds) (crews s) p so (limit s) u
         yards-of (some x) e so u = absurd (Option·some-ne-none x e)
 
     exact-drive : OnPassing s → T (answer (instanceOf s) (limit s) .settled) → (seconds : ℕ) → ForDrive s seconds
-        → DriveYards (arcs s) (code s) seconds (crews s) (yards s) (list s)
-    exact-drive q t seconds e = yards-of (s .call .drive) e (sound q) t
+        → DriveYards (arcs s) (code s) seconds (crews s) (wantedYards s) (list s)
+    exact-drive q t seconds e = rw wanted-is at (yards-of (s .call .want .drive) e (sound q) t)
       where
-        yards-of : (d : Option ℕ) → d ≡ some seconds → SoundInstance (searchOf road tree (code s) (ruleBy (k s) d) (crews s))
-            → T (answer (searchOf road tree (code s) (ruleBy (k s) d) (crews s)) (limit s) .settled)
-            → DriveYards (arcs s) (code s) seconds (crews s) (yards s) (answer (searchOf road tree (code s) (ruleBy (k s) d) (crews s)) (limit s)
-            .listed)
+        by : Option ℕ → Instance
+        by d = searchOf road tree (asking-by (ruleBy (k s) d)) (crews s)
+
+        yards-of : (d : Option ℕ) → d ≡ some seconds → SoundInstance (by d) → T (answer (by d) (limit s) .settled)
+            → DriveYards (arcs s) (code s) seconds (crews s) (keepIf (by d .wants) (yards s)) (answer (by d) (limit s) .listed)
         yards-of none e so u = absurd (Option·none-ne-some seconds e)
-        yards-of (some x) e so u = rw (← Option·some-injective x seconds e) (drive-yards road tree (code s) x (crews s) p so (limit s) u)
+        yards-of (some x) e so u =
+            rw (← Option·some-injective x seconds e) (drive-yards road tree (code s) x (s .call .want .kinds) (crews s) p so (limit s) u)
+
+    -- a limit of inner regions plus twice the wanted yards settles
+    ends-wanted : OnPassing s → innerRegions s + 2 * length (wantedYards s) ≤ limit s → T (answer (instanceOf s) (limit s) .settled)
+    ends-wanted q h = asked-settles road tree asking (crews s) p (sound q) (limit s) (rw wanted-is h)
 
   -- whatever the tree's numbers say
   module _ (bytes : Bytes tree) where
@@ -158,7 +187,7 @@ module _ (s : Search) where
     room : Settled s → length (words (list s)) ≤ length (a .results)
     room t =
         let (n, u) = on-settled c a t in
-        omega (arith, words-length (list s), listed-most road tree (c .query) (c .drive) (books n) u, on-tests c a n .results-full)
+        omega (arith, words-length (list s), listed-most road tree (c .query) (c .want) (books n) u, on-tests c a n .results-full)
 
     not-settled : NotRefused s → (Settled s → ⊥) → T (not (answer (instanceOf s) (limit s) .settled))
     not-settled n h = not-T (answer (instanceOf s) (limit s) .settled) (λ t. h (settled-on c a n t))
@@ -176,8 +205,10 @@ module _ (s : Search) where
       within = λ n. omega (arith, on-taken c a n, answer-taken (instanceOf s) (limit s), rules n .within);
       counted = λ n. on-measured c a n ∙ answer-measured (instanceOf s) (limit s);
       once = λ n. rules n .measured-once;
-      in-tree = λ n y j. tree-yards (books n) .every y (rules n .measured-in y j);
-      bounded = λ n y j. has-bound (instanceOf s) (well (books n) .shape) (tree-yards (books n) .below y j) (well (books n) .shape .root);
+      in-tree = λ n y j. covers (books n) y (rules n .measured-in y j);
+      ends = λ n h. settled-on c a n (asked-ends road tree asking (crews s) (books n) (limit s) h);
+      unwanted-root = λ n t. on-accepted c a n ∙ ap accepted (unrooted-answer (instanceOf s) (asked-out road tree asking (crews s) t) (limit s)) ∙ empty-answer;
+      bounded = λ n y j. has-bound (instanceOf s) (well (books n) .shape) (accepted-of road tree asking (crews s) (books n)) (asked-held road tree asking (crews s) (books n) y j);
       one-bound = λ n. one-bound (instanceOf s) (well (books n) .shape);
       zeroes = λ n. (on-tests c a n .work-full, work-zeroed c a n);
       unchanged = λ h. (on-refused c a h, areas-kept c a h);
@@ -198,8 +229,7 @@ demand-3 calls bytes first = record {
       let (n, u) = on-settled (s .call) (s .areas) t in
       within-last s (books s (of-bytes s m) n) q u;
   measured-drive = λ s m q n. within-drive s (books s (of-bytes s m) n) q;
-  ends = λ s m q n h. settled-on (s .call) (s .areas) n
-      (asked-ends (s .call .road) (s .call .tree) (code s) (rule s) (crews s) (books s (of-bytes s m) n) (limit s) h);
+  ends = λ s m q n h. settled-on (s .call) (s .areas) n (ends-wanted s (books s (of-bytes s m) n) q h);
   results = written-in-turn calls first;
 }
   where

@@ -1,7 +1,6 @@
 -- A search's refusal is the number of the first of its tests that fails. Assumes nothing.
 use mathlib.Core.Path.{_≡_}
 use mathlib.Core.List.{List, [], _∷_, _++_}
-use mathlib.Core.Option.{Option}
 use Prim.Native.Nat.{ℕ, _*_, _≤_}
 use Rattle.book.specs.Tests.{Test, test, FirstFailing}
 use Rattle.book.proofs.FirstFailing.{first-end, first-le, first-eq, first-join}
@@ -18,7 +17,7 @@ use Rattle.tree.proofs.FirstFailing.{tree-tests}
 use Rattle.query.specs.Query.{queryRefusal}
 use Rattle.query.specs.Tests.{queryTests}
 use Rattle.query.proofs.FirstFailing.{query-tests}
-use Rattle.search_call.specs.Call.{mostYards, treeRefusalIn, areasRefusal, searchRefusal}
+use Rattle.search_call.specs.Call.{Want, mostYards, treeRefusalIn, areasRefusal, searchRefusal}
 
 -- the tree book's tests beside a road book with so many junctions
 abbrev treeTestsIn : List ℕ → ℕ → List Test
@@ -38,18 +37,19 @@ unfolding areasRefusal
 area-tests k work results =
     first-join (test 12 (workWords ≤ work) ∷ []) _ (workRefusal work) _ tt (work-test work) (λ _. first-le (2 * k) results 12 0 _ (λ _. first-end))
 
-pub search-tests : (road tree query : List ℕ) (drive : Option ℕ) (work results : ℕ)
+pub search-tests : (road tree query : List ℕ) (want : Want) (work results : ℕ)
     → FirstFailing
     (roadTests road ++ treeTests tree
     ++ test 8 (junctionCount tree ≡ junctions road)
     ∷ queryTests query (junctions road)
-    ++ test 12 (workWords ≤ work)
-    ∷ test 12 (2 * mostYards tree query drive ≤ results)
+    ++ test 13 (1 ≤ want .kinds)
+    ∷ test 12 (workWords ≤ work)
+    ∷ test 12 (2 * mostYards tree query want ≤ results)
     ∷ [])
-    (searchRefusal road tree query drive work results)
+    (searchRefusal road tree query want work results)
 unfolding searchRefusal
-search-tests road tree query drive work results =
+search-tests road tree query want work results =
     first-join (roadTests road) _ (roadRefusal road) _ tt (road-tests road) (λ _.
     first-join (treeTestsIn tree (junctions road)) _ (treeRefusalIn tree (junctions road)) _ tt (tree-tests-in tree (junctions road)) (λ _.
     first-join (queryTests query (junctions road)) _ (queryRefusal query (junctions road)) _ tt (query-tests query (junctions road)) (λ _.
-    area-tests (mostYards tree query drive) work results)))
+    first-le 1 (want .kinds) 13 _ _ (λ _. area-tests (mostYards tree query want) work results))))

@@ -1,8 +1,10 @@
-pub mod Calls
 pub mod Refusing
+pub mod Calls
+pub mod Admitting
 pub mod Bounded
 pub mod Lists
+pub mod Room
 pub mod Demand
 pub mod Agreeing
-pub mod Room
+pub mod Versions
 pub mod FirstFailing

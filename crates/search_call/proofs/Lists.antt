@@ -10,7 +10,7 @@ use Rattle.book.specs.Choose.{choose}
 use Rattle.book.proofs.Choosing.{choose-yes, choose-no, T-split}
 use Rattle.book.proofs.Lists.{neqb→ne}
 use Rattle.work_area.proofs.Zeroing.{after-length}
-use Rattle.tree_layout.specs.Values.{Element}
+use Rattle.search_rules.specs.Order.{Entry}
 use Rattle.search_call.specs.Call.{Call, Areas, Search, foundOn, callOn, searches, areasAfter}
 use Rattle.search_call.specs.Demand.{list, settledLists, overwritten, WorkUnread}
 use Rattle.search_call.proofs.Calls.{results-written, results-kept}
@@ -32,10 +32,10 @@ unfolding searches areasAfter settledLists overwritten
 written-in-turn [] a = refl
 written-in-turn (c ∷ cs) a = written-in-turn cs (callOn c a) ∙ go (T-split (eqb (foundOn c a .settled) 1))
   where
-    rest : List (List Element)
+    rest : List (List Entry)
     rest = settledLists (searches cs (callOn c a))
 
-    both : List (List Element)
+    both : List (List Entry)
     both = choose (eqb (foundOn c a .settled) 1) (list (record { call = c; areas = a }) ∷ rest) rest
 
     go : T (eqb (foundOn c a .settled) 1) ⊎ T (not (eqb (foundOn c a .settled) 1)) → overwritten rest (callOn c a .results) ≡ overwritten both (a .results)

@@ -13,12 +13,28 @@ use Rattle.road.specs.Refusal.{roadRefusal}
 use Rattle.tree_layout.specs.Decode.{junctionCount, treeYardCount}
 use Rattle.tree.specs.Shape.{treeRefusal}
 use Rattle.query.specs.Query.{aggregateOf, kOf, limitOf, crewsOf, queryRefusal}
-use Rattle.search_rules.specs.Rule.{Rule, nearest, inDrive}
+use Rattle.search_rules.specs.Rule.{Rule, nearest, inDrive, Asking}
 use Rattle.search_rules.specs.Instance.{Instance}
 use Rattle.search_rules.specs.Books.{searchOf}
 use Rattle.search_rules.specs.Run.{Answer, words, answer}
 
 -- ---- what a call asks for
+
+-- what a call wants beside its books: "a byte of wanted kinds", and of a drive search its seconds
+pub record Want : Type 0 where
+  pub kinds : ℕ
+  pub drive : Option ℕ
+
+-- what a search for k yards wants, and one within a drive
+abbrev pub wantNearest : (kinds : ℕ) → Want
+wantNearest kinds = record { kinds = kinds; drive = none }
+
+abbrev pub wantWithin : (kinds seconds : ℕ) → Want
+wantWithin kinds seconds = record { kinds = kinds; drive = some seconds }
+
+-- what a call wants for which any kind will do: "The list program wants 255."
+abbrev pub wantAny : (drive : Option ℕ) → Want
+wantAny drive = record { kinds = 255; drive = drive }
 
 -- A search for k yards brings no drive, and a drive search its seconds. The first k yards, or all within the drive:
 -- "The query's k is tested but otherwise unused."
@@ -26,13 +42,18 @@ abbrev pub ruleBy : (k : ℕ) → (drive : Option ℕ) → Rule
 ruleBy k none = nearest k
 ruleBy k (some seconds) = inDrive seconds
 
+-- what a query and a call ask for
+abbrev pub askingBy : (query : List ℕ) → (want : Want) → Asking
+askingBy query want =
+    record { code = aggregateOf query; rule = ruleBy (kOf query) (want .drive); wanted = want .kinds }
+
 -- how many yards the result area must hold: k, or "each yard in the tree"
 abbrev pub mostBy : (k yards : ℕ) → (drive : Option ℕ) → ℕ
 mostBy k yards none = k
 mostBy k yards (some seconds) = yards
 
-abbrev pub mostYards : (tree query : List ℕ) → (drive : Option ℕ) → ℕ
-mostYards tree query drive = mostBy (kOf query) (treeYardCount tree) drive
+abbrev pub mostYards : (tree query : List ℕ) → (want : Want) → ℕ
+mostYards tree query want = mostBy (kOf query) (treeYardCount tree) (want .drive)
 
 -- ---- one call
 
@@ -52,24 +73,27 @@ areasRefusal yards work results = firstOf (workRefusal work) (refuse (leb (2 * y
 
 -- "Books are tested in the order road, yard, tree, query, each through its own tests, ..; then the call's .. areas.":
 -- the number of the first test that fails, or 0, with so many work words and result words
-unfoldable pub searchRefusal : (road tree query : List ℕ) → (drive : Option ℕ) → (work results : ℕ) → ℕ
-searchRefusal road tree query drive work results =
+unfoldable pub searchRefusal : (road tree query : List ℕ) → (want : Want) → (work results : ℕ) → ℕ
+searchRefusal road tree query want work results =
     -- 1 to 6
     firstOf (roadRefusal road)
     -- 1 to 5, 7 and 8
     (firstOf (treeRefusalIn tree (junctions road))
     -- 1 to 4, 10 and 11
     (firstOf (queryRefusal query (junctions road))
+    -- 13: "the wanted byte is 0, tested directly after 11"
+    (refuse (leb 1 (want .kinds)) 13
     -- 12
-    (areasRefusal (mostYards tree query drive) work results)))
+    (areasRefusal (mostYards tree query want) work results))))
 
 -- the search that the books ask for
-abbrev pub searchIn : (road tree query : List ℕ) → (drive : Option ℕ) → Instance
-searchIn road tree query drive = searchOf road tree (aggregateOf query) (ruleBy (kOf query) drive) (crewsOf query)
+abbrev pub searchIn : (road tree query : List ℕ) → (want : Want) → Instance
+searchIn road tree query want =
+    searchOf road tree (askingBy query want) (crewsOf query)
 
 -- its answer under the query's step limit, by the step rules
-abbrev pub searchAnswer : (road tree query : List ℕ) → (drive : Option ℕ) → Answer
-searchAnswer road tree query drive = answer (searchIn road tree query drive) (limitOf query)
+abbrev pub searchAnswer : (road tree query : List ℕ) → (want : Want) → Answer
+searchAnswer road tree query want = answer (searchIn road tree query want) (limitOf query)
 
 -- What a search returns. Settled is 1 or 0; spent is refusal 0 and settled 0.
 pub record Found : Type 0 where
@@ -93,10 +117,10 @@ accepted a = record {
   measured = a .measured;
 }
 
-unfoldable pub searchFound : (road tree query : List ℕ) → (drive : Option ℕ) → (work results : ℕ) → Found
-searchFound road tree query drive work results =
-    let why = searchRefusal road tree query drive work results in
-    let found = accepted (searchAnswer road tree query drive) in
+unfoldable pub searchFound : (road tree query : List ℕ) → (want : Want) → (work results : ℕ) → Found
+searchFound road tree query want work results =
+    let why = searchRefusal road tree query want work results in
+    let found = accepted (searchAnswer road tree query want) in
     choose (eqb why 0) found (refused why)
 
 -- "(yard, distance) words .. and nothing after them": a list of words written over the start of the result area
@@ -105,20 +129,20 @@ overStart list results = write results 0 list
 
 -- The result area after a call with so many work words: "Settled writes (yard, distance) words into the result area and
 -- nothing after them; spent writes nothing there." "A refusal .. changes no lent byte or word."
-unfoldable pub resultsAfter : (road tree query : List ℕ) → (drive : Option ℕ) → (work : ℕ) → List ℕ → List ℕ
-resultsAfter road tree query drive work results =
-    let a = searchAnswer road tree query drive in
+unfoldable pub resultsAfter : (road tree query : List ℕ) → (want : Want) → (work : ℕ) → List ℕ → List ℕ
+resultsAfter road tree query want work results =
+    let a = searchAnswer road tree query want in
     let written = choose (a .settled) (overStart (words (a .listed)) results) results in
-    choose (eqb (searchRefusal road tree query drive work (length results)) 0) written results
+    choose (eqb (searchRefusal road tree query want work (length results)) 0) written results
 
 -- ---- a list of calls
 
--- a search's own books, and the seconds of a drive search
+-- a search's own books, and what it wants
 pub record Call : Type 0 where
   pub road : List ℕ
   pub tree : List ℕ
   pub query : List ℕ
-  pub drive : Option ℕ
+  pub want : Want
 
 -- the two lent areas, of words
 pub record Areas : Type 0 where
@@ -127,14 +151,14 @@ pub record Areas : Type 0 where
 
 -- what a call returns on two areas
 unfoldable pub foundOn : Call → Areas → Found
-foundOn c a = searchFound (c .road) (c .tree) (c .query) (c .drive) (length (a .work)) (length (a .results))
+foundOn c a = searchFound (c .road) (c .tree) (c .query) (c .want) (length (a .work)) (length (a .results))
 
 -- both areas after it
 unfoldable pub callOn : Call → Areas → Areas
 callOn c a = record {
-  work = workAfter (searchRefusal (c .road) (c .tree) (c .query) (c .drive) (length (a .work)) (length (a .results)))
+  work = workAfter (searchRefusal (c .road) (c .tree) (c .query) (c .want) (length (a .work)) (length (a .results)))
       (a .work);
-  results = resultsAfter (c .road) (c .tree) (c .query) (c .drive) (length (a .work)) (a .results);
+  results = resultsAfter (c .road) (c .tree) (c .query) (c .want) (length (a .work)) (a .results);
 }
 
 -- a search of a list: its call, and both areas as the one before left them

@@ -1,6 +1,7 @@
 -- Demand 3: what is promised of any list of searches on one work area and one result area, to be held against the
 -- paper; and what is promised beside it. Assumes nothing: these are statements.
 use mathlib.Core.Path.{_≡_}
+use mathlib.Core.Bool.{not}
 use mathlib.Core.List.{List, [], _∷_, _++_, map, List·Memᴰ as Mem}
 use mathlib.Core.Option.{none, some}
 use Prim.Native.Nat.{ℕ, _+_, _*_, _≤_, _<_}
@@ -8,18 +9,23 @@ use lib.ListN.{length, take, drop}
 use lib.Dec.{T, eqb}
 use Rattle.book.specs.Choose.{choose}
 use Rattle.book.specs.Bytes.{Bytes}
-use Rattle.book.specs.Lists.{Distinct}
+use Rattle.book.specs.Open.{version}
+use Rattle.book.specs.Lists.{Distinct, keepIf}
 use Rattle.work_area.specs.Work.{workWords, zeroed}
 use Rattle.adjacency.specs.Arcs.{Arc, net}
 use Rattle.yard.specs.Yards.{yardsOf}
-use Rattle.tree_layout.specs.Values.{Element, lastFrom}
+use Rattle.kinds.specs.Kinds.{shares}
+use Rattle.tree_layout.specs.Values.{Element, Tree, regionAt}
 use Rattle.tree_layout.specs.Decode.{decode}
-use Rattle.tree.specs.Yards.{treeYards, inners}
+use Rattle.tree.specs.Shape.{treeRefusal}
+use Rattle.tree.specs.Yards.{treeYards, kindsOf, inners}
 use Rattle.check_rules.specs.Facts.{Same}
 use Rattle.check_tree.specs.Check.{checkAnswer}
 use Rattle.query.specs.Query.{aggregateOf, kOf, limitOf, crewsOf}
 use Rattle.search_rules.specs.Instance.{Instance, size, leaf}
 use Rattle.search_rules.specs.Bounds.{chosen, yardBound}
+use Rattle.search_rules.specs.Order.{Entry}
+use Rattle.search_rules.specs.Held.{greatestHeld}
 use Rattle.search_rules.specs.Run.{words, run}
 use Rattle.search_rules.specs.Theorems.{Sorted}
 use Rattle.search_rules.specs.Walks.{AggregateLeast, FirstYards, DriveYards}
@@ -64,31 +70,35 @@ crews s = crewsOf (s .call .query)
 
 -- what it is for: the first k yards, or, of a drive search, those within so many seconds
 abbrev pub ForYards : Search → Type 0
-ForYards s = s .call .drive ≡ none
+ForYards s = s .call .want .drive ≡ none
 
 abbrev pub ForDrive : Search → ℕ → Type 0
-ForDrive s seconds = s .call .drive ≡ some seconds
+ForDrive s seconds = s .call .want .drive ≡ some seconds
 
 abbrev pub limit : Search → ℕ
 limit s = limitOf (s .call .query)
 
--- its roads, both ways; "the tree's yards"; "an inner region has children": how many there are
+-- its roads, both ways; "the tree's yards", and those that are wanted: "a yard is wanted if its byte in its leaf's first
+-- list shares a bit"; "an inner region has children": how many there are
 abbrev pub arcs : Search → List Arc
 arcs s = net (s .call .road)
 
 abbrev pub yards : Search → List ℕ
 yards s = treeYards (decode (s .call .tree))
 
+abbrev pub wantedYards : Search → List ℕ
+wantedYards s = keepIf (λ y. shares (s .call .want .kinds) (kindsOf (decode (s .call .tree)) y)) (yards s)
+
 abbrev pub innerRegions : Search → ℕ
 innerRegions s = inners (decode (s .call .tree))
 
 -- the search that its books ask for
 abbrev pub instanceOf : Search → Instance
-instanceOf s = searchIn (s .call .road) (s .call .tree) (s .call .query) (s .call .drive)
+instanceOf s = searchIn (s .call .road) (s .call .tree) (s .call .query) (s .call .want)
 
 -- the yards that it lists, with their distances, by the step rules; the result area gets their words
-abbrev pub list : Search → List Element
-list s = searchAnswer (s .call .road) (s .call .tree) (s .call .query) (s .call .drive) .listed
+abbrev pub list : Search → List Entry
+list s = searchAnswer (s .call .road) (s .call .tree) (s .call .query) (s .call .want) .listed
 
 -- "a settled list is full if it has k yards"
 abbrev pub Full : Search → Type 0
@@ -96,7 +106,7 @@ Full s = length (list s) ≡ k s
 
 -- "the last listed distance"
 abbrev pub lastDistance : Search → ℕ
-lastDistance s = lastFrom 0 (list s)
+lastDistance s = greatestHeld (list s)
 
 -- the yards that its state has as measured when it ends
 abbrev pub measured : Search → List ℕ
@@ -118,12 +128,12 @@ abbrev pub BoundOf : Search → ℕ → ℕ → Type 0
 BoundOf s y b = BoundIn (instanceOf s) y b
 
 -- the lists of the settled searches
-unfoldable pub settledLists : List Search → List (List Element)
+unfoldable pub settledLists : List Search → List (List Entry)
 settledLists [] = []
 settledLists (s ∷ ss) = choose (eqb (found s .settled) 1) (list s ∷ settledLists ss) (settledLists ss)
 
 -- "with all the settled lists written over its start in turn"
-unfoldable pub overwritten : List (List Element) → List ℕ → List ℕ
+unfoldable pub overwritten : List (List Entry) → List ℕ → List ℕ
 overwritten [] results = results
 overwritten (l ∷ ls) results = overwritten ls (overStart (words l) results)
 
@@ -131,23 +141,24 @@ overwritten (l ∷ ls) results = overwritten ls (overStart (words l) results)
 
 -- of any list of calls, and what the two areas hold before the first
 pub record Promised (calls : List Call) (first : Areas) : Type 0 where
-  -- "each settled search on a tree that passes has listed exactly the first k of the tree's yards, or all if fewer, by
+  -- "each settled search on a tree that passes has listed exactly the first k of the tree's" wanted "yards, or all if fewer, by
   -- aggregate least distance and then junction number, each with that distance; so no yard left out comes before one
   -- listed"
   pub exact : (s : Search) → Mem s (searches calls first) → OnPassing s → Settled s → ForYards s
-      → FirstYards (arcs s) (code s) (k s) (crews s) (yards s) (list s)
-  -- "a settled list holds exactly the tree's yards within the drive", in yard order, each with its distance
+      → FirstYards (arcs s) (code s) (k s) (crews s) (wantedYards s) (list s)
+  -- "a settled list holds exactly the tree's" wanted "yards within the drive", in yard order, each with its distance
   pub exact-drive : (s : Search) → Mem s (searches calls first) → OnPassing s → Settled s
-      → (seconds : ℕ) → ForDrive s seconds → DriveYards (arcs s) (code s) seconds (crews s) (yards s) (list s)
+      → (seconds : ℕ) → ForDrive s seconds → DriveYards (arcs s) (code s) seconds (crews s) (wantedYards s) (list s)
   -- "none of these measured a yard whose bound exceeds the last listed distance of a full list"
   pub measured-within : (s : Search) → Mem s (searches calls first) → OnPassing s → Settled s → ForYards s
       → Full s → (y b : ℕ) → Mem y (measured s) → BoundOf s y b → b ≤ lastDistance s
   -- "no yard whose bound exceeds the seconds is measured", whether the search has settled or is spent
   pub measured-drive : (s : Search) → Mem s (searches calls first) → OnPassing s → NotRefused s
       → (seconds : ℕ) → ForDrive s seconds → (y b : ℕ) → Mem y (measured s) → BoundOf s y b → b ≤ seconds
-  -- "every search on such a tree, not refused, with a limit of inner regions plus twice the yards or more has settled"
+  -- "every search on such a tree, not refused, with a limit of inner regions plus twice the" wanted "yards or more has
+  -- settled"
   pub ends : (s : Search) → Mem s (searches calls first) → OnPassing s → NotRefused s
-      → innerRegions s + 2 * length (yards s) ≤ limit s → Settled s
+      → innerRegions s + 2 * length (wantedYards s) ≤ limit s → Settled s
   -- "at the end the result area is what it held at first with all the settled lists written over its start in turn"
   pub results : areasAfter calls first .results ≡ overwritten (settledLists (searches calls first)) (first .results)
 
@@ -160,15 +171,15 @@ Demand3 = (calls : List Call) → OfBytes calls → (first : Areas) → Promised
 
 -- ---- beside it
 
--- what a settled list has on any tree: "true distances, distinct yards and yard order"; its yards are the tree's, and
--- no more than k, or within the seconds
+-- what a settled list has on any tree: "true distances, distinct yards and yard order"; its yards are wanted ones
+-- of the tree, and no more than k, or within the seconds
 pub record TrueList (s : Search) : Type 0 where
-  pub distances : (e : Element) → Mem e (list s) → AggregateLeast (arcs s) (code s) (e .yard) (crews s) (e .distance)
-  pub distinct : Distinct (map (λ (e : Element). e .yard) (list s))
+  pub distances : (e : Entry) → Mem e (list s) → AggregateLeast (arcs s) (code s) (e .yard) (crews s) (e .distance)
+  pub distinct : Distinct (map (λ (e : Entry). e .yard) (list s))
   pub sorted : Sorted (list s)
-  pub in-tree : (e : Element) → Mem e (list s) → Mem (e .yard) (yards s)
+  pub in-tree : (e : Entry) → Mem e (list s) → Mem (e .yard) (wantedYards s)
   pub few : ForYards s → length (list s) ≤ k s
-  pub inside : (seconds : ℕ) → ForDrive s seconds → (e : Element) → Mem e (list s) → e .distance ≤ seconds
+  pub inside : (seconds : ℕ) → ForDrive s seconds → (e : Entry) → Mem e (list s) → e .distance ≤ seconds
 
 -- a search, whether its tree passes or is one "that check would refuse by 9"
 pub record DecidedSearch (s : Search) : Type 0 where
@@ -184,10 +195,16 @@ pub record DecidedSearch (s : Search) : Type 0 where
   pub spent : NotRefused s → (Settled s → ⊥)
       → (found s .settled ≡ 0) × (found s .listed ≡ 0) × (found s .taken ≡ limit s)
   pub within : NotRefused s → found s .taken ≤ limit s
-  -- the returned number of measured yards is that of its state's; each is a yard of the tree and is measured once
+  -- the returned number of measured yards is that of its state's; each is a wanted yard of the tree and is
+  -- measured once
   pub counted : NotRefused s → found s .measured ≡ length (measured s)
   pub once : NotRefused s → Distinct (measured s)
-  pub in-tree : NotRefused s → (y : ℕ) → Mem y (measured s) → Mem y (yards s)
+  pub in-tree : NotRefused s → (y : ℕ) → Mem y (measured s) → Mem y (wantedYards s)
+  -- inner regions plus twice the yards of the tree, wanted or not, settle a search of any tree
+  pub ends : NotRefused s → innerRegions s + 2 * length (yards s) ≤ limit s → Settled s
+  -- "Regions .. without a wanted bit never enter the queue, so such a root settles empty with 0 taken."
+  pub unwanted-root : NotRefused s → T (not (shares (s .call .want .kinds) (regionAt (decode (s .call .tree) .regions) 0 .kinds)))
+      → found s ≡ record { refusal = 0; settled = 1; listed = 0; taken = 0; measured = 0 }
   -- a yard of the tree has exactly one bound
   pub bounded : NotRefused s → (y : ℕ) → Mem y (yards s) → (b : ℕ) × BoundOf s y b
   pub one-bound : NotRefused s → (y b c : ℕ) → BoundOf s y b → BoundOf s y c → b ≡ c
@@ -215,6 +232,22 @@ OwnYards = (road tree : List ℕ) → (p : Passes road tree) → Same (treeYards
 -- listed distance of a full list of k yards lists that list first
 abbrev pub SearchesAgree : Type 0
 SearchesAgree = (s d : Search) → Bytes (s .call .tree) → s .call .road ≡ d .call .road → s .call .tree ≡ d .call .tree
-    → code s ≡ code d → crews s ≡ crews d → OnPassing s → Settled s → Settled d
+    → s .call .want .kinds ≡ d .call .want .kinds → code s ≡ code d → crews s ≡ crews d → OnPassing s → Settled s → Settled d
     → ForYards s → Full s → ForDrive d (lastDistance s)
     → take (k s) (list d) ≡ list s
+
+-- two trees that differ at most in their version
+pub record Alike (s t : Tree) : Type 0 where
+  pub junctions : s .junctions ≡ t .junctions
+  pub yards : s .yards ≡ t .yards
+  pub landmarks : s .landmarks ≡ t .landmarks
+  pub regions : s .regions ≡ t .regions
+
+-- "Version 1 books are read with kind 255 throughout": a search of a version 1 tree is the search of a version 2 tree with
+-- 255 throughout; and every yard of a version 1 tree is wanted
+pub record VersionsAgree : Type 0 where
+  pub same : (c d : Call) (a : Areas) → c .road ≡ d .road → c .query ≡ d .query → c .want ≡ d .want
+      → treeRefusal (c .tree) ≡ 0 → treeRefusal (d .tree) ≡ 0 → Alike (decode (c .tree)) (decode (d .tree))
+      → (foundOn c a ≡ foundOn d a) × (callOn c a ≡ callOn d a)
+  pub every : (s : Search) → NotRefused s → s .call .want .kinds < 256 → version (s .call .tree) ≡ 1
+      → wantedYards s ≡ yards s

@@ -10,7 +10,7 @@ use lib.ListN.{length}
 use lib.Dec.{T, ltb, leb, leb→le, le→leb, not-T}
 use Rattle.book.proofs.Choosing.{choose-yes, choose-no}
 use Rattle.book.specs.Writing.{write}
-use Rattle.tree_layout.specs.Values.{Element}
+use Rattle.search_rules.specs.Order.{Entry}
 use Rattle.search_rules.specs.Rule.{nearest, inDrive, Rule as SearchRule}
 use Rattle.search_rules.specs.Held.{insert, hold, greatestHeld}
 use Rattle.search_rules.specs.Keeping.{keepBy, enoughBy}
@@ -59,16 +59,16 @@ module _ (rule : Rule) (kept : Kept) (ws : List ℕ) where
 -- ---- what is kept
 
 -- of a drive
-module _ (e : Element) (held : List Element) (s : ℕ) where
+module _ (e : Entry) (held : List Entry) (s : ℕ) where
   pub keep-far : s < e .distance → held ≡ keepBy (inDrive s) e held
   unfolding keepBy
   keep-far h = sym (choose-no (leb (e .distance) s) (insert e held) held (not-T (leb (e .distance) s) (λ t. omega (arith, leb→le (e .distance) s t))))
 
-  pub keep-near : (new : List Element) → e .distance ≤ s → new ≡ insert e held → new ≡ keepBy (inDrive s) e held
+  pub keep-near : (new : List Entry) → e .distance ≤ s → new ≡ insert e held → new ≡ keepBy (inDrive s) e held
   unfolding keepBy
   keep-near new h f = f ∙ sym (choose-yes (leb (e .distance) s) (insert e held) held (le→leb (e .distance) s h))
 
-module _ (rule : Rule) (kept : Kept) (e : Element) (list : List ℕ) where
+module _ (rule : Rule) (kept : Kept) (e : Entry) (list : List ℕ) where
   pub keep-nearest : (k : ℕ) (new : Held) (after : List ℕ) → rule ≡ Nearest k → heldOf new ≡ hold k e (heldOf (kept .held))
       → heldBy (ruleOf rule) (record { held = new; listed = kept .listed }) after ≡ keepBy (ruleOf rule) e (heldBy (ruleOf rule) kept list)
   unfolding keepBy
@@ -112,5 +112,5 @@ pub words-drive : (rule : Rule) (s : ℕ) (kept : Kept) (list : List ℕ) → ru
 words-drive rule s kept list e = rw e refl
 
 -- the words of the same yards
-pub words-so : (area out : List ℕ) (l m : List Element) → out ≡ write area 0 (words l) → l ≡ m → out ≡ write area 0 (words m)
+pub words-so : (area out : List ℕ) (l m : List Entry) → out ≡ write area 0 (words l) → l ≡ m → out ≡ write area 0 (words m)
 words-so area out l m e f = rw (← f) e

@@ -6,15 +6,14 @@ ghost use mathlib.Core.List.{List};
 ghost use Prim.Native.Nat.{ℕ, _+_, _*_, _≤_, _<_};
 ghost use lib.ListN.{length};
 ghost use Rattle.book.specs.Writing.{write};
-ghost use Rattle.tree_layout.specs.Reading.{element};
-ghost use Rattle.search_rules.specs.Order.{yardFirst};
+ghost use Rattle.search_rules.specs.Order.{entryOf, yardFirst};
 ghost use Rattle.search_rules.specs.Held.{hold, greatestHeld};
 ghost use Rattle.search_rules.specs.Run.{words};
 ghost use Rattle.search_held.specs.code.Pairs.{placeIn, pairs, inArrays, heldOf};
 
 // Whether one yard with its distance comes before another, in yard order.
 fn comes_first(distance: u32, yard: Junction, d: u32, y: Junction) -> bool
-    ensures { λ r. ⌜ r ≡ yardFirst (element distance (yard .number)) (element d (y .number)) ⌝ }
+    ensures { λ r. ⌜ r ≡ yardFirst (entryOf distance (yard .number)) (entryOf d (y .number)) ⌝ }
 {
     if distance < d {
         return true;
@@ -28,7 +27,7 @@ fn comes_first(distance: u32, yard: Junction, d: u32, y: Junction) -> bool
 // The place of the first of n pairs that a yard with its distance comes before, or n.
 fn place(yards: &[u16], distances: &[u32], n: usize, yard: Junction, distance: u32) -> usize
     requires { ⌜ (n ≤ length (now yards)) × (n ≤ length (now distances)) ⌝ }
-    ensures { λ r. ⌜ r ≡ placeIn (element distance (yard .number))
+    ensures { λ r. ⌜ r ≡ placeIn (entryOf distance (yard .number))
         (pairs (inArrays (now (yards .entry)) (now (distances .entry))) n 0) ⌝ }
 {
     let mut j: usize = 0;
@@ -46,7 +45,7 @@ fn place(yards: &[u16], distances: &[u32], n: usize, yard: Junction, distance: u
 // last one goes.
 pub fn hold(held: Held, k: usize, yard: Junction, distance: u32) -> Held
     requires { ⌜ (held .count ≤ k) × (k ≤ 64) ⌝ }
-    ensures held { λ r. ⌜ heldOf r ≡ hold k (element distance (yard .number)) (heldOf held) ⌝ }
+    ensures held { λ r. ⌜ heldOf r ≡ hold k (entryOf distance (yard .number)) (heldOf held) ⌝ }
     ensures room { λ r. ⌜ (r .count ≤ k) × (r .count ≤ held .count + 1) ⌝ }
 {
     let n = held.count;

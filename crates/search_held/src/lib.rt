@@ -9,7 +9,7 @@ ghost use mathlib.Core.List.{List, []};
 ghost use Prim.Native.Nat.{ℕ, _+_, _*_, _≤_, _<_};
 ghost use lib.ListN.{length};
 ghost use Rattle.book.specs.Writing.{write};
-ghost use Rattle.tree_layout.specs.Reading.{element};
+ghost use Rattle.search_rules.specs.Order.{entryOf};
 ghost use Rattle.search_rules.specs.Keeping.{keepBy, enoughBy};
 ghost use Rattle.search_rules.specs.Ceiling.{ceilingBy};
 ghost use Rattle.search_rules.specs.Run.{words};
@@ -22,11 +22,12 @@ pub enum Rule {
     InDrive(u32),
 }
 
-// What a search is asked: the aggregate's code, the limit of its steps, and its rule.
+// What a search is asked: the aggregate's code, the limit of its steps, its rule, and the wanted kinds.
 pub struct Asked {
     pub aggregate: u8,
     pub limit: u32,
     pub rule: Rule,
+    pub wanted: u8,
 }
 
 // Yards with their aggregate distances, in yard order, and their number.
@@ -61,7 +62,7 @@ pub fn none() -> Kept
 pub fn keep(kept: Kept, list: &mut [u32], rule: Rule, yard: Junction, distance: u32) -> Kept
     requires { ⌜ Fits (ruleOf rule) kept × (countBy (ruleOf rule) kept < 256) × (length (now list) ≡ 512) ⌝ }
     ensures held { λ r. ⌜ heldBy (ruleOf rule) r (now (list .exit))
-        ≡ keepBy (ruleOf rule) (element distance (yard .number)) (heldBy (ruleOf rule) kept (now (list .entry))) ⌝ }
+        ≡ keepBy (ruleOf rule) (entryOf distance (yard .number)) (heldBy (ruleOf rule) kept (now (list .entry))) ⌝ }
     ensures room { λ r. ⌜ Fits (ruleOf rule) r × (countBy (ruleOf rule) r ≤ countBy (ruleOf rule) kept + 1) ⌝ }
 {
     let so_far = kept.held;

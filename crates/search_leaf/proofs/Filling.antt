@@ -1,87 +1,74 @@
 -- Words set by yard, one element at a time. Assumes nothing.
 use mathlib.Core.Path.{_≡_, refl, sym, ap, _∙_}
 use mathlib.Core.List.{List, [], _∷_, List·Memᴰ as Mem, List·Memᴰ·head as head, List·Memᴰ·tail as tail, List·Memᴰ·not-nil}
-use Prim.Native.Nat.{ℕ, zero, suc, _+_, _*_, _-_, _≤_, _<_}
+use Prim.Native.Nat.{ℕ, _+_, _-_, _≤_, _<_}
 use native.Mathlib.Decide.{ℕ-discrete}
 use native.Mathlib.Nat.{sub-zero}
-use native.Mathlib.Omega.{arith}
 use lib.ListN.{length, getD, set, length-set}
 use lib.Seq.{getD-set-same, getD-set-other}
 use Rattle.tree_layout.specs.Values.{Element}
+use Rattle.tree_layout.specs.Sizes.{listSize}
 use Rattle.tree_layout.specs.Decode.{elementAt, readList}
+use Rattle.tree_layout.specs.Reading.{element}
 use Rattle.tree_layout.specs.code.Accessors.{listedAt}
 use Rattle.tree_layout.specs.declared.Listed.{Listed}
-use Rattle.tree_layout.proofs.Reading.{element-yard, list-turn, list-none}
-use Rattle.tree_layout.proofs.Decoding.{element-is, read-list-next}
+use Rattle.tree_layout.proofs.Sizes.{list-zero}
+use Rattle.tree_layout.proofs.Reading.{list-on, list-none}
+use Rattle.tree_layout.proofs.Accessing.{listed-is}
 use Rattle.search_bounds.specs.code.Rows.{rowsLower}
 use Rattle.search_bounds.specs.code.Measures.{longest}
 use Rattle.search_state.specs.code.State.{boundsAt}
 use Rattle.search_state.proofs.Values.{Values, store-f, store-bound}
 use Rattle.search_leaf.specs.code.Leaves.{Near, byYard, byYards, ShortList}
+use Rattle.search_leaf.proofs.Numbering.{listed-mem}
 
 -- ---- an element by its number
 
-element-mem : (p : List ℕ) (n at k : ℕ) → k < n → Mem (elementAt p (at + 6 * k)) (readList p n at)
-element-mem p zero at k h = absurd (omega arith)
-element-mem p (suc n) at zero h =
-    let z : at + 6 * 0 ≡ at = omega arith in
-    rw (z, read-list-next p n at) (head refl)
-element-mem p (suc n) at (suc k) h =
-    let z : at + 6 * suc k ≡ at + 6 + 6 * k = omega arith in
-    rw (z, read-list-next p n at) (tail (element-mem p n (at + 6) k (omega arith)))
-
 -- the yard of element number k is where the list's yards are
-pub yard-near : (p : List ℕ) (n k w : ℕ) (e : Listed) → k < n → e ≡ listedAt p k → Near w (readList p n 0) → e .yard .number < w
-yard-near p n k w e h q near =
-    let z : 0 + 6 * k ≡ 6 * k = omega arith in
-    rw (q, ← element-yard p (6 * k)) (near (elementAt p (6 * k)) (rw z at (element-mem p n 0 k h)))
+pub yard-near : (v : ℕ) (p : List ℕ) (n k w : ℕ) (e : Listed) → k < n → e ≡ listedAt v p k → Near w (readList v p n 0) → e .yard .number < w
+yard-near v p n k w e h q near = near (element (e .distance) (e .yard .number) (e .kinds)) (listed-mem v p n k h e q)
 
 -- what is computed of it is short
-module _ (table : List ℕ) (rows : ℕ) (crews p : List ℕ) (n k : ℕ) (e : Listed) (h : k < n) (q : e ≡ listedAt p k)
-    (short : ShortList table rows crews (readList p n 0)) where
-  is-mem : Mem (record { distance = e .distance; yard = e .yard .number }) (readList p n 0)
-  is-mem =
-      let z : 0 + 6 * k ≡ 6 * k = omega arith in
-      rw (q, ← element-is p (6 * k)) (rw z at (element-mem p n 0 k h))
-
+module _ (table : List ℕ) (rows : ℕ) (crews : List ℕ) (v : ℕ) (p : List ℕ) (n k : ℕ) (e : Listed) (h : k < n) (q : e ≡ listedAt v p k)
+    (short : ShortList table rows crews (readList v p n 0)) where
   pub distance-short : e .distance ≤ longest
-  distance-short = short .distances (record { distance = e .distance; yard = e .yard .number }) is-mem
+  distance-short = short .distances (element (e .distance) (e .yard .number) (e .kinds)) (listed-mem v p n k h e q)
 
   pub lower-short : (c : ℕ) → Mem c crews → rowsLower table rows (e .yard .number) c ≤ longest
-  lower-short = short .lowers (record { distance = e .distance; yard = e .yard .number }) is-mem
+  lower-short = short .lowers (element (e .distance) (e .yard .number) (e .kinds)) (listed-mem v p n k h e q)
 
 -- ---- with k of n elements done
 
 -- two values set by yard from the place on are those set from the start
-pub record Filled (g b : Element → ℕ) (p : List ℕ) (n k : ℕ) (ws₀ ws : List ℕ) : Type 0 where
+pub record Filled (g b : Element → ℕ) (v : ℕ) (p : List ℕ) (n k : ℕ) (ws₀ ws : List ℕ) : Type 0 where
   pub same : length ws ≡ length ws₀
-  pub rest : byYards g b (readList p (n - k) (6 * k)) ws ≡ byYards g b (readList p n 0) ws₀
+  pub rest : byYards g b (readList v p (n - k) (listSize v k)) ws ≡ byYards g b (readList v p n 0) ws₀
 
-module _ (g b : Element → ℕ) (p : List ℕ) (n : ℕ) where
-  pub filled-none : (ws : List ℕ) → Filled g b p n 0 ws ws
-  filled-none ws = record { same = refl; rest = simp sub-zero }
+module _ (g b : Element → ℕ) (v : ℕ) (p : List ℕ) (n : ℕ) where
+  pub filled-none : (ws : List ℕ) → Filled g b v p n 0 ws ws
+  filled-none ws = record { same = refl; rest = simp (sub-zero, list-zero) }
 
-  module _ (k : ℕ) (ws₀ ws : List ℕ) (f : Filled g b p n k ws₀ ws) where
-    pub filled-more : k < n → (e : Listed) → e ≡ listedAt p k → (x y i j : ℕ)
-        → x ≡ g (record { distance = e .distance; yard = e .yard .number }) → y ≡ b (record { distance = e .distance; yard = e .yard .number })
+  module _ (k : ℕ) (ws₀ ws : List ℕ) (f : Filled g b v p n k ws₀ ws) where
+    pub filled-more : k < n → (e : Listed) → e ≡ listedAt v p k → (x y i j : ℕ)
+        → x ≡ g (element (e .distance) (e .yard .number) (e .kinds)) → y ≡ b (element (e .distance) (e .yard .number) (e .kinds))
         → i ≡ e .yard .number → j ≡ boundsAt + e .yard .number
-        → Filled g b p n (k + 1) ws₀ (set (set ws i x) j y)
+        → Filled g b v p n (k + 1) ws₀ (set (set ws i x) j y)
     unfolding byYards
     filled-more h e q x y i j ex ey ei ej = record {
       same = length-set (set ws i x) j y ∙ (length-set ws i x ∙ f .same);
       rest = sym step ∙ f .rest;
     }
       where
-        is : elementAt p (6 * k) ≡ record { distance = e .distance; yard = e .yard .number }
-        is = element-is p (6 * k) ∙ rw q refl
+        is : elementAt v p (listSize v k) ≡ element (e .distance) (e .yard .number) (e .kinds)
+        is = sym (listed-is v p k e q)
 
-        step : byYards g b (readList p (n - k) (6 * k)) ws
-            ≡ byYards g b (readList p (n - (k + 1)) (6 * (k + 1))) (set (set ws i x) j y)
-        step = let z : 6 * (k + 1) ≡ 6 * k + 6 = omega arith in rw (z, ex, ey, ei, ej, list-turn p n k (6 * k) h, is) refl
+        step : byYards g b (readList v p (n - k) (listSize v k)) ws
+            ≡ byYards g b (readList v p (n - (k + 1)) (listSize v (k + 1))) (set (set ws i x) j y)
+        step = rw (ex, ey, ei, ej, list-on v p n k h, is) refl
 
-    pub filled-all : n ≤ k → ws ≡ byYards g b (readList p n 0) ws₀
+    pub filled-all : n ≤ k → ws ≡ byYards g b (readList v p n 0) ws₀
     unfolding byYards
-    filled-all h = rw (list-none p n k (6 * k) h) at (f .rest)
+    filled-all h = rw (list-none v p n k (listSize v k) h) at (f .rest)
 
 -- ---- the parts of values that are so set
 

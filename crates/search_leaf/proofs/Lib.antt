@@ -1,6 +1,8 @@
+pub mod Numbering
 pub mod Landmarks
 pub mod Leaving
 pub mod Filling
+pub mod Passing
 pub mod Scanning
 pub mod ElementsOpening
 pub mod Vectors

@@ -5,13 +5,14 @@ use mathlib.Core.List.{List, [], _∷_, _++_}
 use Prim.Native.Nat.{ℕ, _+_}
 use lib.ListN.{replicate}
 use Rattle.book.specs.Choose.{choose}
+use Rattle.kinds.specs.Kinds.{shares}
 use Rattle.tree_layout.specs.Values.{Element}
 use Rattle.search_rules.specs.Queue.{wordAt, pick}
 use Rattle.search_rules.specs.Step.{left}
-use Rattle.search_leaf.specs.code.Leaves.{byYard, byYards, elementWord, wordsOf}
+use Rattle.search_leaf.specs.code.Leaves.{byYard, byYards, passOver, fWord, elementWord, wordsOf}
 
 pair : ℕ → ℕ → Element
-pair distance yard = record { distance = distance; yard = yard }
+pair distance yard = record { distance = distance; yard = yard; kinds = yard + 1 }
 
 three : List Element
 three = pair 2 1 ∷ pair 9 3 ∷ pair 10 0 ∷ []
@@ -29,9 +30,19 @@ at-both = refl
 
 -- of two that tie the first leaves; a yard that has left has no word
 ties : pick (wordsOf (4 ∷ 6 ∷ 0 ∷ 4 ∷ []) (false ∷ false ∷ false ∷ false ∷ []) three) 3 ≡ 1
-unfolding pick wordAt wordsOf elementWord left choose three pair
+unfolding pick wordAt wordsOf elementWord fWord left choose three pair
 ties = refl
 
 gone : pick (wordsOf (4 ∷ 6 ∷ 0 ∷ 4 ∷ []) (false ∷ false ∷ false ∷ true ∷ []) three) 3 ≡ 2
-unfolding pick wordAt wordsOf elementWord left choose three pair
+unfolding pick wordAt wordsOf elementWord fWord left choose three pair
 gone = refl
+
+-- of yards 1, 3 and 0, whose kinds are 2, 4 and 1, those without a bit of 6 are marked, and have no word
+passed : passOver 6 three (4 ∷ 6 ∷ 0 ∷ 4 ∷ []) ≡ 4294967295 ∷ 6 ∷ 0 ∷ 4 ∷ []
+unfolding passOver shares choose three pair
+passed = refl
+
+unwanted : wordsOf (passOver 2 three (4 ∷ 6 ∷ 0 ∷ 4 ∷ [])) (false ∷ false ∷ false ∷ false ∷ []) three
+    ≡ 6 ∷ 18446744073709551615 ∷ 18446744073709551615 ∷ []
+unfolding wordsOf elementWord fWord left passOver shares choose three pair
+unwanted = refl

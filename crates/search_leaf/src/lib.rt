@@ -15,8 +15,8 @@ ghost use lib.ListN.{length};
 ghost use Rattle.tree_layout.specs.Decode.{junctionCount};
 ghost use Rattle.search_rules.specs.Books.{searchOf};
 ghost use Rattle.search_rules.specs.Step.{openLeaf};
-ghost use Rattle.tree_layout.specs.Values.{Element};
-ghost use Rattle.search_held.specs.code.Rules.{ruleOf};
+ghost use Rattle.search_rules.specs.Order.{Entry};
+ghost use Rattle.search_held.specs.code.Rules.{askingOf};
 ghost use Rattle.search_state.specs.code.State.{picksIn, fsIn, boundsIn, stateOf};
 ghost use Rattle.search_leaf.specs.code.Ready.{Ready, Readied, Cached, Leafed};
 
@@ -24,6 +24,12 @@ ghost use Rattle.search_leaf.specs.code.Ready.{Ready, Readied, Cached, L
 pub struct Next {
     pub place: usize,
     pub f: u64,
+}
+
+// The form of a leaf's list: the version of its book, and how many yards it has.
+pub struct Form {
+    pub version: u8,
+    pub yards: usize,
 }
 
 // Takes leaf r: "A leaf queues its next yard and, if any remain, itself". The words are the search's.
@@ -38,27 +44,27 @@ pub fn take(
     values: &mut [u32],
     r: Region,
 )
-    requires { ⌜ Readied (now tree) (asked .aggregate) (ruleOf (asked .rule))
+    requires { ⌜ Readied (now tree) (askingOf asked)
         (now crews) (now drives) (now places) (now table)
         × ((road : List ℕ)
-        → Ready road (now tree) (asked .aggregate) (ruleOf (asked .rule))
+        → Ready road (now tree) (askingOf asked)
         (now crews) (now drives) (now places) (now table)
-        → Leafed (searchOf road (now tree) (asked .aggregate) (ruleOf (asked .rule)) (now crews))
+        → Leafed (searchOf road (now tree) (askingOf asked) (now crews))
         (length (now places)) (junctionCount (now tree)) (now words) (now values) (r .number)) ⌝ }
     ensures cached { λ _. ⌜ ((road : List ℕ)
-        → Ready road (now (tree .entry)) (asked .aggregate) (ruleOf (asked .rule))
+        → Ready road (now (tree .entry)) (askingOf asked)
         (now (crews .entry)) (now (drives .entry)) (now (places .entry)) (now (table .entry))
-        → Cached (searchOf road (now (tree .entry)) (asked .aggregate) (ruleOf (asked .rule)) (now (crews .entry)))
+        → Cached (searchOf road (now (tree .entry)) (askingOf asked) (now (crews .entry)))
         (picksIn (length (now (places .entry))) (junctionCount (now (tree .entry))) (now (words .exit)))
         (fsIn (junctionCount (now (tree .entry))) (now (values .exit)))
         (boundsIn (junctionCount (now (tree .entry))) (now (values .exit)))) ⌝ }
     ensures state { λ _. ⌜ ((road : List ℕ)
-        → Ready road (now (tree .entry)) (asked .aggregate) (ruleOf (asked .rule))
+        → Ready road (now (tree .entry)) (askingOf asked)
         (now (crews .entry)) (now (drives .entry)) (now (places .entry)) (now (table .entry))
-        → (held : List Element) (measured : List ℕ) (count : ℕ)
+        → (held : List Entry) (measured : List ℕ) (count : ℕ)
         → stateOf (length (now (places .entry))) (junctionCount (now (tree .entry))) (now (words .exit))
         held measured count
-        ≡ openLeaf (searchOf road (now (tree .entry)) (asked .aggregate) (ruleOf (asked .rule)) (now (crews .entry)))
+        ≡ openLeaf (searchOf road (now (tree .entry)) (askingOf asked) (now (crews .entry)))
         (stateOf (length (now (places .entry))) (junctionCount (now (tree .entry))) (now (words .entry))
         held measured count) (r .number)) ⌝ }
 {

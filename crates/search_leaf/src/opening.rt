@@ -1,4 +1,5 @@
 // A leaf when first taken picks its landmark, and its yards get their f and their bounds.
+use crate::Form;
 use crate::elements;
 use crate::parts;
 use search_bounds::picks;
@@ -11,7 +12,7 @@ ghost use Prim.Native.Nat.{ℕ};
 ghost use lib.ListN.{length};
 ghost use Rattle.tree_layout.specs.Decode.{junctionCount};
 ghost use Rattle.search_rules.specs.Books.{searchOf};
-ghost use Rattle.search_held.specs.code.Rules.{ruleOf};
+ghost use Rattle.search_held.specs.code.Rules.{askingOf};
 ghost use Rattle.search_state.specs.code.State.{picksIn, fsIn, boundsIn};
 ghost use Rattle.search_leaf.specs.code.Ready.{Ready, Readied, Leafed, SameQueue, OpenLeaf};
 
@@ -27,19 +28,19 @@ fn open(
     values: &mut [u32],
     r: Region,
 ) -> usize
-    requires { ⌜ Readied (now tree) (asked .aggregate) (ruleOf (asked .rule))
+    requires { ⌜ Readied (now tree) (askingOf asked)
         (now crews) (now drives) (now places) (now table)
         × ((road : List ℕ)
-        → Ready road (now tree) (asked .aggregate) (ruleOf (asked .rule))
+        → Ready road (now tree) (askingOf asked)
         (now crews) (now drives) (now places) (now table)
-        → Leafed (searchOf road (now tree) (asked .aggregate) (ruleOf (asked .rule)) (now crews))
+        → Leafed (searchOf road (now tree) (askingOf asked) (now crews))
         (length (now places)) (junctionCount (now tree)) (now words) (now values) (r .number)) ⌝ }
     ensures same { λ _. ⌜ SameQueue (length (now (places .entry))) (junctionCount (now (tree .entry)))
         (now (words .entry)) (now (words .exit)) ⌝ }
     ensures open { λ p. ⌜ ((road : List ℕ)
-        → Ready road (now (tree .entry)) (asked .aggregate) (ruleOf (asked .rule))
+        → Ready road (now (tree .entry)) (askingOf asked)
         (now (crews .entry)) (now (drives .entry)) (now (places .entry)) (now (table .entry))
-        → OpenLeaf (searchOf road (now (tree .entry)) (asked .aggregate) (ruleOf (asked .rule)) (now (crews .entry)))
+        → OpenLeaf (searchOf road (now (tree .entry)) (askingOf asked) (now (crews .entry)))
         (picksIn (length (now (places .entry))) (junctionCount (now (tree .entry))) (now (words .exit)))
         (fsIn (junctionCount (now (tree .entry))) (now (values .exit)))
         (boundsIn (junctionCount (now (tree .entry))) (now (values .exit)))
@@ -62,6 +63,12 @@ fn open(
         asked.aggregate,
         values,
     );
+    let form = Form {
+        version: h.version,
+        yards,
+    };
+    let first = records::list(tree, landmarks::mark_place(tree, at, 0), yards);
+    elements::pass_over(first, form, asked.wanted, values);
     p
 }
 
@@ -77,19 +84,19 @@ pub fn landmark(
     values: &mut [u32],
     r: Region,
 ) -> usize
-    requires { ⌜ Readied (now tree) (asked .aggregate) (ruleOf (asked .rule))
+    requires { ⌜ Readied (now tree) (askingOf asked)
         (now crews) (now drives) (now places) (now table)
         × ((road : List ℕ)
-        → Ready road (now tree) (asked .aggregate) (ruleOf (asked .rule))
+        → Ready road (now tree) (askingOf asked)
         (now crews) (now drives) (now places) (now table)
-        → Leafed (searchOf road (now tree) (asked .aggregate) (ruleOf (asked .rule)) (now crews))
+        → Leafed (searchOf road (now tree) (askingOf asked) (now crews))
         (length (now places)) (junctionCount (now tree)) (now words) (now values) (r .number)) ⌝ }
     ensures same { λ _. ⌜ SameQueue (length (now (places .entry))) (junctionCount (now (tree .entry)))
         (now (words .entry)) (now (words .exit)) ⌝ }
     ensures open { λ p. ⌜ ((road : List ℕ)
-        → Ready road (now (tree .entry)) (asked .aggregate) (ruleOf (asked .rule))
+        → Ready road (now (tree .entry)) (askingOf asked)
         (now (crews .entry)) (now (drives .entry)) (now (places .entry)) (now (table .entry))
-        → OpenLeaf (searchOf road (now (tree .entry)) (asked .aggregate) (ruleOf (asked .rule)) (now (crews .entry)))
+        → OpenLeaf (searchOf road (now (tree .entry)) (askingOf asked) (now (crews .entry)))
         (picksIn (length (now (places .entry))) (junctionCount (now (tree .entry))) (now (words .exit)))
         (fsIn (junctionCount (now (tree .entry))) (now (values .exit)))
         (boundsIn (junctionCount (now (tree .entry))) (now (values .exit)))

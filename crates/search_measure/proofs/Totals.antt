@@ -9,8 +9,8 @@ use Rattle.book.proofs.Choosing.{choose-case}
 use Rattle.book.proofs.Lists.{mem-getD}
 use Rattle.road.specs.Dijkstra.{WalkState, dist}
 use Rattle.road.specs.code.Rows.{Rowed}
-use Rattle.tree_layout.specs.Decode.{decode}
-use Rattle.search_rules.specs.Rule.{Rule}
+use Rattle.search_rules.specs.Rule.{Asking}
+use Rattle.search_rules.specs.Instance.{Instance}
 use Rattle.search_rules.specs.Books.{searchOf}
 use Rattle.search_rules.specs.Bounds.{aggregate, total}
 use Rattle.search_rules.specs.Ceiling.{exceeds, Measured, exact, above, measuredBy}
@@ -21,10 +21,15 @@ use Rattle.search_measure.specs.Facts.{Measures}
 use Rattle.search_measure.specs.code.Cases.{Measurable, totalOf}
 
 -- it is the search's own
-pub total-of : (road tree : List ℕ) (code : ℕ) (goal : Rule) (crews : List ℕ) (y : ℕ) → totalOf road code crews y ≡ total (searchOf road tree code goal crews) y
+pub total-of : (road tree : List ℕ) (a : Asking) (crews : List ℕ) (y : ℕ) → totalOf road (a .code) crews y ≡ total (searchOf road tree a crews) y
 unfolding totalOf
-total-of road tree code goal crews y =
-    rw (search-of road tree code goal crews) (sym (total-is (record { code = code; rule = goal; crews = crews; tree = decode tree; d = dist road }) y))
+total-of road tree a crews y = sym (total-is (searchOf road tree a crews) y ∙ total-as)
+  where
+    i : Instance
+    i = searchOf road tree a crews
+
+    total-as : aggregate (i .code) (λ q. i .d q y) (i .crews) ≡ aggregate (a .code) (λ q. dist road q y) crews
+    total-as = ap (λ (x : Instance). aggregate (x .code) (λ q. x .d q y) (x .crews)) (search-of road tree a crews)
 
 -- two road books with the same rows for the crews have the same
 pub same-total : (road road′ crews drives : List ℕ) (code y : ℕ) → Rowed road crews drives → Rowed road′ crews drives → y < 1024

@@ -1,26 +1,37 @@
 -- A search of a road book and a tree book that the tests accept is well formed, and sound if the tree's numbers are true. Assumes nothing.
-use mathlib.Core.Path.{_≡_, sym, _∙_}
-use mathlib.Core.List.{List, List·Memᴰ as Mem}
+use mathlib.Core.Path.{_≡_, refl, sym, ap, _∙_}
+use mathlib.Core.List.{List, [], _∷_, List·Memᴰ as Mem}
 use Prim.Native.Nat.{ℕ, _≤_, _<_}
 use native.Mathlib.Omega.{arith}
-use lib.ListN.{length}
+use lib.ListN.{length, getD}
 use Rattle.road_layout.specs.Road.{junctions}
 use Rattle.road.specs.Dijkstra.{dist}
 use Rattle.road.proofs.Theorems.{metric, symmetric}
-use Rattle.tree_layout.specs.Values.{Element, Mark, regionAt}
+use Rattle.kinds.specs.Kinds.{shares}
+use Rattle.tree_layout.specs.Values.{Element, Mark, noMark, regionAt}
 use Rattle.tree_layout.specs.Decode.{decode, junctionCount}
 use Rattle.tree_layout.proofs.Places.{decode-junctions}
+use Rattle.tree_layout.proofs.Formed.{at-mem}
+use Rattle.tree_leaf.specs.Leaf.{firstList}
 use Rattle.tree.specs.Shape.{treeRefusal}
 use Rattle.tree.specs.Yards.{yardsBelow}
-use Rattle.search_rules.specs.Rule.{Rule}
+use Rattle.tree.proofs.YardKinds.{accepted-kinds}
+use Rattle.search_rules.specs.Rule.{Asking}
 use Rattle.search_rules.specs.Instance.{Instance}
 use Rattle.search_rules.specs.Books.{searchOf, Passed}
 use Rattle.search_rules.specs.Facts.{WellFormed, Triangle, Symmetric, SoundInstance}
-use Rattle.search_rules.proofs.Trees.{Accepted, accepted-tree, well-formed, truth-of}
+use Rattle.search_rules.proofs.Trees.{Accepted, TrueKinds, accepted-tree, well-formed, truth-of}
+use Rattle.search_rules.proofs.Equations.{wants-of}
 
-module _ (road tree : List ℕ) (code : ℕ) (goal : Rule) (crews : List ℕ) (p : Passed road tree crews) where
+-- the first list is that of the first landmark
+first-is : (ms : List Mark) → 0 < length ms → firstList ms ≡ getD ms 0 noMark .list
+unfolding firstList
+first-is [] h = absurd (omega arith)
+first-is (m ∷ ms) h = refl
+
+module _ (road tree : List ℕ) (a : Asking) (crews : List ℕ) (p : Passed road tree crews) where
   abbrev i : Instance
-  i = searchOf road tree code goal crews
+  i = searchOf road tree a crews
 
   pub count : decode tree .junctions ≡ junctions road
   count = decode-junctions tree ∙ sym (p .counts)
@@ -42,13 +53,29 @@ module _ (road tree : List ℕ) (code : ℕ) (goal : Rule) (crews : List ℕ) (p
   unfolding searchOf
   symmetric-of = record { turn = λ u v a b. symmetric road (p .roads .layout) u v (omega (arith, count)) (omega (arith, count)) }
 
-  -- "a stored distance, least or greatest isn't the true one" of none: then the search is sound
+  -- "a stored distance, least or greatest isn't the true one" of none, nor a kind: then the search is sound
   pub sound-of : ((r : ℕ) → r < length (decode tree .regions) → regionAt (decode tree .regions) r .children ≡ 0 → (m : Mark)
       → Mem m (regionAt (decode tree .regions) r .marks) → (e : Element) → Mem e (m .list)
       → e .distance ≡ dist road (m .place) (e .yard))
       → ((r : ℕ) → r < length (decode tree .regions) → (m : Mark) → Mem m (regionAt (decode tree .regions) r .marks) → (y : ℕ)
       → Mem y (yardsBelow (decode tree .regions) r)
       → (m .least ≤ dist road (m .place) y) × (dist road (m .place) y ≤ m .greatest))
+      → TrueKinds i
       → SoundInstance i
   unfolding searchOf
-  sound-of lists encloses = record { well = well-of; metric = metric-of; symmetric = symmetric-of; truth = truth-of i accepted-of lists encloses }
+  sound-of lists encloses kinds = record {
+    well = well-of;
+    metric = metric-of;
+    symmetric = symmetric-of;
+    truth = truth-of i accepted-of lists encloses kinds;
+  }
+
+  -- "a yard is wanted if its byte in its leaf's first list shares a bit"
+  pub wants-listed : (r : ℕ) → r < length (decode tree .regions) → regionAt (decode tree .regions) r .children ≡ 0 → (e : Element)
+      → Mem e (getD (regionAt (decode tree .regions) r .marks) 0 noMark .list) → i .wants (e .yard) ≡ shares (a .wanted) (e .kinds)
+  unfolding searchOf
+  wants-listed r h c e k =
+      let t = accepted-of in
+      let some : 0 < length (regionAt (decode tree .regions) r .marks) = omega (arith, t .landmarks, t .formed (regionAt (decode tree .regions) r) (at-mem (decode tree .regions) r h) .count) in
+      wants-of road tree a crews (e .yard)
+      ∙ ap (shares (a .wanted)) (accepted-kinds tree (p .shaped) r h c e (rw (first-is (regionAt (decode tree .regions) r .marks) some) k))

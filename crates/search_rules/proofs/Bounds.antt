@@ -91,11 +91,22 @@ module _ (i : Instance) where
   unfolding f yardBound
   f-le m e = over-mono _ _ (λ q k. omega arith)
 
+  -- ---- yards below a region
+
+  -- the region may enter the queue, and the yard is wanted
+  pub below-admitted : {r y : ℕ} → Below i r y → T (i .admits r)
+  below-admitted (inside m a l e k w) = a
+  below-admitted (under c a l e b) = a
+
+  pub below-wanted : {r y : ℕ} → Below i r y → T (i .wants y)
+  below-wanted (inside m a l e k w) = w
+  below-wanted (under c a l e b) = below-wanted b
+
   module _ (shape : Shape i) where
     -- a yard is a junction
     pub below-range : {r y : ℕ} → Below i r y → y < i .tree .junctions
-    below-range (inside {r = r} m l e k) = rw (← k .names) (shape .yards r m (k .element) l e (k .mem))
-    below-range (under c l e b) = below-range b
+    below-range (inside {r = r} m a l e k w) = rw (← k .names) (shape .yards r m (k .element) l e (k .mem))
+    below-range (under c a l e b) = below-range b
 
     module _ (metric : Triangle i) (symmetric : Symmetric i) where
       -- two distances from one junction differ by no more than the distance between

@@ -7,9 +7,8 @@ use native.Mathlib.Omega.{arith}
 use lib.ListN.{length, take}
 use lib.Dec.{T, not-T, leb, eqb, ltb→lt, leb→le, eqb→eq}
 use Rattle.book.proofs.Choosing.{choose-case, choose-no}
-use Rattle.tree_layout.specs.Values.{Element}
 use Rattle.search_rules.specs.Rule.{nearest, inDrive}
-use Rattle.search_rules.specs.Order.{yardFirst}
+use Rattle.search_rules.specs.Order.{Entry, yardFirst}
 use Rattle.search_rules.specs.Held.{insert, hold, greatestHeld}
 use Rattle.search_rules.specs.Keeping.{keepBy}
 use Rattle.search_rules.specs.Ceiling.{exceeds, ceilingBy, AboveKept}
@@ -17,12 +16,12 @@ use Rattle.search_rules.proofs.Order.{first-before}
 use Rattle.search_rules.proofs.Held.{before-le, greatestHeld-le}
 
 -- a yard further than all of a list goes after its last
-insert-past : (e : Element) (l : List Element) → ((h : Element) → Mem h l → h .distance < e .distance) → take (length l) (insert e l) ≡ l
+insert-past : (e : Entry) (l : List Entry) → ((h : Entry) → Mem h l → h .distance < e .distance) → take (length l) (insert e l) ≡ l
 unfolding insert
 insert-past e [] far = refl
 insert-past e (g ∷ l) far = let rest = insert-past e l (λ h m. far h (tail m)) in
-    choose-case (λ (x : List Element). take (length (g ∷ l)) x ≡ g ∷ l) (yardFirst e g)
-    (λ t. absurd (omega (arith, before-le (first-before e g t), far g (head refl)))) (λ t. ap (λ (x : List Element). g ∷ x) rest)
+    choose-case (λ (x : List Entry). take (length (g ∷ l)) x ≡ g ∷ l) (yardFirst e g)
+    (λ t. absurd (omega (arith, before-le (first-before e g t), far g (head refl)))) (λ t. ap (λ (x : List Entry). g ∷ x) rest)
 
 pub above-kept : AboveKept
 unfolding exceeds ceilingBy keepBy hold

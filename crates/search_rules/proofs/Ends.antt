@@ -1,4 +1,5 @@
--- A step for each inner region and two for each yard are enough to settle a search, whatever the tree's numbers say. Assumes nothing.
+-- A step for each inner region and for each leaf that is taken in vain, and two for each yard, are enough to settle a search, whatever the tree's numbers say.
+-- Assumes nothing.
 use mathlib.Core.Path.{_≡_, refl, ap, _∙_}
 use mathlib.Core.Logic.{_⊎_, inl, inr, _≢_}
 use mathlib.Core.Bool.{Bool, true, false, not, _&&_, _||_}
@@ -10,20 +11,22 @@ use native.Mathlib.Omega.{arith}
 use lib.ListN.{length, set}
 use lib.Dec.{T, eqb, T-not, not-T}
 use Rattle.book.specs.Choose.{choose}
-use Rattle.book.proofs.Choosing.{choose-case, choose-yes, choose-no}
-use Rattle.book.proofs.Lists.{or-left, or-right}
+use Rattle.book.proofs.Choosing.{choose-case, choose-yes, choose-no, and-left, and-right, and-both}
+use Rattle.book.proofs.Lists.{or-left, or-right, or-cases}
 use Rattle.tree_layout.specs.Values.{Element, Mark, Region, regionAt}
 use Rattle.tree.specs.Yards.{numbers, sumFrom, oneInner, inners}
 use Rattle.tree.proofs.Counts.{numbers-none, numbers-more, numbers-mem, sum-none, sum-more, one-inner, inners-sum}
 use Rattle.search_rules.specs.Instance.{Instance, size, children, marks, leaf}
 use Rattle.search_rules.specs.Bounds.{chosen, yardBound}
 use Rattle.search_rules.specs.Queue.{unqueued}
-use Rattle.search_rules.specs.Step.{SearchState, left, againKey, nextF, openInner, queueNext, takeYard, step, settled, startSearch}
+use Rattle.search_rules.specs.Step.{SearchState, left, passed, openInner, queueNext, closeLeaf, takeYard, step, settled, startSearch}
 use Rattle.search_rules.specs.Run.{Outcome, advance, run}
-use Rattle.search_rules.specs.Facts.{Below, inside, WellFormed}
-use Rattle.search_rules.proofs.Queue.{seen, key, has, has-key, Entered, queued-child, kept}
+use Rattle.search_rules.specs.Facts.{Below, WellFormed}
+use Rattle.search_rules.specs.Theorems.{barren, barrenFrom, barrens}
+use Rattle.search_rules.proofs.Queue.{key, has, has-key, Entered, queued-child, kept, stays-left, stays-wanted}
+use Rattle.search_rules.proofs.Barren.{barren-none}
 use Rattle.search_rules.proofs.Stepping.{step-case}
-use Rattle.search_rules.proofs.Kept.{Kept, left-not, left-new, region-range, InnerKey, child, taken, same, inner-key, inner-first, fresh-child, mark-mem}
+use Rattle.search_rules.proofs.Kept.{Kept, left-not, left-new, region-range, InnerKey, child, taken, same, inner-key, inner-first, fresh-child, leaf-own, closed-key}
 use Rattle.search_rules.proofs.Kept.{yard-fits, leaf-yard-key, leaf-region-key, taken-yard-key, region-case, run-kept}
 
 -- How many numbers of a list pass a test.
@@ -54,12 +57,22 @@ module _ (p q : ℕ → Bool) (sub : (x : ℕ) → T (q x) → T (p x)) where
   tally-less u (x ∷ l) (head e) s t = omega (arith, choose-no {A = ℕ} (q x) 1 0 (rw e at t), choose-yes {A = ℕ} (p x) 1 0 (rw e at s), tally-le l)
   tally-less u (x ∷ l) (tail k) s t = omega (arith, one-le x, tally-less u l k s t)
 
+-- of two tests no more pass one or the other than pass each
+tally-or : (p q : ℕ → Bool) (l : List ℕ) → tally (λ x. p x || q x) l ≤ tally p l + tally q l
+unfolding tally
+tally-or p q [] = omega arith
+tally-or p q (x ∷ l) = omega (arith, one (p x) (q x), tally-or p q l)
+  where
+    one : (a b : Bool) → _≤_ (choose (a || b) 1 0) (choose a 1 0 + choose b 1 0)
+    one true b = rw (choose-yes {A = ℕ} true 1 0 tt) (omega arith)
+    one false b = omega arith
+
 -- ---- what is left to do
 
 module _ (i : Instance) where
-  -- how many inner regions there are, counted by their numbers
-  innerCount : ℕ
-  innerCount = tally (λ r. not (leaf i r)) (numbers (size i) 0)
+  -- what is opened once: an inner region, or a leaf that is taken in vain
+  opens : ℕ → Bool
+  opens r = not (leaf i r) || barren i r
 
   inner-sum : (n j : ℕ) → tally (λ r. not (leaf i r)) (numbers n j) ≡ sumFrom (i .tree .regions) oneInner n j
   unfolding tally leaf
@@ -72,13 +85,22 @@ module _ (i : Instance) where
       one : _≡_ {A = ℕ} (choose (not (leaf i j)) 1 0) (choose (eqb (regionAt (i .tree .regions) j .children) 0) 0 1)
       one = flip (eqb (regionAt (i .tree .regions) j .children) 0)
 
-  inner-count : innerCount ≡ inners (i .tree)
-  unfolding innerCount size
+  inner-count : tally (λ r. not (leaf i r)) (numbers (size i) 0) ≡ inners (i .tree)
+  unfolding size
   inner-count = inner-sum (length (i .tree .regions)) 0 ∙ rw inners-sum refl
 
-  -- An inner region that has not been taken.
+  barren-sum : (n j : ℕ) → tally (barren i) (numbers n j) ≡ barrenFrom i n j
+  unfolding tally barrenFrom
+  barren-sum zero j = rw numbers-none refl
+  barren-sum (suc n) j = rw (numbers-more, barren-sum n (suc j)) refl
+
+  opens-count : tally opens (numbers (size i) 0) ≤ inners (i .tree) + barrens i
+  unfolding opens barrens
+  opens-count = omega (arith, inner-count, barren-sum (size i) 0, tally-or (λ r. not (leaf i r)) (barren i) (numbers (size i) 0))
+
+  -- One of these that has not been taken.
   unopened : SearchState → ℕ → Bool
-  unopened st r = not (leaf i r) && (has (key (st .regionKeys) r) || not (has (key (st .firsts) r)))
+  unopened st r = opens r && (has (key (st .regionKeys) r) || not (has (key (st .firsts) r)))
 
   -- A yard that has not left its leaf.
   unleft : SearchState → ℕ → Bool
@@ -91,38 +113,44 @@ module _ (i : Instance) where
   work : List ℕ → SearchState → ℕ
   work ys st = tally (unopened st) (numbers (size i) 0) + tally (unleft st) ys + tally (unmeasured st) ys
 
-  work-most : (ys : List ℕ) (st : SearchState) → work ys st ≤ innerCount + 2 * length ys
-  unfolding work innerCount unopened
-  work-most ys st = omega (arith, inner, tally-length (unleft st) ys, tally-length (unmeasured st) ys)
-    where
-      first : (a b : Bool) → T (a && b) → T a
-      first true b t = tt
-      first false b t = absurd t
+  work-most : (ys : List ℕ) (st : SearchState) → work ys st ≤ inners (i .tree) + barrens i + 2 * length ys
+  unfolding work unopened
+  work-most ys st = omega (
+    arith,
+    opens-count,
+    tally-le opens (unopened st) (λ r t. and-left (opens r) _ t) (numbers (size i) 0),
+    tally-length (unleft st) ys,
+    tally-length (unmeasured st) ys,
+  )
 
-      inner : tally (unopened st) (numbers (size i) 0) ≤ tally (λ r. not (leaf i r)) (numbers (size i) 0)
-      inner = tally-le (λ r. not (leaf i r)) (unopened st) (λ r t. first (not (leaf i r)) (has (key (st .regionKeys) r)
-          || not (has (key (st .firsts) r))) t) (numbers (size i) 0)
+  -- an inner region is opened once; a leaf with a wanted yard is not
+  inner-opens : (r : ℕ) → T (not (leaf i r)) → T (opens r)
+  unfolding opens
+  inner-opens r t = or-left (not (leaf i r)) _ t
+
+  barren-opens : (r : ℕ) → T (barren i r) → T (opens r)
+  unfolding opens
+  barren-opens r t = or-right (not (leaf i r)) _ t
+
+  leaf-opens : (r : ℕ) → T (leaf i r) → T (opens r) → T (barren i r)
+  unfolding opens
+  leaf-opens r l t = go (or-cases (not (leaf i r)) _ t)
+    where
+      go : T (not (leaf i r)) ⊎ T (barren i r) → T (barren i r)
+      go (inl n) = absurd (T-not (leaf i r) n l)
+      go (inr b) = b
 
   module _ (well : WellFormed i) (ys : List ℕ) (all : (y : ℕ) → Below i 0 y → Mem y ys) (st : SearchState) (was : Kept i st) where
     -- the tests, of their parts
-    not-leaf : (l k f : Bool) → T (not l && (k || not f)) → T (not l)
-    not-leaf true k f t = absurd t
-    not-leaf false k f t = tt
+    fresh-open : (o k f : Bool) → T o → T (not f) → T (o && (k || not f))
+    fresh-open o k f s t = and-both o _ s (or-right k _ t)
 
-    fresh-open : (l k f : Bool) → T (not l) → T (not f) → T (not l && (k || not f))
-    fresh-open true k f s t = absurd s
-    fresh-open false true f s t = tt
-    fresh-open false false f s t = t
+    queued-open : (o k f : Bool) → T o → T k → T (o && (k || not f))
+    queued-open o k f s t = and-both o _ s (or-left k _ t)
 
-    queued-open : (l k f : Bool) → T (not l) → T k → T (not l && (k || not f))
-    queued-open true k f s t = absurd s
-    queued-open false true f s t = tt
-    queued-open false false f s t = absurd t
-
-    taken-closed : (l f : Bool) → T f → T (not (not l && (false || not f)))
-    taken-closed true f t = tt
-    taken-closed false true t = tt
-    taken-closed false false t = absurd t
+    taken-closed : (o f : Bool) → T f → T (not (o && (false || not f)))
+    taken-closed o true t = not-T (o && false) (λ s. and-right o false s)
+    taken-closed o false t = absurd t
 
     or-more : (a c b : Bool) → (T c → T a) → T (c || b) → T (a || b)
     or-more true c b f t = tt
@@ -139,7 +167,7 @@ module _ (i : Instance) where
           region-range i well st was r
               at,
         )))
-            (queued-open (leaf i r) (has (key (st .regionKeys) r)) (has (key (st .firsts) r)) inner (has-key at)) closed,
+            (queued-open (opens r) (has (key (st .regionKeys) r)) (has (key (st .firsts) r)) (inner-opens r inner) (has-key at)) closed,
       )
         where
           new : SearchState
@@ -150,9 +178,9 @@ module _ (i : Instance) where
           first-r (queued-child k) = tt
           first-r (kept n e) = rw e (was .has-first r a at)
 
-          closed-at : {o : Option ℕ} → InnerKey i well st was r a at r o → T (not (not (leaf i r) && (has o || not (has (key (new .firsts) r)))))
+          closed-at : {o : Option ℕ} → InnerKey i well st was r a at r o → T (not (opens r && (has o || not (has (key (new .firsts) r)))))
           closed-at (child k) = absurd (omega (arith, well .shape .rise r r k))
-          closed-at (taken p) = taken-closed (leaf i r) (has (key (new .firsts) r)) (first-r (inner-first i well st was r a at r))
+          closed-at (taken p) = taken-closed (opens r) (has (key (new .firsts) r)) (first-r (inner-first i well st was r a at r))
           closed-at (same p n q) = absurd (p refl)
 
           closed : T (not (unopened new r))
@@ -163,13 +191,13 @@ module _ (i : Instance) where
           first-at v s (kept n e) = rw (e, s) (was .has-first r a at)
 
           by-key : (v : ℕ) {o p : Option ℕ} → InnerKey i well st was r a at v o → Entered i a (children i r) (st .firsts) v p
-              → T (not (leaf i v) && (has o || not (has p))) → T (unopened st v)
-          by-key v {p = p} (child k) x t = fresh-open (leaf i v) (has (key (st .regionKeys) v)) (has (key (st .firsts) v)) (not-leaf (leaf i v) true (has p) t)
+              → T (opens v && (has o || not (has p))) → T (unopened st v)
+          by-key v {p = p} (child k) x t = fresh-open (opens v) (has (key (st .regionKeys) v)) (has (key (st .firsts) v)) (and-left (opens v) _ t)
               (not-T (has (key (st .firsts) v)) (fresh-child i well st was r a at v k))
-          by-key v {p = p} (taken s) x t = absurd (T-not (not (leaf i v) && (false || not (has p))) (taken-closed (leaf i v) (has p) (first-at v s x)) t)
+          by-key v {p = p} (taken s) x t = absurd (T-not (opens v && (false || not (has p))) (taken-closed (opens v) (has p) (first-at v s x)) t)
           by-key v {o} {p} (same s n q) x t = go x t
             where
-              go : {p : Option ℕ} → Entered i a (children i r) (st .firsts) v p → T (not (leaf i v) && (has o || not (has p))) → T (unopened st v)
+              go : {p : Option ℕ} → Entered i a (children i r) (st .firsts) v p → T (opens v && (has o || not (has p))) → T (unopened st v)
               go (queued-child k) t = absurd (n k)
               go (kept m e) t = rw (q, e) at t
 
@@ -177,13 +205,13 @@ module _ (i : Instance) where
           sub v t = by-key v (inner-key i well st was r a at v) (inner-first i well st was r a at v) t
 
       leaf-less : (is-leaf : T (leaf i r)) (first : ℕ) → key (st .firsts) r ≡ some first → (e : Element) → (mem : Mem e (chosen i r .list))
-          → T (not (left (st .gone) (e .yard)))
+          → T (not (passed i (st .gone) (e .yard)))
           → work ys (queueNext i st r first (chosen i r) e) < work ys st
       unfolding work unopened unleft unmeasured queueNext
       leaf-less is-leaf first first-is e mem stays = omega (
         arith,
         tally-le (unopened st) (unopened new) opened (numbers (size i) 0),
-        tally-less (unleft st) (unleft new) (left-not (st .gone) y fits) y ys mine stays marked,
+        tally-less (unleft st) (unleft new) (left-not (st .gone) y fits) y ys mine here marked,
         tally-le (unmeasured st) (unmeasured new) measured ys,
       )
         where
@@ -206,7 +234,10 @@ module _ (i : Instance) where
           fits = rw (was .sizes .gone) below-n
 
           mine : Mem y ys
-          mine = all y (was .regions-in r a y at (inside m is-leaf (mark-mem i well st was r a at is-leaf) (record { element = e; mem = mem; names = refl })))
+          mine = all y (was .regions-in r a y at (leaf-own i well st was r a at is-leaf first first-is e mem stays))
+
+          here : T (not (left (st .gone) y))
+          here = stays-left i (st .gone) y stays
 
           marked : T (not (not (left gone′ y)))
           marked = twice (left gone′ y) (left-new (st .gone) y fits)
@@ -215,17 +246,48 @@ module _ (i : Instance) where
               twice true t = tt
               twice false t = absurd t
 
+          -- the leaf has a wanted yard
+          fertile : T (opens r) → ⊥
+          fertile t = barren-none i r (leaf-opens r is-leaf t) e mem (stays-wanted i (st .gone) y stays)
+
           opened : (v : ℕ) → T (unopened new v) → T (unopened st v)
-          opened v t = leaf-region-key i well st was r a at is-leaf first first-is e mem stays (λ o. T (not (leaf i v)
+          opened v t = leaf-region-key i well st was r a at is-leaf first first-is e mem stays (λ o. T (opens v
               && (has o || not (has (key (st .firsts) v)))) → T (unopened st v)) v
-              (λ p s. absurd (T-not (leaf i v) (not-leaf (leaf i v) (has (seen (againKey first (nextF i gone′ m)))) (has (key (st .firsts) v)) s) (rw p
-              is-leaf)))
+              (λ p s. absurd (fertile (rw p at (and-left (opens v) _ s))))
               (λ p s. s) t
 
           measured : (v : ℕ) → T (unmeasured new v) → T (unmeasured st v)
           measured v t = leaf-yard-key i well st was r a at is-leaf first first-is e mem stays (λ o. T (not (left gone′ v) || has o) → T (unmeasured st v)) v
-              (λ p s. or-left (not (left (st .gone) v)) (has (key (st .yardKeys) v)) (rw p stays))
+              (λ p s. or-left (not (left (st .gone) v)) (has (key (st .yardKeys) v)) (rw p here))
               (λ p s. or-more (not (left (st .gone) v)) (not (left gone′ v)) (has (key (st .yardKeys) v)) (left-not (st .gone) y fits v) s) t
+
+      closed-less : T (barren i r) → work ys (closeLeaf i st r) < work ys st
+      unfolding work unopened unleft unmeasured closeLeaf
+      closed-less t = omega (
+        arith,
+        tally-less (unopened st) (unopened new) sub r (numbers (size i) 0) (numbers-mem (size i) 0 r (omega arith) (omega (
+          arith,
+          region-range i well st was r
+              at,
+        )))
+            (queued-open (opens r) (has (key (st .regionKeys) r)) (has (key (st .firsts) r)) (barren-opens r t) (has-key at)) (shut r refl),
+      )
+        where
+          new : SearchState
+          new = closeLeaf i st r
+
+          drop : (P : Option ℕ → Type 0) (v : ℕ) → (v ≡ r → P none) → (v ≢ r → P (key (st .regionKeys) v)) → P (key (set (st .regionKeys) r unqueued) v)
+          drop = closed-key i well st was r a at
+
+          shut : (v : ℕ) → v ≡ r → T (not (unopened new v))
+          shut v p = drop (λ o. T (not (opens v && (has o || not (has (key (st .firsts) v)))))) v
+              (λ q. taken-closed (opens v) (has (key (st .firsts) v)) (rw p (was .has-first r a at))) (λ q. absurd (q p))
+
+          sub : (v : ℕ) → T (unopened new v) → T (unopened st v)
+          sub v = drop (λ o. T (opens v && (has o || not (has (key (st .firsts) v)))) → T (unopened st v)) v
+              (λ p u. absurd (T-not (opens v && (false || not (has (key (st .firsts) v)))) (taken-closed (opens v) (has (key (st .firsts) v)) (rw p (was .has-first r a
+              at))) u))
+              (λ p u. u)
 
     yard-less : (y b : ℕ) → key (st .yardKeys) y ≡ some b → work ys (takeYard i st y) < work ys st
     unfolding work unopened unleft unmeasured takeYard
@@ -260,27 +322,27 @@ module _ (i : Instance) where
     step-less : T (not (settled i st)) → work ys (step i st) < work ys st
     step-less u = step-case i st (was .sizes) (λ new. work ys new < work ys st) u
         (λ r a at due. region-case i well st was (λ new. work ys new < work ys st) r a at (λ l. inner-less r a at l) (λ l first q e k n h. leaf-less r a at l
-        first q e k n))
+        first q e k n) (λ t. closed-less r a at t))
         (λ y b at due. yard-less y b at)
 
   module _ (well : WellFormed i) (ys : List ℕ) (all : (y : ℕ) → Below i 0 y → Mem y ys) where
-    so-far : (limit : ℕ) → T (settled i (run i limit .state)) ⊎ (work ys (run i limit .state) + limit ≤ innerCount + 2 * length ys)
+    so-far : (limit : ℕ) → T (settled i (run i limit .state)) ⊎ (work ys (run i limit .state) + limit ≤ inners (i .tree) + barrens i + 2 * length ys)
     unfolding run advance
     so-far zero = inr (omega (arith, work-most ys (startSearch i)))
-    so-far (suc limit) = choose-case (λ (o : Outcome). T (settled i (o .state)) ⊎ (work ys (o .state) + suc limit ≤ innerCount + 2 * length ys)) (settled i
+    so-far (suc limit) = choose-case (λ (o : Outcome). T (settled i (o .state)) ⊎ (work ys (o .state) + suc limit ≤ inners (i .tree) + barrens i + 2 * length ys)) (settled i
         (run i limit .state))
         (λ t. inl t) (λ t. on t (so-far limit))
       where
         st : SearchState
         st = run i limit .state
 
-        on : T (not (settled i st)) → T (settled i st) ⊎ (work ys st + limit ≤ innerCount + 2 * length ys)
-            → T (settled i (step i st)) ⊎ (work ys (step i st) + suc limit ≤ innerCount + 2 * length ys)
+        on : T (not (settled i st)) → T (settled i st) ⊎ (work ys st + limit ≤ inners (i .tree) + barrens i + 2 * length ys)
+            → T (settled i (step i st)) ⊎ (work ys (step i st) + suc limit ≤ inners (i .tree) + barrens i + 2 * length ys)
         on t (inl s) = absurd (T-not (settled i st) t s)
         on t (inr h) = inr (omega (arith, step-less well ys all st (run-kept i well limit) t))
 
-    -- a limit of one step for each inner region and two for each yard settles
-    pub enough : (limit : ℕ) → inners (i .tree) + 2 * length ys ≤ limit → T (settled i (run i limit .state))
+    -- a limit of one step for each inner region and each leaf that is taken in vain, and two for each yard, settles
+    pub enough : (limit : ℕ) → inners (i .tree) + barrens i + 2 * length ys ≤ limit → T (settled i (run i limit .state))
     enough limit h = go (so-far limit)
       where
         st : SearchState
@@ -290,9 +352,9 @@ module _ (i : Instance) where
         decide true f = tt
         decide false f = f tt
 
-        go : T (settled i st) ⊎ (work ys st + limit ≤ innerCount + 2 * length ys) → T (settled i st)
+        go : T (settled i st) ⊎ (work ys st + limit ≤ inners (i .tree) + barrens i + 2 * length ys) → T (settled i st)
         go (inl t) = t
-        go (inr w) = decide (settled i st) (λ t. omega (arith, inner-count, step-less well ys all st (run-kept i well limit) t))
+        go (inr w) = decide (settled i st) (λ t. omega (arith, step-less well ys all st (run-kept i well limit) t))
 
   -- a search that isn't settled has taken as many steps as the limit
   pub unsettled-taken : (limit : ℕ) → T (not (settled i (run i limit .state))) → run i limit .taken ≡ limit

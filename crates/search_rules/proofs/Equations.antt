@@ -9,9 +9,11 @@ use Rattle.book.specs.Choose.{choose}
 use Rattle.book.proofs.Choosing.{choose-case, choose-yes, choose-no}
 use Rattle.book.proofs.Lists.{eq→eqb, ne→neqb}
 use Rattle.road.specs.Dijkstra.{dist}
+use Rattle.kinds.specs.Kinds.{shares}
 use Rattle.tree_layout.specs.Values.{Mark, regionAt}
 use Rattle.tree_layout.specs.Decode.{decode}
-use Rattle.search_rules.specs.Rule.{Rule}
+use Rattle.tree.specs.Yards.{kindsOf}
+use Rattle.search_rules.specs.Rule.{Asking}
 use Rattle.search_rules.specs.Instance.{Instance, marks}
 use Rattle.search_rules.specs.Books.{searchOf}
 use Rattle.search_rules.specs.Bounds.{absDiff, combine, aggregate, greatestOf, leastOf, crewBound, tableAt, lower, upper, over, markBound, bound, weight}
@@ -121,7 +123,24 @@ module _ (i : Instance) where
 
 -- ---- the search of two books
 
-pub search-of : (road tree : List ℕ) (code : ℕ) (goal : Rule) (crews : List ℕ)
-    → searchOf road tree code goal crews ≡ record { code = code; rule = goal; crews = crews; tree = decode tree; d = dist road }
+pub search-of : (road tree : List ℕ) (a : Asking) (crews : List ℕ) → searchOf road tree a crews ≡ record {
+  code = a .code;
+  rule = a .rule;
+  crews = crews;
+  tree = decode tree;
+  d = dist road;
+  admits = searchOf road tree a crews .admits;
+  wants = searchOf road tree a crews .wants;
+}
 unfolding searchOf
-search-of road tree code goal crews = refl
+search-of road tree a crews = refl
+
+-- which regions may enter the queue, and which yards are wanted
+module _ (road tree : List ℕ) (a : Asking) (crews : List ℕ) where
+  pub admits-of : (r : ℕ) → searchOf road tree a crews .admits r ≡ shares (a .wanted) (regionAt (decode tree .regions) r .kinds)
+  unfolding searchOf
+  admits-of r = refl
+
+  pub wants-of : (y : ℕ) → searchOf road tree a crews .wants y ≡ shares (a .wanted) (kindsOf (decode tree) y)
+  unfolding searchOf
+  wants-of y = refl

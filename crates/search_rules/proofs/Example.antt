@@ -1,14 +1,21 @@
--- The hypotheses can be met: they hold of a tree of five regions on net N, so that the theorems say something of it. Assumes nothing.
+-- The hypotheses can be met: they hold of a tree of five regions on net N of whose yards 3 isn't wanted, so that the theorems say something of it. Assumes
+-- nothing.
 use mathlib.Core.Path.{_≡_, refl, ap, _∙_}
+use mathlib.Core.Logic.{_⊎_, inl, inr}
 use mathlib.Core.Bool.{Bool, true, false, not, _&&_}
 use mathlib.Core.List.{List, [], _∷_, map, List·Memᴰ as Mem, List·Memᴰ·head as head, List·Memᴰ·tail as tail, List·Memᴰ·not-nil as not-nil}
-use Prim.Native.Nat.{ℕ, zero, suc, _+_, _*_, _≤_, _<_}
+use Prim.Native.Nat.{ℕ, zero, suc, _≤_, _<_}
 use native.Mathlib.Omega.{arith}
 use lib.ListN.{length, getD, take}
-use lib.Dec.{T, ltb, leb, eqb, ltb→lt, leb→le, eqb→eq}
+use lib.Dec.{T, ltb, leb, eqb, lt→ltb, ltb→lt, leb→le, eqb→eq, T-not}
 use Rattle.book.specs.Choose.{choose}
+use Rattle.book.specs.Lists.{keepIf}
 use Rattle.book.specs.Bytes.{u8At, u16At, u32At, Bytes}
-use Rattle.book.proofs.Choosing.{and-left, and-right, choose-case}
+use Rattle.book.proofs.Choosing.{and-left, and-right, choose-yes, choose-no, T-split}
+use Rattle.book.proofs.Lists.{getD-mem, kept-from, kept-in}
+use Rattle.book.specs.Open.{version}
+use Rattle.kinds.specs.Kinds.{kindSize, kindAt}
+use Rattle.tree_layout.specs.Sizes.{fieldsSize, elementSize, listSize, leafMarkSize}
 use Rattle.tree_layout.specs.Values.{Element, Mark, Region, leafMark, innerMark, firstDistance, lastFrom, noRegion, regionAt}
 use Rattle.tree_layout.specs.Decode.{elementAt, readList, listPart, readLists, readSpans, readMarks, markSize, recordSize, sizeAt, readRegion, readRegions}
 use Rattle.tree_layout.specs.Decode.{junctionCount, regionCount, treeYardCount, landmarkCount, decode}
@@ -27,8 +34,8 @@ use Rattle.search_rules.specs.Bounds.{absDiff}
 use Rattle.search_rules.specs.Held.{ranked}
 use Rattle.search_rules.specs.Run.{answer}
 use Rattle.search_rules.specs.Facts.{Triangle, Symmetric, SoundInstance}
-use Rattle.search_rules.proofs.Trees.{Accepted, accepted-tree, well-formed, truth-of}
-use Rattle.search_rules.proofs.Theorems.{accepted-ends, accepted-exact}
+use Rattle.search_rules.proofs.Trees.{Accepted, TrueKinds, accepted-tree, well-formed, truth-of}
+use Rattle.search_rules.proofs.Theorems.{sound-ends, accepted-exact}
 
 -- ---- true numbers, by a test
 
@@ -69,6 +76,51 @@ module _ (i : Instance) where
                 .least) (i .d (m .place) y)) _ x),
           )
 
+-- ---- true kinds, by a test
+
+module _ (i : Instance) where
+  -- a yard below region r is wanted
+  unfoldable holdsWanted : ℕ → Bool
+  holdsWanted r = ltb 0 (length (keepIf (i .wants) (yardsBelow (i .tree .regions) r)))
+
+  unfoldable kindTrue : ℕ → Bool
+  kindTrue r = choose (i .admits r) (holdsWanted r) (not (holdsWanted r))
+
+  unfoldable kindsTrue : Bool
+  kindsTrue = all kindTrue (numbers (length (i .tree .regions)) 0)
+
+  module _ (t : T kindsTrue) (r : ℕ) (h : r < length (i .tree .regions)) where
+    kind-true : T (kindTrue r)
+    unfolding kindsTrue
+    kind-true = all-mem kindTrue (numbers (length (i .tree .regions)) 0) t r (numbers-mem (length (i .tree .regions)) 0 r (omega arith) (omega arith))
+
+    enters-by : T (holdsWanted r) → T (i .admits r)
+    unfolding kindTrue
+    enters-by w = go (T-split (i .admits r))
+      where
+        go : T (i .admits r) ⊎ T (not (i .admits r)) → T (i .admits r)
+        go (inl a) = a
+        go (inr n) = absurd (T-not (holdsWanted r) (rw (choose-no (i .admits r) (holdsWanted r) (not (holdsWanted r)) n) at kind-true) w)
+
+    holds-by : T (i .admits r) → T (holdsWanted r)
+    unfolding kindTrue
+    holds-by a = rw (choose-yes (i .admits r) (holdsWanted r) (not (holdsWanted r)) a) at kind-true
+
+  true-kinds : T kindsTrue → TrueKinds i
+  unfolding holdsWanted
+  true-kinds t = record {
+    admitted = λ r y h k w. enters-by t r h (lt→ltb 0 _ (positive (kept-in (i .wants) (yardsBelow (i .tree .regions) r) y k w)));
+    wanted = λ r h a.
+        let ys = keepIf (i .wants) (yardsBelow (i .tree .regions) r) in
+        let k = getD-mem ys 0 0 (ltb→lt 0 (length ys) (holds-by t r h a)) in
+        let x = kept-from (i .wants) (yardsBelow (i .tree .regions) r) (getD ys 0 0) k in
+        (getD ys 0 0, x .0, x .1);
+  }
+    where
+      positive : {y : ℕ} {l : List ℕ} → Mem y l → 0 < length l
+      positive (head e) = omega arith
+      positive (tail k) = omega arith
+
 -- ---- net N with leaf limit 1
 
 -- every number of a list is below another, and so is 0
@@ -82,7 +134,15 @@ unfoldable pub along : List ℕ
 along = 0 ∷ 2 ∷ 5 ∷ 9 ∷ 10 ∷ []
 
 unfoldable pub five : Instance
-five = record { code = 0; rule = nearest 2; crews = 0 ∷ 2 ∷ []; tree = decode fiveRegions; d = λ u v. absDiff (getD along u 0) (getD along v 0) }
+five = record {
+  code = 0;
+  rule = nearest 2;
+  crews = 0 ∷ 2 ∷ [];
+  tree = decode fiveRegions;
+  d = λ u v. absDiff (getD along u 0) (getD along v 0);
+  admits = λ r. not (eqb r 3);
+  wants = λ y. not (eqb y 3);
+}
 
 bytes : Bytes fiveRegions
 unfolding Bytes fiveRegions all
@@ -109,10 +169,17 @@ near u v = omega (arith, below-all 11 along (omega arith) tt u, below-all 11 alo
 
 true-numbers : T (allTrue five)
 unfolding allTrue regionTrue listTrue spanTrue five along absDiff all numbers yardsBelow leafYardsFrom ownYards yardsIn endOf subtree siblings childFits leafOk
-    agreeing sameYards namedBy inRange once names firstList fiveRegions choose u8At u16At u32At leafMark innerMark firstDistance lastFrom noRegion regionAt
+    agreeing sameYards namedBy inRange once names firstList fiveRegions choose u8At u16At u32At version kindSize kindAt fieldsSize elementSize listSize leafMarkSize leafMark innerMark firstDistance lastFrom noRegion regionAt
     elementAt readList listPart readLists readSpans readMarks markSize recordSize sizeAt readRegion readRegions junctionCount regionCount treeYardCount
     landmarkCount decode
 true-numbers = tt
+
+five-kinds : T (kindsTrue five)
+unfolding kindsTrue kindTrue holdsWanted keepIf five all numbers yardsBelow leafYardsFrom ownYards yardsIn endOf subtree siblings childFits leafOk agreeing
+    sameYards namedBy inRange once names firstList fiveRegions choose u8At u16At u32At version kindSize kindAt fieldsSize elementSize listSize leafMarkSize leafMark innerMark firstDistance lastFrom noRegion regionAt elementAt
+    readList listPart readLists readSpans readMarks markSize recordSize sizeAt readRegion readRegions junctionCount regionCount treeYardCount landmarkCount
+    decode
+five-kinds = tt
 
 crews-there : (q : ℕ) → Mem q (0 ∷ 2 ∷ []) → q < 5
 crews-there q (head e) = rw e (omega arith)
@@ -125,23 +192,23 @@ five-sound = record {
   metric = metric;
   symmetric = symmetric;
   truth = truth-of five tree-accepted (λ r h c m k. list-true five tree-accepted true-numbers r h m k) (λ r h m k. span-true five tree-accepted true-numbers r
-      h m k);
+      h m k) (true-kinds five five-kinds);
 }
 
--- two inner regions and twice three yards settle, and the first two of the three yards are listed
-yards-are : treeYards (five .tree) ≡ 1 ∷ 3 ∷ 4 ∷ []
-unfolding five all numbers treeYards leafYardsFrom ownYards yardsIn firstList fiveRegions choose u8At u16At u32At leafMark innerMark firstDistance lastFrom
+-- two inner regions and twice two wanted yards settle, and these two are listed
+wanted-are : keepIf (five .wants) (treeYards (five .tree)) ≡ 1 ∷ 4 ∷ []
+unfolding keepIf five all numbers treeYards leafYardsFrom ownYards yardsIn firstList fiveRegions choose u8At u16At u32At version kindSize kindAt fieldsSize elementSize listSize leafMarkSize leafMark innerMark firstDistance lastFrom
     noRegion regionAt elementAt readList listPart readLists readSpans readMarks markSize recordSize sizeAt readRegion readRegions junctionCount regionCount
     treeYardCount landmarkCount decode
-yards-are = refl
+wanted-are = refl
 
-five-count : inners (five .tree) + 2 * five .tree .yards ≤ 8
-unfolding inners sumFrom oneInner five fiveRegions choose u8At u16At u32At leafMark innerMark firstDistance lastFrom noRegion regionAt elementAt readList
+five-inners : inners (five .tree) ≡ 2
+unfolding inners sumFrom oneInner five fiveRegions choose u8At u16At u32At version kindSize kindAt fieldsSize elementSize listSize leafMarkSize leafMark innerMark firstDistance lastFrom noRegion regionAt elementAt readList
     listPart readLists readSpans readMarks markSize recordSize sizeAt readRegion readRegions junctionCount regionCount treeYardCount landmarkCount decode
-five-count = omega arith
+five-inners = refl
 
-pub five-settles : T (answer five 8 .settled)
-five-settles = accepted-ends five tree-accepted 8 (five-sound .well) five-count
+pub five-settles : T (answer five 6 .settled)
+five-settles = sound-ends five tree-accepted 6 five-sound (omega (arith, five-inners, ap (λ (l : List ℕ). length l) wanted-are))
 
-pub five-lists : answer five 8 .listed ≡ front (five .rule) (ranked five (1 ∷ 3 ∷ 4 ∷ []))
-five-lists = rw (← yards-are) (accepted-exact five tree-accepted 8 five-sound five-settles)
+pub five-lists : answer five 6 .listed ≡ front (five .rule) (ranked five (1 ∷ 4 ∷ []))
+five-lists = rw (← wanted-are) (accepted-exact five tree-accepted 6 five-sound five-settles)

@@ -5,7 +5,7 @@ use Prim.Native.Nat.{ℕ, zero, suc, min, _≤_}
 use native.Mathlib.Omega.{arith}
 use lib.ListN.{length, length-take}
 use Rattle.book.proofs.Choosing.{choose-case}
-use Rattle.tree_layout.specs.Values.{Element}
+use Rattle.search_rules.specs.Order.{Entry}
 use Rattle.search_rules.specs.Rule.{Rule, nearest}
 use Rattle.search_rules.specs.Instance.{Instance, leaf}
 use Rattle.search_rules.specs.Bounds.{chosen}
@@ -17,7 +17,7 @@ use Rattle.search_rules.specs.Step.{settled}
 use Rattle.search_rules.specs.Step.{startSearch}
 use Rattle.search_rules.specs.Run.{Outcome, advance, run, report, answer}
 
-kept-few : (r : Rule) (k : ℕ) (e : Element) (held : List Element) → r ≡ nearest k → length (keepBy r e held) ≤ k
+kept-few : (r : Rule) (k : ℕ) (e : Entry) (held : List Entry) → r ≡ nearest k → length (keepBy r e held) ≤ k
 unfolding keepBy hold
 kept-few r k e held p = rw p (omega (arith, length-take k (insert e held)))
 
@@ -49,4 +49,4 @@ module _ (i : Instance) (k : ℕ) (asked : i .rule ≡ nearest k) where
 
   pub answer-few : (limit : ℕ) → length (answer i limit .listed) ≤ k
   unfolding Few answer report
-  answer-few limit = choose-case (λ (l : List Element). length l ≤ k) (settled i (run i limit .state)) (λ t. run-few limit) (λ t. omega arith)
+  answer-few limit = choose-case (λ (l : List Entry). length l ≤ k) (settled i (run i limit .state)) (λ t. run-few limit) (λ t. omega arith)

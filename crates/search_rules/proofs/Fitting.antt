@@ -12,7 +12,7 @@ use Rattle.tree_layout.specs.Values.{Element, Mark}
 use Rattle.search_rules.specs.Instance.{Instance, children, marks, leaf}
 use Rattle.search_rules.specs.Bounds.{bound, chosen, f, yardBound}
 use Rattle.search_rules.specs.Queue.{unqueued, wordAt}
-use Rattle.search_rules.specs.Step.{SearchState, left, againKey, nextF, openInner, queueNext, takeYard, step, settled, startSearch}
+use Rattle.search_rules.specs.Step.{SearchState, passed, againKey, nextF, openInner, queueNext, closeLeaf, takeYard, step, settled, startSearch}
 use Rattle.search_rules.specs.Run.{Outcome, advance, run}
 use Rattle.search_rules.specs.Facts.{WellFormed}
 use Rattle.search_rules.specs.Theorems.{KeysFit}
@@ -20,7 +20,7 @@ use Rattle.search_rules.proofs.Limits.{bound-most, f-most, yardBound-mo
 use Rattle.search_rules.proofs.Queue.{seen, key, word-key, key-eq, no-key, Entered, queued-child, kept, Again, empty, more}
 use Rattle.search_rules.proofs.Stepping.{step-case}
 use Rattle.search_rules.proofs.Kept.{Kept, InnerKey, child, taken, same, inner-key, inner-first, mark-mem, leaf-yard-key, leaf-region-key, leaf-again}
-use Rattle.search_rules.proofs.Kept.{taken-yard-key, region-case, start-key, start-yard, run-kept}
+use Rattle.search_rules.proofs.Kept.{closed-key, taken-yard-key, region-case, start-key, start-yard, run-kept}
 
 abbrev most : ℕ
 most = 68719476720
@@ -52,7 +52,7 @@ module _ (i : Instance) (well : WellFormed i) where
           by-first v b (kept n q) e = low .firsts v b (sym q ∙ e)
 
       leaf-fits : (is-leaf : T (leaf i r)) (first : ℕ) → key (st .firsts) r ≡ some first → (e : Element) → (mem : Mem e (chosen i r .list))
-          → T (not (left (st .gone) (e .yard)))
+          → T (not (passed i (st .gone) (e .yard)))
           → Low (queueNext i st r first (chosen i r) e)
       unfolding queueNext
       leaf-fits is-leaf first first-is e mem stays = record {
@@ -70,6 +70,14 @@ module _ (i : Instance) (well : WellFormed i) where
           by-again b (empty h) q = absurd (no-key q)
           by-again b (more x j t l) q = omega (arith, key-eq q, f-most i well r (chosen i r) x is-leaf mark j, low .firsts r first first-is)
 
+      closed-fits : Low (closeLeaf i st r)
+      unfolding closeLeaf
+      closed-fits = record {
+        regions = λ v b. closed-key i well st was r a at (λ o. o ≡ some b → b ≤ most) v (λ p q. absurd (no-key q)) (λ p q. low .regions v b q);
+        yards = low .yards;
+        firsts = low .firsts;
+      }
+
     yard-low : (y b : ℕ) → key (st .yardKeys) y ≡ some b → Low (takeYard i st y)
     unfolding takeYard
     yard-low y b at = record {
@@ -80,15 +88,16 @@ module _ (i : Instance) (well : WellFormed i) where
 
     step-fits : T (not (settled i st)) → Low (step i st)
     step-fits u = step-case i st (was .sizes) Low u
-        (λ r a at due. region-case i well st was Low r a at (λ l. inner-fits r a at) (λ l first q e k n h. leaf-fits r a at l first q e k n))
+        (λ r a at due. region-case i well st was Low r a at (λ l. inner-fits r a at) (λ l first q e k n h. leaf-fits r a at l first q e k n)
+        (λ t. closed-fits r a at))
         (λ y b at due. yard-low y b at)
 
   start-fits : Low (startSearch i)
   unfolding startSearch
   start-fits = record {
-    regions = λ v b. start-key i well (λ o. o ≡ some b → b ≤ most) v (λ p q. omega (arith, key-eq q, bound-most i well 0)) (λ p q. absurd (no-key q));
+    regions = λ v b. start-key i well (λ o. o ≡ some b → b ≤ most) v (λ p t q. omega (arith, key-eq q, bound-most i well 0)) (λ p q. absurd (no-key q));
     yards = λ v b e. absurd (start-yard i well v e);
-    firsts = λ v b. start-key i well (λ o. o ≡ some b → b ≤ most) v (λ p q. omega (arith, key-eq q, bound-most i well 0)) (λ p q. absurd (no-key q));
+    firsts = λ v b. start-key i well (λ o. o ≡ some b → b ≤ most) v (λ p t q. omega (arith, key-eq q, bound-most i well 0)) (λ p q. absurd (no-key q));
   }
 
   run-low : (limit : ℕ) → Low (run i limit .state)

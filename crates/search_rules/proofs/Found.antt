@@ -10,8 +10,7 @@ use native.Mathlib.Omega.{arith}
 use lib.ListN.{length}
 use lib.Dec.{T}
 use Rattle.book.specs.Lists.{Distinct}
-use Rattle.tree_layout.specs.Values.{Element}
-use Rattle.search_rules.specs.Order.{YardBefore}
+use Rattle.search_rules.specs.Order.{Entry, YardBefore}
 use Rattle.search_rules.specs.Rule.{Rule, nearest, inDrive}
 use Rattle.search_rules.specs.Instance.{Instance}
 use Rattle.search_rules.specs.Bounds.{total}
@@ -54,12 +53,12 @@ module _ {A : Type 0} where
 
 -- ---- what a rule asks for of some elements, in yard order, is one list
 
-sorted-distinct : (l : List Element) → Sorted l → Distinct l
+sorted-distinct : (l : List Entry) → Sorted l → Distinct l
 sorted-distinct [] s = tt
 sorted-distinct (h ∷ l) s = ((λ k. before-not (s .0 h k) (s .0 h k)), sorted-distinct l (s .1))
 
 -- Two lists in yard order with the same members are equal.
-sorted-same : (l m : List Element) → Sorted l → Sorted m → ((h : Element) → Mem h l → Mem h m) → ((h : Element) → Mem h m → Mem h l) → l ≡ m
+sorted-same : (l m : List Entry) → Sorted l → Sorted m → ((h : Entry) → Mem h l → Mem h m) → ((h : Entry) → Mem h m → Mem h l) → l ≡ m
 sorted-same [] [] s t f g = refl
 sorted-same [] (y ∷ m) s t f g = absurd (not-nil (g y (head refl)))
 sorted-same (x ∷ l) [] s t f g = absurd (not-nil (f x (head refl)))
@@ -77,30 +76,30 @@ sorted-same (x ∷ l) (y ∷ m) s t f g = cc (
     same : x ≡ y
     same = one (cases-cons (f x (head refl))) (cases-cons (g y (head refl)))
 
-    there : (h : Element) → Mem h l → (h ≡ y) ⊎ Mem h m → Mem h m
+    there : (h : Entry) → Mem h l → (h ≡ y) ⊎ Mem h m → Mem h m
     there h k (inl p) = let c : YardBefore x x = rw (p ∙ sym same) at (s .0 h k) in absurd (before-not c c)
     there h k (inr j) = j
 
-    back : (h : Element) → Mem h m → (h ≡ x) ⊎ Mem h l → Mem h l
+    back : (h : Entry) → Mem h m → (h ≡ x) ⊎ Mem h l → Mem h l
     back h k (inl p) = let c : YardBefore y y = rw (p ∙ same) at (t .0 h k) in absurd (before-not c c)
     back h k (inr j) = j
 
 -- l has what a rule asks for, in yard order, of the elements that P holds of.
-record Asked (P : Element → Type 0) (r : Rule) (l : List Element) : Type 0 where
+record Asked (P : Entry → Type 0) (r : Rule) (l : List Entry) : Type 0 where
   pub sorted : Sorted l
-  pub among : (h : Element) → Mem h l → P h
+  pub among : (h : Entry) → Mem h l → P h
   pub allowed : Allowed r l
-  pub rest : (h : Element) → P h → Mem h l ⊎ LeftOut r l h
+  pub rest : (h : Entry) → P h → Mem h l ⊎ LeftOut r l h
 
-asked-sub : (P : Element → Type 0) (r : Rule) (l m : List Element) → Asked P r l → Asked P r m → (h : Element) → Mem h l → Mem h m
+asked-sub : (P : Entry → Type 0) (r : Rule) (l m : List Entry) → Asked P r l → Asked P r m → (h : Entry) → Mem h l → Mem h m
 asked-sub P (nearest k) l m a b h j = go (b .rest h (a .among h j))
   where
     -- if h were left out of m, m would have k elements, all of them in l, and h besides
-    inner : Out k m h → (g : Element) → Mem g m → Mem g l ⊎ Out k l g → Mem g l
+    inner : Out k m h → (g : Entry) → Mem g m → Mem g l ⊎ Out k l g → Mem g l
     inner o g x (inl y) = y
     inner o g x (inr y) = absurd (before-not (o .after g x) (y .after h j))
 
-    spread : Out k m h → (g : Element) → (g ≡ h) ⊎ Mem g m → Mem g l
+    spread : Out k m h → (g : Entry) → (g ≡ h) ⊎ Mem g m → Mem g l
     spread o g (inl p) = Memᴰ·cast p j
     spread o g (inr x) = inner o g x (a .rest g (b .among g x))
 
@@ -120,18 +119,18 @@ asked-sub P (inDrive s) l m a b h j = go (b .rest h (a .among h j))
     go (inr f) = absurd (omega (arith, a .allowed h j))
 
 -- There is one such list.
-asked-one : (P : Element → Type 0) (r : Rule) (l m : List Element) → Asked P r l → Asked P r m → l ≡ m
+asked-one : (P : Entry → Type 0) (r : Rule) (l m : List Entry) → Asked P r l → Asked P r m → l ≡ m
 asked-one P r l m a b = sorted-same l m (a .sorted) (b .sorted) (asked-sub P r l m a b) (asked-sub P r m l b a)
 
 -- two elements of a list in yard order that name one yard at one distance are one
-sorted-one : (i : Instance) (l : List Element) → ((h : Element) → Mem h l → h ≡ entry i (h .yard)) → (h g : Element) → Mem h l → Mem g l → h .yard ≡ g .yard
+sorted-one : (i : Instance) (l : List Entry) → ((h : Entry) → Mem h l → h ≡ entry i (h .yard)) → (h g : Entry) → Mem h l → Mem g l → h .yard ≡ g .yard
     → h ≡ g
 sorted-one i l is h g k j e = is h k ∙ ap (entry i) e ∙ sym (is g j)
 
 module _ (i : Instance) where
-  entry-total : (h : Element) → h ≡ entry i (h .yard) → h .distance ≡ total i (h .yard)
+  entry-total : (h : Entry) → h ≡ entry i (h .yard) → h .distance ≡ total i (h .yard)
   unfolding entry
-  entry-total h e = ap (λ (x : Element). x .distance) e
+  entry-total h e = ap (λ (x : Entry). x .distance) e
 
   pub kept-listing : (st : SearchState) → Kept i st → Listing i (st .held)
   kept-listing st was = rw (was .first-ranked) (record {
@@ -143,10 +142,10 @@ module _ (i : Instance) where
     greatest = λ h k. greatestHeld-le h (front (i .rule) all) sort k;
   })
     where
-      all : List Element
+      all : List Entry
       all = ranked i (st .measured)
 
-      is : (h : Element) → Mem h (front (i .rule) all) → h ≡ entry i (h .yard)
+      is : (h : Entry) → Mem h (front (i .rule) all) → h ≡ entry i (h .yard)
       is h k = ranked-mem i h (st .measured) (front-mem (i .rule) h all k) .1
 
       sort : Sorted (front (i .rule) all)
@@ -175,10 +174,10 @@ module _ (i : Instance) where
         place (inr p) = inr (past-out (i .rule) (st .held) (entry i y) (kept-listing st was .greatest) p)
 
   -- a yard of the tree, with its aggregate
-  abbrev TreeYard : Element → Type 0
+  abbrev TreeYard : Entry → Type 0
   TreeYard h = (h ≡ entry i (h .yard)) × Below i 0 (h .yard)
 
-  listing-asked : (held : List Element) → Listing i held → ((y : ℕ) → Below i 0 y → Mem (entry i y) held ⊎ LeftOut (i .rule) held (entry i y))
+  listing-asked : (held : List Entry) → Listing i held → ((y : ℕ) → Below i 0 y → Mem (entry i y) held ⊎ LeftOut (i .rule) held (entry i y))
       → Asked TreeYard (i .rule) held
   unfolding entry
   listing-asked held l rest = record {
@@ -196,7 +195,7 @@ module _ (i : Instance) where
     rest = λ h p. front-rest (i .rule) h all sort (Memᴰ·cast (p .0) (ranked-in i (h .yard) ys (tree .every (h .yard) (p .1))));
   }
     where
-      all : List Element
+      all : List Entry
       all = ranked i ys
 
       sort : Sorted all

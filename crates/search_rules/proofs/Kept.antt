@@ -2,7 +2,7 @@
 use mathlib.Core.Path.{_≡_, refl, sym, _∙_}
 use mathlib.Core.Logic.{_⊎_, inl, inr, _≢_}
 use mathlib.Core.Bool.{Bool, true, false, not}
-use mathlib.Core.List.{List, [], _∷_, List·Memᴰ as Mem, List·Memᴰ·head as head, List·Memᴰ·not-nil as not-nil, List·Memᴰ·cases-cons as cases-cons}
+use mathlib.Core.List.{List, _∷_, List·Memᴰ as Mem, List·Memᴰ·not-nil as not-nil, List·Memᴰ·cases-cons as cases-cons}
 use mathlib.Core.Option.{Option, none, some}
 use Prim.Native.Nat.{ℕ, zero, suc, _≤_, _<_, max}
 use native.Mathlib.Omega.{arith}
@@ -11,30 +11,38 @@ use lib.Seq.{getD-set-same}
 use lib.Dec.{T, T-not, not-T}
 use Rattle.book.specs.Choose.{choose}
 use Rattle.book.specs.Lists.{Distinct}
-use Rattle.book.proofs.Choosing.{choose-case, choose-yes}
+use Rattle.book.proofs.Choosing.{choose-case, choose-yes, choose-no}
+use Rattle.book.proofs.Lists.{kept-from}
 use Rattle.tree_layout.specs.Values.{Element, Mark}
 use Rattle.search_rules.specs.Instance.{Instance, size, children, marks, leaf}
 use Rattle.search_rules.specs.Bounds.{bound, chosen, f, yardBound}
 use Rattle.search_rules.specs.Queue.{unqueued, queued, wordAt}
 use Rattle.search_rules.specs.Keeping.{keepBy, keep, front}
 use Rattle.search_rules.specs.Held.{entry, ranked}
-use Rattle.search_rules.specs.Step.{SearchState, left, noElement, againKey, nextPlace, nextF, queueChildren, openInner, queueNext, closeLeaf, openLeaf}
-use Rattle.search_rules.specs.Step.{takeRegion, takeYard, step, settled, startSearch}
+use Rattle.search_rules.specs.Step.{SearchState, left, noElement, passed, againKey, nextPlace, nextF, queueChildren, openInner, queueNext, closeLeaf, openLeaf}
+use Rattle.search_rules.specs.Step.{takeRegion, takeYard, step, settled, rootKeys, startSearch}
 use Rattle.search_rules.specs.Run.{Outcome, advance, run}
 use Rattle.search_rules.specs.Facts.{Below, inside, under, Shape, WellFormed}
+use Rattle.search_rules.specs.Theorems.{barren}
 use Rattle.search_rules.proofs.Bounds.{chosen-mem}
 use Rattle.search_rules.proofs.Limits.{bound-most, f-most, yardBound-most}
 use Rattle.search_rules.proofs.Fronts.{front-none, front-keep}
-use Rattle.search_rules.proofs.Queue.{seen, seen-key, seen-mark, key, key-word, key-small, key-range, has, has-key, no-key, key-eq, small-queued}
+use Rattle.search_rules.proofs.Queue.{seen, seen-key, seen-mark, key, key-word, key-small, key-range, has, has-key, no-key, key-eq, small-queued, queued-small}
 use Rattle.search_rules.proofs.Queue.{set-case, key-set, key-put, key-drop, Next, no-more, one-more, next-is, Again, empty, more, again-is, Entered}
-use Rattle.search_rules.proofs.Queue.{queued-child, kept, queueChildren-is, queueChildren-length}
+use Rattle.search_rules.proofs.Queue.{queued-child, kept, queueChildren-is, queueChildren-length, stays-left, stays-wanted, stays-by}
+use Rattle.search_rules.proofs.Barren.{barren-by}
 use Rattle.search_rules.proofs.Stepping.{Sizes, step-case}
 
--- Some element of a landmark's list has not left.
-pub record OneLeft (gone : List Bool) (m : Mark) : Type 0 where
+-- A child that is queued may enter the queue.
+pub child-admitted : (i : Instance) (r c : ℕ) → Mem c (children i r) → T (i .admits c)
+unfolding children
+child-admitted i r c k = kept-from (i .admits) _ c k .1
+
+-- Some element of a landmark's list is not passed over.
+pub record OneLeft (i : Instance) (gone : List Bool) (m : Mark) : Type 0 where
   pub element : Element
   pub mem : Mem element (m .list)
-  pub stays : T (not (left gone (element .yard)))
+  pub stays : T (not (passed i gone (element .yard)))
 
 pub record Kept (i : Instance) (st : SearchState) : Type 0 where
   pub sizes : Sizes i st
@@ -45,6 +53,8 @@ pub record Kept (i : Instance) (st : SearchState) : Type 0 where
   pub once : Distinct (st .measured)
   -- the held yards are what the rule asks for of the measured ones
   pub first-ranked : st .held ≡ front (i .rule) (ranked i (st .measured))
+  -- a queued region may enter the queue
+  pub admitted : (r a : ℕ) → key (st .regionKeys) r ≡ some a → T (i .admits r)
   -- what is queued or measured belongs to the tree
   pub regions-in : (r a y : ℕ) → key (st .regionKeys) r ≡ some a → Below i r y → Below i 0 y
   pub yards-in : (y a : ℕ) → key (st .yardKeys) y ≡ some a → Below i 0 y
@@ -53,14 +63,11 @@ pub record Kept (i : Instance) (st : SearchState) : Type 0 where
   pub has-first : (r a : ℕ) → key (st .regionKeys) r ≡ some a → T (has (key (st .firsts) r))
   pub parent-first : (r c : ℕ) → Mem c (children i r) → T (has (key (st .firsts) c)) → T (has (key (st .firsts) r))
   pub parent-taken : (r c : ℕ) → Mem c (children i r) → T (has (key (st .firsts) c)) → key (st .regionKeys) r ≡ none
-  -- of a queued leaf some yard has not left, and of one that was never queued none has
-  pub leaf-open : (r a : ℕ) → T (leaf i r) → key (st .regionKeys) r ≡ some a → OneLeft (st .gone) (chosen i r)
+  -- of a queued leaf with a wanted yard some wanted yard has not left, and of one that was never queued none has
+  pub leaf-open : (r a : ℕ) (e : Element) → T (leaf i r) → key (st .regionKeys) r ≡ some a → Mem e (chosen i r .list) → T (i .wants (e .yard))
+      → OneLeft i (st .gone) (chosen i r)
   pub leaf-fresh : (r : ℕ) (e : Element) → T (leaf i r) → r < size i → Mem e (chosen i r .list) → T (not (has (key (st .firsts) r)))
       → T (not (left (st .gone) (e .yard)))
-
-some-element : (es : List Element) → es ≢ [] → (e : Element) × Mem e es
-some-element [] n = absurd (n refl)
-some-element (e ∷ es) n = (e, head refl)
 
 -- ---- marking a yard
 
@@ -81,6 +88,14 @@ module _ (gone : List Bool) (y : ℕ) (h : y < length gone) where
   pub left-not : (v : ℕ) → T (not (left (set gone y true) v)) → T (not (left gone v))
   unfolding left
   left-not v = set-case (λ b. T (not b) → T (not (left gone v))) gone y true false h v (λ e t. absurd t) (λ e t. t)
+
+-- What is passed over after a yard has left.
+module _ (i : Instance) (gone : List Bool) (y : ℕ) (h : y < length gone) where
+  pub stays-other : (v : ℕ) → v ≢ y → T (not (passed i gone v)) → T (not (passed i (set gone y true) v))
+  stays-other v n t = stays-by i (set gone y true) v (left-other gone y h v n (stays-left i gone v t)) (stays-wanted i gone v t)
+
+  pub stays-before : (v : ℕ) → T (not (passed i (set gone y true) v)) → T (not (passed i gone v))
+  stays-before v t = stays-by i gone v (left-not gone y h v (stays-left i (set gone y true) v t)) (stays-wanted i (set gone y true) v t)
 
 first-of : (o : Option ℕ) → T (has o) → (a : ℕ) × (o ≡ some a)
 first-of none t = absurd t
@@ -150,18 +165,24 @@ module _ (i : Instance) (well : WellFormed i) (st : SearchState) (was : Kept i s
         measured-left = was .measured-left;
         once = was .once;
         first-ranked = was .first-ranked;
+        admitted = λ v b e. enters v b (inner-key v) e;
         regions-in = λ v b y e below. in-tree v b y below (inner-key v) e;
         yards-in = was .yards-in;
         measured-in = was .measured-in;
         has-first = λ v b e. first v b (inner-key v) e;
         parent-first = λ s c k t. parent s c k (inner-first c) t;
         parent-taken = λ s c k t. gone-by s c k (inner-first c) t;
-        leaf-open = λ v b l e. opens v b l (inner-key v) e;
+        leaf-open = λ v b g l e k w. opens v b g l k w (inner-key v) e;
         leaf-fresh = λ v e l h k t. fresh v e l h k (inner-first v) t;
       }
         where
+          enters : (v b : ℕ) {o : Option ℕ} → InnerKey v o → o ≡ some b → T (i .admits v)
+          enters v b (child k) e = child-admitted i r v k
+          enters v b (taken p) e = absurd (no-key e)
+          enters v b (same p n q) e = was .admitted v b (sym q ∙ e)
+
           in-tree : (v b y : ℕ) → Below i v y → {o : Option ℕ} → InnerKey v o → o ≡ some b → Below i 0 y
-          in-tree v b y below (child k) e = was .regions-in r a y at (under v inner k below)
+          in-tree v b y below (child k) e = was .regions-in r a y at (under v (was .admitted r a at) inner k below)
           in-tree v b y below (taken p) e = absurd (no-key e)
           in-tree v b y below (same p n q) e = was .regions-in v b y (sym q ∙ e) below
 
@@ -194,18 +215,15 @@ module _ (i : Instance) (well : WellFormed i) (st : SearchState) (was : Kept i s
               go (taken p) = refl
               go (same p m q) = q ∙ was .parent-taken s c k (rw e at t)
 
-          opens : (v b : ℕ) → T (leaf i v) → {o : Option ℕ} → InnerKey v o → o ≡ some b → OneLeft (st .gone) (chosen i v)
-          opens v b l (child k) e =
-              let mark = chosen-mem i v (well .shape .marked v (well .shape .range r v k)) in
-              let x = some-element (chosen i v .list) (well .shape .some-yard v (chosen i v) l mark) in
-              record {
-                element = x .0;
-                mem = x .1;
-                stays = was .leaf-fresh v (x .0) l (well .shape .range r v k) (x .1) (not-T (has (key (st .firsts) v))
-                    (fresh-child v k));
-              }
-          opens v b l (taken p) e = absurd (no-key e)
-          opens v b l (same p n q) e = was .leaf-open v b l (sym q ∙ e)
+          opens : (v b : ℕ) (g : Element) → T (leaf i v) → Mem g (chosen i v .list) → T (i .wants (g .yard)) → {o : Option ℕ} → InnerKey v o → o ≡ some b
+              → OneLeft i (st .gone) (chosen i v)
+          opens v b g l j w (child k) e = record {
+            element = g;
+            mem = j;
+            stays = stays-by i (st .gone) (g .yard) (was .leaf-fresh v g l (well .shape .range r v k) j (not-T (has (key (st .firsts) v)) (fresh-child v k))) w;
+          }
+          opens v b g l j w (taken p) e = absurd (no-key e)
+          opens v b g l j w (same p n q) e = was .leaf-open v b g l (sym q ∙ e) j w
 
           fresh : (v : ℕ) (g : Element) → T (leaf i v) → v < size i → Mem g (chosen i v .list) → {o : Option ℕ}
               → Entered i a (children i r) (st .firsts) v o → T (not (has o)) → T (not (left (st .gone) (g .yard)))
@@ -225,9 +243,14 @@ module _ (i : Instance) (well : WellFormed i) (st : SearchState) (was : Kept i s
           (record { element = g; mem = k; names = p }) (record { element = e; mem = j; names = refl }))
 
       module _ (first : ℕ) (first-is : key (st .firsts) r
-          ≡ some first) (e : Element) (mem : Mem e (chosen i r .list)) (stays : T (not (left (st .gone) (e .yard)))) where
+          ≡ some first) (e : Element) (mem : Mem e (chosen i r .list)) (stays : T (not (passed i (st .gone) (e .yard)))) where
         pub yard-fits : e .yard < i .tree .junctions
         yard-fits = well .shape .yards r (chosen i r) e is-leaf mark-mem mem
+
+        -- it is a wanted yard below the leaf
+        pub leaf-own : Below i r (e .yard)
+        leaf-own = inside (chosen i r) (was .admitted r a at) is-leaf mark-mem (record { element = e; mem = mem; names = refl })
+            (stays-wanted i (st .gone) (e .yard) stays)
 
         -- the queued yards and regions after a leaf's next yard has left
         pub leaf-yard-key : (P : Option ℕ → Type 0) (v : ℕ) → (v ≡ e .yard → P (some (max (yardBound i (chosen i r) e) first))) → (v ≢ e .yard
@@ -262,26 +285,23 @@ module _ (i : Instance) (well : WellFormed i) (st : SearchState) (was : Kept i s
           queued-left = λ v b. leaf-yard-key (λ o. o ≡ some b
               → T (left gone′ v)) v (λ p q. rw p (left-new (st .gone) y fits)) (λ p q. marked v (was .queued-left v b q));
           queued-new = λ v b. leaf-yard-key (λ o. o ≡ some b → Mem v (st .measured) → ⊥) v
-              (λ p q k. T-not (left (st .gone) y) stays (was .measured-left y (rw p at k))) (λ p q. was .queued-new v b q);
+              (λ p q k. T-not (left (st .gone) y) (stays-left i (st .gone) y stays) (was .measured-left y (rw p at k))) (λ p q. was .queued-new v b q);
           measured-left = λ v k. marked v (was .measured-left v k);
           once = was .once;
           first-ranked = was .first-ranked;
+          admitted = λ v b. leaf-region-key (λ o. o ≡ some b → T (i .admits v)) v (λ p q. rw p (was .admitted r a at)) (λ p q. was .admitted v b q);
           regions-in = λ v b z. leaf-region-key (λ o. o ≡ some b → Below i v z → Below i 0 z) v
               (λ p q below. was .regions-in r a z at (rw p at below)) (λ p q. was .regions-in v b z q);
           yards-in = λ v b. leaf-yard-key (λ o. o ≡ some b → Below i 0 v) v
-              (λ p q. rw p (was .regions-in r a y at (inside m is-leaf mark-mem (record {
-                element = e;
-                mem = mem;
-                names = refl;
-              })))) (λ p q. was .yards-in v b q);
+              (λ p q. rw p (was .regions-in r a y at leaf-own)) (λ p q. was .yards-in v b q);
           measured-in = was .measured-in;
           has-first = λ v b. leaf-region-key (λ o. o ≡ some b
               → T (has (key (st .firsts) v))) v (λ p q. rw p (was .has-first r a at)) (λ p q. was .has-first v b q);
           parent-first = was .parent-first;
           parent-taken = λ s c k t. leaf-region-key (λ o. o ≡ none) s
               (λ p. absurd (no-key (sym (was .parent-taken r c (rw p at k) t) ∙ at))) (λ p. was .parent-taken s c k t);
-          leaf-open = λ v b l. leaf-region-key (λ o. o ≡ some b → OneLeft gone′ (chosen i v)) v
-              (λ p q. rw p (opens (leaf-again) q)) (λ p q. others v p l (region-range v q) (was .leaf-open v b l q));
+          leaf-open = λ v b g l. leaf-region-key (λ o. o ≡ some b → Mem g (chosen i v .list) → T (i .wants (g .yard)) → OneLeft i gone′ (chosen i v)) v
+              (λ p q k w. rw p (opens (leaf-again) q)) (λ p q k w. others v p l (region-range v q) (was .leaf-open v b g l q k w));
           leaf-fresh = λ v g l h k t. fresh v g l h k t;
         }
           where
@@ -300,21 +320,52 @@ module _ (i : Instance) (well : WellFormed i) (st : SearchState) (was : Kept i s
             marked : (v : ℕ) → T (left (st .gone) v) → T (left gone′ v)
             marked v t = left-more (st .gone) y fits v t
 
-            opens : {b : ℕ} {o : Option ℕ} → Again i gone′ first m o → o ≡ some b → OneLeft gone′ m
+            opens : {b : ℕ} {o : Option ℕ} → Again i gone′ first m o → o ≡ some b → OneLeft i gone′ m
             opens (empty h) q = absurd (no-key q)
             opens (more g k n l) q = record { element = g; mem = k; stays = n }
 
-            others : (v : ℕ) → v ≢ r → T (leaf i v) → v < size i → OneLeft (st .gone) (chosen i v) → OneLeft gone′ (chosen i v)
+            others : (v : ℕ) → v ≢ r → T (leaf i v) → v < size i → OneLeft i (st .gone) (chosen i v) → OneLeft i gone′ (chosen i v)
             others v n l h x = record {
               element = x .element;
               mem = x .mem;
-              stays = left-other (st .gone) y fits (x .element .yard) (other-leaf v (x .element) e n l h (x .mem) mem) (x .stays);
+              stays = stays-other i (st .gone) y fits (x .element .yard) (other-leaf v (x .element) e n l h (x .mem) mem) (x .stays);
             }
 
             fresh : (v : ℕ) (g : Element) → T (leaf i v) → v < size i → Mem g (chosen i v .list) → T (not (has (key (st .firsts) v)))
                 → T (not (left gone′ (g .yard)))
             fresh v g l h k t = left-other (st .gone) y fits (g .yard) (other-leaf v g e (λ p. T-not (has (key (st .firsts) v)) t (rw p (was .has-first r a
                 at))) l h k mem) (was .leaf-fresh v g l h k t)
+
+    -- ---- a leaf without any wanted yard
+
+    pub closed-key : (P : Option ℕ → Type 0) (v : ℕ) → (v ≡ r → P none) → (v ≢ r → P (key (st .regionKeys) v)) → P (key (set (st .regionKeys) r unqueued) v)
+    closed-key P v = key-drop P (st .regionKeys) r (rw (was .sizes .regions) (region-range r at)) v
+
+    closed-kept : Kept i (closeLeaf i st r)
+    unfolding closeLeaf
+    closed-kept = record {
+      sizes = record {
+        regions = length-set (st .regionKeys) r unqueued ∙ was .sizes .regions;
+        yards = was .sizes .yards;
+        firsts = was .sizes .firsts;
+        gone = was .sizes .gone;
+      };
+      queued-left = was .queued-left;
+      queued-new = was .queued-new;
+      measured-left = was .measured-left;
+      once = was .once;
+      first-ranked = was .first-ranked;
+      admitted = λ v b. closed-key (λ o. o ≡ some b → T (i .admits v)) v (λ p q. absurd (no-key q)) (λ p q. was .admitted v b q);
+      regions-in = λ v b z. closed-key (λ o. o ≡ some b → Below i v z → Below i 0 z) v (λ p q. absurd (no-key q)) (λ p q. was .regions-in v b z q);
+      yards-in = was .yards-in;
+      measured-in = was .measured-in;
+      has-first = λ v b. closed-key (λ o. o ≡ some b → T (has (key (st .firsts) v))) v (λ p q. absurd (no-key q)) (λ p q. was .has-first v b q);
+      parent-first = was .parent-first;
+      parent-taken = λ s c k t. closed-key (λ o. o ≡ none) s (λ p. refl) (λ p. was .parent-taken s c k t);
+      leaf-open = λ v b g l. closed-key (λ o. o ≡ some b → Mem g (chosen i v .list) → T (i .wants (g .yard)) → OneLeft i (st .gone) (chosen i v)) v
+          (λ p q. absurd (no-key q)) (λ p q. was .leaf-open v b g l q);
+      leaf-fresh = was .leaf-fresh;
+    }
 
   -- ---- a yard
 
@@ -336,6 +387,7 @@ module _ (i : Instance) (well : WellFormed i) (st : SearchState) (was : Kept i s
       measured-left = λ v k. marked v (cases-cons k);
       once = (was .queued-new y b at, was .once);
       first-ranked = ranked-more;
+      admitted = was .admitted;
       regions-in = was .regions-in;
       yards-in = λ v c. taken-yard-key (λ o. o ≡ some c → Below i 0 v) v (λ p q. absurd (no-key q)) (λ p q. was .yards-in v c q);
       measured-in = λ v k. in-tree v (cases-cons k);
@@ -364,12 +416,13 @@ module _ (i : Instance) (well : WellFormed i) (st : SearchState) (was : Kept i s
   -- Taking a region, by cases.
   pub region-case : (P : SearchState → Type 0) (r a : ℕ) → key (st .regionKeys) r ≡ some a
       → (T (not (leaf i r)) → P (openInner i st r a))
-      → (T (leaf i r) → (first : ℕ) → key (st .firsts) r ≡ some first → (e : Element) → Mem e (chosen i r .list) → T (not (left (st .gone) (e .yard)))
-      → ((g : Element) → Mem g (chosen i r .list) → T (not (left (st .gone) (g .yard))) → f i (chosen i r) e ≤ f i (chosen i r) g)
+      → (T (leaf i r) → (first : ℕ) → key (st .firsts) r ≡ some first → (e : Element) → Mem e (chosen i r .list) → T (not (passed i (st .gone) (e .yard)))
+      → ((g : Element) → Mem g (chosen i r .list) → T (not (passed i (st .gone) (g .yard))) → f i (chosen i r) e ≤ f i (chosen i r) g)
       → P (queueNext i st r first (chosen i r) e))
+      → (T (barren i r) → P (closeLeaf i st r))
       → P (takeRegion i st r a)
   unfolding takeRegion openLeaf
-  region-case P r a at onInner onLeaf = choose-case P (leaf i r) (λ l. go l (first-of (key (st .firsts) r) (was .has-first r a at)) (next-is i (st .gone) m
+  region-case P r a at onInner onLeaf onClosed = choose-case P (leaf i r) (λ l. go l (first-of (key (st .firsts) r) (was .has-first r a at)) (next-is i (st .gone) m
       (small l))) onInner
     where
       m : Mark
@@ -381,7 +434,11 @@ module _ (i : Instance) (well : WellFormed i) (st : SearchState) (was : Kept i s
       go : T (leaf i r) → (x : ℕ) × (key (st .firsts) r ≡ some x) → Next i (st .gone) m
           → P (choose (queued (nextF i (st .gone) m)) (queueNext i st r (wordAt (st .firsts) r) m (getD (m .list) (nextPlace i (st .gone) m) noElement))
           (closeLeaf i st r))
-      go l x (no-more h all) = let z = was .leaf-open r a l at in absurd (T-not (left (st .gone) (z .element .yard)) (z .stays) (all (z .element) (z .mem)))
+      go l x (no-more h all) = rw (choose-no (queued (nextF i (st .gone) m)) (queueNext i st r (wordAt (st .firsts) r) m (getD (m .list) (nextPlace i (st .gone) m)
+          noElement)) (closeLeaf i st r) (not-T (queued (nextF i (st .gone) m)) (λ t. omega (arith, queued-small (nextF i (st .gone) m) t))))
+          (onClosed (barren-by i r (was .admitted r a at) l (λ e k w.
+          let z = was .leaf-open r a e l at k w in
+          T-not (passed i (st .gone) (z .element .yard)) (z .stays) (all (z .element) (z .mem)))))
       go l (first, q) (one-more e p w s k n h) =
           let t : T (queued (nextF i (st .gone) m)) = small-queued (nextF i (st .gone) m) (omega arith) in
           rw (
@@ -394,12 +451,13 @@ module _ (i : Instance) (well : WellFormed i) (st : SearchState) (was : Kept i s
 
   pub step-kept : T (not (settled i st)) → Kept i (step i st)
   step-kept u = step-case i st (was .sizes) (Kept i) u
-      (λ r a at due. region-case (Kept i) r a at (λ l. inner-kept r a at l) (λ l first q e k n h. leaf-kept r a at l first q e k n))
+      (λ r a at due. region-case (Kept i) r a at (λ l. inner-kept r a at l) (λ l first q e k n h. leaf-kept r a at l first q e k n)
+      (λ t. closed-kept r a at))
       (λ y b at due. yard-kept y b at)
 
 -- ---- the start
 
-word-nothing : (n v : ℕ) → wordAt (replicate n unqueued) v ≡ unqueued
+pub word-nothing : (n v : ℕ) → wordAt (replicate n unqueued) v ≡ unqueued
 unfolding wordAt
 word-nothing zero v = refl
 word-nothing (suc n) zero = refl
@@ -416,11 +474,19 @@ left-nothing (suc n) zero = refl
 left-nothing (suc n) (suc v) = left-nothing n v
 
 module _ (i : Instance) (well : WellFormed i) where
-  -- Only the root is queued.
-  pub start-key : (P : Option ℕ → Type 0) (v : ℕ) → (v ≡ 0 → P (some (bound i 0))) → (v ≢ 0 → P none)
-      → P (key (set (replicate (size i) unqueued) 0 (bound i 0)) v)
-  start-key P v root rest = key-put P (replicate (size i) unqueued) 0 (bound i 0) (omega (arith, bound-most i well 0)) (rw length-replicate (well .shape
-      .root)) v root (λ n. rw key-nothing (rest n))
+  -- Only the root is queued, if it may enter.
+  pub start-key : (P : Option ℕ → Type 0) (v : ℕ) → (v ≡ 0 → T (i .admits 0) → P (some (bound i 0))) → ((v ≡ 0 → T (i .admits 0) → ⊥) → P none)
+      → P (key (rootKeys i) v)
+  unfolding rootKeys
+  start-key P v root rest = choose-case (λ (ws : List ℕ). P (key ws v)) _
+      (λ t. key-put P (replicate (size i) unqueued) 0 (bound i 0) (omega (arith, bound-most i well 0)) (rw length-replicate (well .shape
+      .root)) v (λ p. root p t) (λ n. rw key-nothing (rest (λ p u. n p))))
+      (λ t. rw key-nothing (rest (λ p u. T-not (i .admits 0) t u)))
+
+  start-length : length (rootKeys i) ≡ size i
+  unfolding rootKeys
+  start-length = choose-case (λ (ws : List ℕ). length ws ≡ size i) _
+      (λ t. length-set (replicate (size i) unqueued) 0 (bound i 0) ∙ length-replicate (size i) unqueued) (λ t. length-replicate (size i) unqueued)
 
   pub start-yard : (v : ℕ) {a : ℕ} → key (startSearch i .yardKeys) v ≡ some a → ⊥
   unfolding startSearch
@@ -434,9 +500,9 @@ module _ (i : Instance) (well : WellFormed i) where
   unfolding startSearch ranked
   start-kept = record {
     sizes = record {
-      regions = length-set (replicate (size i) unqueued) 0 (bound i 0) ∙ length-replicate (size i) unqueued;
+      regions = start-length;
       yards = length-replicate (i .tree .junctions) unqueued;
-      firsts = length-set (replicate (size i) unqueued) 0 (bound i 0) ∙ length-replicate (size i) unqueued;
+      firsts = start-length;
       gone = length-replicate (i .tree .junctions) false;
     };
     queued-left = λ v b e. absurd (start-yard v e);
@@ -444,25 +510,19 @@ module _ (i : Instance) (well : WellFormed i) where
     measured-left = λ v k. absurd (not-nil k);
     once = tt;
     first-ranked = sym (front-none (i .rule));
-    regions-in = λ v b y. start-key (λ o. o ≡ some b → Below i v y → Below i 0 y) v (λ p e below. rw p at below) (λ p e. absurd (no-key e));
+    admitted = λ v b. start-key (λ o. o ≡ some b → T (i .admits v)) v (λ p t e. rw p t) (λ p e. absurd (no-key e));
+    regions-in = λ v b y. start-key (λ o. o ≡ some b → Below i v y → Below i 0 y) v (λ p t e below. rw p at below) (λ p e. absurd (no-key e));
     yards-in = λ v b e. absurd (start-yard v e);
     measured-in = λ v k. absurd (not-nil k);
     has-first = λ v b. start-key (λ o. o ≡ some b
-        → T (has (key (startSearch i .firsts) v))) v (λ p e. start-key (λ o. T (has o)) v (λ q. tt) (λ q. absurd (q p))) (λ p e. absurd (no-key e));
+        → T (has (key (startSearch i .firsts) v))) v (λ p t e. start-key (λ o. T (has o)) v (λ q u. tt) (λ q. absurd (q p t))) (λ p e. absurd (no-key e));
     parent-first = λ r c k. start-key (λ o. T (has o)
-        → T (has (key (startSearch i .firsts) r))) c (λ p. absurd (omega (arith, well .shape .rise r c k))) (λ p t. absurd t);
+        → T (has (key (startSearch i .firsts) r))) c (λ p u. absurd (omega (arith, well .shape .rise r c k))) (λ p t. absurd t);
     parent-taken = λ r c k. start-key (λ o. T (has o)
-        → key (startSearch i .regionKeys) r ≡ none) c (λ p. absurd (omega (arith, well .shape .rise r c k))) (λ p t. absurd t);
-    leaf-open = λ v b. λ l. start-key (λ o. o ≡ some b
-        → OneLeft (startSearch i .gone) (chosen i v)) v (λ p e. rw p (opens (rw p at l))) (λ p e. absurd (no-key e));
+        → key (startSearch i .regionKeys) r ≡ none) c (λ p u. absurd (omega (arith, well .shape .rise r c k))) (λ p t. absurd t);
+    leaf-open = λ v b g l e k w. record { element = g; mem = k; stays = stays-by i (startSearch i .gone) (g .yard) (start-left (g .yard)) w };
     leaf-fresh = λ v e l h k t. start-left (e .yard);
   }
-    where
-      opens : T (leaf i 0) → OneLeft (startSearch i .gone) (chosen i 0)
-      opens l =
-          let mark = chosen-mem i 0 (well .shape .marked 0 (well .shape .root)) in
-          let x = some-element (chosen i 0 .list) (well .shape .some-yard 0 (chosen i 0) l mark) in
-          record { element = x .0; mem = x .1; stays = start-left (x .0 .yard) }
 
   pub run-kept : (limit : ℕ) → Kept i (run i limit .state)
   unfolding run advance

@@ -11,13 +11,13 @@ use lib.ListN.{length, set}
 use lib.Dec.{T}
 use Rattle.book.proofs.Choosing.{choose-case}
 use Rattle.tree_layout.specs.Values.{Element, Mark}
-use Rattle.search_rules.specs.Order.{yardFirst}
+use Rattle.search_rules.specs.Order.{Entry}
 use Rattle.search_rules.specs.Instance.{Instance, size, children, marks, leaf}
 use Rattle.search_rules.specs.Bounds.{bound, chosen, f, yardBound}
 use Rattle.search_rules.specs.Queue.{unqueued, wordAt}
 use Rattle.search_rules.specs.Keeping.{keepBy, keep}
 use Rattle.search_rules.specs.Held.{entry}
-use Rattle.search_rules.specs.Step.{SearchState, left, againKey, nextF, openInner, queueNext, takeYard, step, settled, startSearch}
+use Rattle.search_rules.specs.Step.{SearchState, passed, againKey, nextF, openInner, queueNext, closeLeaf, takeYard, step, settled, startSearch}
 use Rattle.search_rules.specs.Run.{Outcome, advance, run}
 use Rattle.search_rules.specs.Facts.{Shape, WellFormed, SoundInstance}
 use Rattle.search_rules.specs.Theorems.{NotPast, KeyOf}
@@ -26,7 +26,7 @@ use Rattle.search_rules.proofs.Bounds.{f-le, chosen-mem}
 use Rattle.search_rules.proofs.Queue.{seen, key, key-word, key-small, word-key, key-range, key-eq, no-key, has-key, Entered, queued-child, kept, Again}
 use Rattle.search_rules.proofs.Queue.{empty, more}
 use Rattle.search_rules.proofs.Stepping.{Due, step-case}
-use Rattle.search_rules.proofs.Kept.{Kept, left-not, region-range, InnerKey, child, taken, same, inner-key, inner-first, fresh-child, yard-fits}
+use Rattle.search_rules.proofs.Kept.{Kept, stays-before, closed-key, region-range, InnerKey, child, taken, same, inner-key, inner-first, fresh-child, yard-fits}
 use Rattle.search_rules.proofs.Kept.{leaf-yard-key, leaf-region-key, leaf-again, taken-yard-key, yard-kept, region-case, start-key, start-yard, run-kept}
 use Rattle.search_rules.proofs.Low.{Low, run-low}
 use Rattle.search_rules.proofs.Found.{kept-listing}
@@ -42,7 +42,7 @@ pub record MeasuredKey (i : Instance) (st : SearchState) (y : ℕ) : Type 0 wher
 pub record Level (i : Instance) (st : SearchState) : Type 0 where
   pub queued-key : (y a : ℕ) → key (st .yardKeys) y ≡ some a → KeyOf i (st .firsts) y a
   pub leaf-level : (r a c : ℕ) (g : Element) → T (leaf i r) → key (st .regionKeys) r ≡ some a → key (st .firsts) r ≡ some c → Mem g (chosen i r .list)
-      → T (not (left (st .gone) (g .yard))) → a ≤ max c (f i (chosen i r) g)
+      → T (not (passed i (st .gone) (g .yard))) → a ≤ max c (f i (chosen i r) g)
   pub measured-key : (y : ℕ) → Mem y (st .measured) → MeasuredKey i st y
 
 key-of-more : {i : Instance} {firsts new : List ℕ} {y a : ℕ} → ((r c : ℕ) → key firsts r ≡ some c → key new r ≡ some c) → KeyOf i firsts y a → KeyOf i new y a
@@ -86,7 +86,7 @@ module _ (i : Instance) (well : WellFormed i) where
               go (queued-child k) = absurd (fresh-child i well st was r a at v k (has-key e))
               go (kept n q) = q ∙ e
 
-          levels : (v b c : ℕ) (g : Element) → T (leaf i v) → Mem g (chosen i v .list) → T (not (left (st .gone) (g .yard))) → {o p : Option ℕ}
+          levels : (v b c : ℕ) (g : Element) → T (leaf i v) → Mem g (chosen i v .list) → T (not (passed i (st .gone) (g .yard))) → {o p : Option ℕ}
               → InnerKey i well st was r a at v o → Entered i a (children i r) (st .firsts) v p → o ≡ some b → p ≡ some c → b ≤ max c (f i (chosen i v) g)
           levels v b c g l k n (child j) (queued-child h) e q = omega (arith, key-eq e, key-eq q)
           levels v b c g l k n (child j) (kept m s) e q = absurd (m j)
@@ -111,7 +111,7 @@ module _ (i : Instance) (well : WellFormed i) where
       -- ---- a leaf
 
       leaf-level′ : (is-leaf : T (leaf i r)) (first : ℕ) → key (st .firsts) r ≡ some first → (e : Element) → (mem : Mem e (chosen i r .list))
-          → T (not (left (st .gone) (e .yard)))
+          → T (not (passed i (st .gone) (e .yard)))
           → Level i (queueNext i st r first (chosen i r) e)
       unfolding queueNext
       leaf-level′ is-leaf first first-is e mem stays = record {
@@ -126,10 +126,10 @@ module _ (i : Instance) (well : WellFormed i) where
               value = rw first-word (sym (key-eq q));
             })
             (λ p q. level .queued-key v b q);
-        leaf-level = λ v b c g l. region-key (λ o. o ≡ some b → key (st .firsts) v ≡ some c → Mem g (chosen i v .list) → T (not (left gone′ (g .yard)))
+        leaf-level = λ v b c g l. region-key (λ o. o ≡ some b → key (st .firsts) v ≡ some c → Mem g (chosen i v .list) → T (not (passed i gone′ (g .yard)))
             → b ≤ max c (f i (chosen i v) g)) v
             (λ p q s k n. rw p (levels b c g (next-key) q (rw p at s) (rw p at k) n))
-            (λ p q s k n. level .leaf-level v b c g l q s k (left-not (st .gone) y fits (g .yard) n));
+            (λ p q s k n. level .leaf-level v b c g l q s k (stays-before i (st .gone) y fits (g .yard) n));
         measured-key = λ z k. measured z (level .measured-key z k);
       }
         where
@@ -166,14 +166,14 @@ module _ (i : Instance) (well : WellFormed i) where
           next-key = leaf-again i well st was r a at is-leaf first first-is e mem stays
 
           levels : (b c : ℕ) (g : Element) {o : Option ℕ} → Again i gone′ first m o → o ≡ some b → key (st .firsts) r ≡ some c → Mem g (m .list)
-              → T (not (left gone′ (g .yard))) → b ≤ max c (f i m g)
+              → T (not (passed i gone′ (g .yard))) → b ≤ max c (f i m g)
           levels b c g (empty h) q s k n = absurd (no-key q)
           levels b c g (more x j t l) q s k n = omega (arith, key-eq q, key-eq (sym first-is ∙ s), l g k n)
 
           -- the new keys are not below the one taken
           again-up : (b : ℕ) {o : Option ℕ} → Again i gone′ first m o → o ≡ some b → a ≤ b
           again-up b (empty h) q = absurd (no-key q)
-          again-up b (more x j t l) q = omega (arith, key-eq q, level .leaf-level r a first x is-leaf at first-is j (left-not (st .gone) y fits (x .yard) t))
+          again-up b (more x j t l) q = omega (arith, key-eq q, level .leaf-level r a first x is-leaf at first-is j (stays-before i (st .gone) y fits (x .yard) t))
 
           yard-up : a ≤ max (yardBound i m e) first
           yard-up = omega (arith, level .leaf-level r a first e is-leaf at first-is mem stays, f-le i m e)
@@ -188,6 +188,27 @@ module _ (i : Instance) (well : WellFormed i) where
             held = x .held;
           }
 
+      -- ---- a leaf without any wanted yard
+
+      closed-level : Level i (closeLeaf i st r)
+      unfolding closeLeaf
+      closed-level = record {
+        queued-key = level .queued-key;
+        leaf-level = λ v b c g l. drop (λ o. o ≡ some b → key (st .firsts) v ≡ some c → Mem g (chosen i v .list) → T (not (passed i (st .gone) (g .yard)))
+            → b ≤ max c (f i (chosen i v) g)) v
+            (λ p q. absurd (no-key q)) (λ p q. level .leaf-level v b c g l q);
+        measured-key = λ z k. let x = level .measured-key z k in record {
+          queue-key = x .queue-key;
+          is = x .is;
+          regions = λ v b. drop (λ o. o ≡ some b → x .queue-key ≤ b) v (λ p q. absurd (no-key q)) (λ p q. x .regions v b q);
+          yards = x .yards;
+          held = x .held;
+        };
+      }
+        where
+          drop : (P : Option ℕ → Type 0) (v : ℕ) → (v ≡ r → P none) → (v ≢ r → P (key (st .regionKeys) v)) → P (key (set (st .regionKeys) r unqueued) v)
+          drop = closed-key i well st was r a at
+
     -- ---- a yard
 
     yard-level : Low i st → (y b : ℕ) → key (st .yardKeys) y ≡ some b → Due i st b → Level i (takeYard i st y)
@@ -198,7 +219,7 @@ module _ (i : Instance) (well : WellFormed i) where
       measured-key = λ z k. measured z (cases-cons k);
     }
       where
-        held′ : List Element
+        held′ : List Entry
         held′ = keepBy (i .rule) (entry i y) (st .held)
 
         new : SearchState
@@ -229,7 +250,8 @@ module _ (i : Instance) (well : WellFormed i) where
 
     step-level : Low i st → T (not (settled i st)) → Level i (step i st)
     step-level low u = step-case i st (was .sizes) (Level i) u
-        (λ r a at due. region-case i well st was (Level i) r a at (λ l. inner-level r a at) (λ l first q e k n h. leaf-level′ r a at l first q e k n))
+        (λ r a at due. region-case i well st was (Level i) r a at (λ l. inner-level r a at) (λ l first q e k n h. leaf-level′ r a at l first q e k n)
+        (λ t. closed-level r a at))
         (λ y b at due. yard-level low y b at due)
 
   start-level : Level i (startSearch i)
@@ -237,13 +259,13 @@ module _ (i : Instance) (well : WellFormed i) where
   start-level = record {
     queued-key = λ y a e. absurd (start-yard i well y e);
     leaf-level = λ r a c g l. start-key i well (λ o. o ≡ some a → key (startSearch i .firsts) r ≡ some c → Mem g (chosen i r .list)
-        → T (not (left (startSearch i .gone) (g .yard))) → a ≤ max c (f i (chosen i r) g)) r
-        (λ p q s k n. root r a c (f i (chosen i r) g) p q s) (λ p q. absurd (no-key q));
+        → T (not (passed i (startSearch i .gone) (g .yard))) → a ≤ max c (f i (chosen i r) g)) r
+        (λ p t q s k n. root r a c (f i (chosen i r) g) p t q s) (λ p q. absurd (no-key q));
     measured-key = λ y k. absurd (not-nil k);
   }
     where
-      root : (r a c x : ℕ) → r ≡ 0 → _≡_ {A = Option ℕ} (some (bound i 0)) (some a) → key (startSearch i .firsts) r ≡ some c → a ≤ max c x
-      root r a c x p q = start-key i well (λ o. o ≡ some c → a ≤ max c x) r (λ t s. omega (arith, key-eq q, key-eq s)) (λ t s. absurd (t p))
+      root : (r a c x : ℕ) → r ≡ 0 → T (i .admits 0) → _≡_ {A = Option ℕ} (some (bound i 0)) (some a) → key (startSearch i .firsts) r ≡ some c → a ≤ max c x
+      root r a c x p u q = start-key i well (λ o. o ≡ some c → a ≤ max c x) r (λ t v s. omega (arith, key-eq q, key-eq s)) (λ t s. absurd (t p u))
 
 -- A yard has one key.
 key-of-one : (i : Instance) → WellFormed i → (firsts : List ℕ) → length firsts ≡ size i → {y a b : ℕ} → KeyOf i firsts y a → KeyOf i firsts y b → a ≡ b

@@ -6,6 +6,7 @@ pub mod Held
 pub mod Fronts
 pub mod Ceiling
 pub mod Queue
+pub mod Barren
 pub mod Stepping
 pub mod Kept
 pub mod Low
@@ -14,12 +15,15 @@ pub mod Ends
 pub mod Level
 pub mod Fitting
 pub mod Trees
+pub mod Wanted
 pub mod Books
 pub mod Few
 pub mod Theorems
 pub mod Asked
+pub mod ByKinds
 pub mod Walks
 pub mod Agreeing
+pub mod Versions
 pub mod Turns
 pub mod Equations
 pub mod Steps

@@ -15,13 +15,15 @@ use Rattle.tree_layout.specs.Values.{Element, Mark}
 use Rattle.search_rules.specs.Instance.{Instance, children, marks, leaf}
 use Rattle.search_rules.specs.Bounds.{bound, total, chosen, f, yardBound}
 use Rattle.search_rules.specs.Queue.{unqueued}
-use Rattle.search_rules.specs.Step.{SearchState, left, againKey, nextF, openInner, queueNext, takeYard, step, settled, startSearch}
+use Rattle.search_rules.specs.Step.{SearchState, left, passed, againKey, nextF, openInner, queueNext, closeLeaf, takeYard, step, settled, startSearch}
 use Rattle.search_rules.specs.Run.{Outcome, advance, run}
 use Rattle.search_rules.specs.Facts.{Listed, Below, inside, under, SoundInstance}
-use Rattle.search_rules.proofs.Bounds.{bound-le, yardBound-le, f-le-total}
-use Rattle.search_rules.proofs.Queue.{seen, key, key-eq, no-key, Entered, queued-child, kept, Again, empty, more}
+use Rattle.search_rules.specs.Theorems.{barren}
+use Rattle.search_rules.proofs.Bounds.{below-admitted, below-wanted, bound-le, yardBound-le, f-le-total}
+use Rattle.search_rules.proofs.Queue.{seen, key, key-eq, no-key, Entered, queued-child, kept, Again, empty, more, stays-by}
+use Rattle.search_rules.proofs.Barren.{barren-leaf, barren-none}
 use Rattle.search_rules.proofs.Stepping.{step-case}
-use Rattle.search_rules.proofs.Kept.{Kept, left-other, left-not, InnerKey, child, taken, same, inner-key, inner-first, mark-mem, yard-fits}
+use Rattle.search_rules.proofs.Kept.{Kept, left-other, left-not, InnerKey, child, taken, same, inner-key, inner-first, mark-mem, yard-fits, leaf-own, closed-key}
 use Rattle.search_rules.proofs.Kept.{leaf-yard-key, leaf-region-key, leaf-again, taken-yard-key, region-case, start-key, start-yard, start-left}
 use Rattle.search_rules.proofs.Kept.{run-kept}
 
@@ -39,12 +41,12 @@ pub record Low (i : Instance) (st : SearchState) : Type 0 where
   pub cover : (y : ℕ) → Below i 0 y → Cover i st y
 
 open-below : {i : Instance} {r y : ℕ} → T (not (leaf i r)) → Below i r y → (c : ℕ) × Mem c (children i r) × Below i c y
-open-below {i} {r} {y} n (inside m l k x) = absurd (T-not (leaf i r) n l)
-open-below {i} {r} {y} n (under c l k b) = (c, k, b)
+open-below {i} {r} {y} n (inside m a l k x w) = absurd (T-not (leaf i r) n l)
+open-below {i} {r} {y} n (under c a l k b) = (c, k, b)
 
 leaf-below : {i : Instance} {r y : ℕ} → T (leaf i r) → Below i r y → (m : Mark) × Mem m (marks i r) × Listed m y
-leaf-below {i} {r} {y} l (inside m t k x) = (m, k, x)
-leaf-below {i} {r} {y} l (under c n k b) = absurd (T-not (leaf i r) n l)
+leaf-below {i} {r} {y} l (inside m a t k x w) = (m, k, x)
+leaf-below {i} {r} {y} l (under c a n k b) = absurd (T-not (leaf i r) n l)
 
 module _ (i : Instance) (sound : SoundInstance i) where
   bounded : {r y : ℕ} → Below i r y → bound i r ≤ total i y
@@ -68,7 +70,7 @@ module _ (i : Instance) (sound : SoundInstance i) where
           key′ v = key (openInner i st r a .regionKeys) v
 
           raised : (v b y : ℕ) → Mem v (children i r) → Below i v y → _≡_ {A = Option ℕ} (some (max (bound i v) a)) (some b) → b ≤ total i y
-          raised v b y k below e = omega (arith, key-eq e, bounded below, low .inner-low r a y inner at (under v inner k below))
+          raised v b y k below e = omega (arith, key-eq e, bounded below, low .inner-low r a y inner at (under v (was .admitted r a at) inner k below))
 
           by-key : (v b y : ℕ) → (key (st .regionKeys) v ≡ some b → b ≤ total i y) → Below i v y → {o : Option ℕ}
               → InnerKey i (sound .well) st was r a at v o → o ≡ some b → b ≤ total i y
@@ -102,7 +104,7 @@ module _ (i : Instance) (sound : SoundInstance i) where
       -- ---- a leaf
 
       leaf-lowers : (is-leaf : T (leaf i r)) (first : ℕ) → key (st .firsts) r ≡ some first → (e : Element) → (mem : Mem e (chosen i r .list))
-          → T (not (left (st .gone) (e .yard)))
+          → T (not (passed i (st .gone) (e .yard)))
           → Low i (queueNext i st r first (chosen i r) e)
       unfolding queueNext
       leaf-lowers is-leaf first first-is e mem stays = record {
@@ -142,7 +144,7 @@ module _ (i : Instance) (sound : SoundInstance i) where
           gone′ = set (st .gone) y true
 
           own : Below i r y
-          own = inside m is-leaf mark (record { element = e; mem = mem; names = refl })
+          own = leaf-own i (sound .well) st was r a at is-leaf first first-is e mem stays
 
           new : SearchState
           new = queueNext i st r first m e
@@ -166,7 +168,7 @@ module _ (i : Instance) (sound : SoundInstance i) where
           again-low b z below n (empty h) q = absurd (no-key q)
           again-low b z below n (more g k s l) q =
               let x = listed below in
-              let c : f i m g ≤ f i m (x .element) = l (x .element) (x .mem) (rw (x .names) n) in
+              let c : f i m g ≤ f i m (x .element) = l (x .element) (x .mem) (rw (x .names) (stays-by i gone′ z n (below-wanted i below))) in
               let t : f i m (x .element) ≤ total i z = rw (x .names) at (f-le-total i (sound .well .shape) (sound .metric) (sound .symmetric) (sound .truth) r
               m (x .element) is-leaf mark (x .mem)) in
               omega (arith, key-eq q, low .first-low r first z first-is below)
@@ -182,7 +184,8 @@ module _ (i : Instance) (sound : SoundInstance i) where
             where
               again-cover : v ≡ r → z ≢ y → {o : Option ℕ} → Again i gone′ first m o → key (new .regionKeys) v ≡ o → Cover i new z
               again-cover p s (empty h) c = let x = listed (rw p at below) in
-                  absurd (T-not (left gone′ z) (left-other (st .gone) y fits z s n) (rw (x .names) at (h (x .element) (x .mem))))
+                  absurd (T-not (passed i gone′ z) (stays-by i gone′ z (left-other (st .gone) y fits z s n) (below-wanted i below)) (rw (x .names) at (h (x .element) (x
+                  .mem))))
               again-cover p s (more g k t l) c = below-queued v (max first (f i m g)) c below (left-other (st .gone) y fits z s n)
 
               at-key : (p : z ≢ y) → Dec (v ≡ r) → Cover i new z
@@ -192,6 +195,35 @@ module _ (i : Instance) (sound : SoundInstance i) where
               go : Dec (z ≡ y) → Cover i new z
               go (yes p) = in-queue (max (yardBound i m e) first) (yard-key (λ o. o ≡ some (max (yardBound i m e) first)) z (λ s. refl) (λ s. absurd (s p)))
               go (no p) = at-key p (ℕ-discrete v r)
+
+      -- ---- a leaf without any wanted yard
+
+      closed-lowers : T (barren i r) → Low i (closeLeaf i st r)
+      unfolding closeLeaf
+      closed-lowers t = record {
+        inner-low = λ v b z n. drop (λ o. o ≡ some b → Below i v z → b ≤ total i z) v (λ p q. absurd (no-key q)) (λ p q. low .inner-low v b z n q);
+        region-low = λ v b z. drop (λ o. o ≡ some b → Below i v z → T (not (left (st .gone) z)) → b ≤ total i z) v (λ p q. absurd (no-key q))
+            (λ p q. low .region-low v b z q);
+        first-low = low .first-low;
+        yard-low = low .yard-low;
+        cover = λ z below. covers z (low .cover z below);
+      }
+        where
+          drop : (P : Option ℕ → Type 0) (v : ℕ) → (v ≡ r → P none) → (v ≢ r → P (key (st .regionKeys) v)) → P (key (set (st .regionKeys) r unqueued) v)
+          drop = closed-key i (sound .well) st was r a at
+
+          -- nothing is below it
+          bare : {z : ℕ} → Below i r z → ⊥
+          bare {z} below =
+              let l = barren-leaf i r t in
+              let x = leaf-below l below in
+              let j = sound .well .shape .alike r (x .0) (chosen i r) z l (x .1) (mark-mem i (sound .well) st was r a at l) (x .2) in
+              barren-none i r t (j .element) (j .mem) (rw (j .names) (below-wanted i below))
+
+          covers : (z : ℕ) → Cover i st z → Cover i (closeLeaf i st r) z
+          covers z (is-measured k) = is-measured k
+          covers z (in-queue b q) = in-queue b q
+          covers z (below-queued v b q below n) = below-queued v b (drop (λ o. o ≡ some b) v (λ p. absurd (bare (rw p at below))) (λ p. q)) below n
 
     -- ---- a yard
 
@@ -219,21 +251,22 @@ module _ (i : Instance) (sound : SoundInstance i) where
 
     pub step-low : T (not (settled i st)) → Low i (step i st)
     step-low u = step-case i st (was .sizes) (Low i) u
-        (λ r a at due. region-case i (sound .well) st was (Low i) r a at (λ l. inner-lowers r a at l) (λ l first q e k n h. leaf-lowers r a at l first q e k n))
+        (λ r a at due. region-case i (sound .well) st was (Low i) r a at (λ l. inner-lowers r a at l) (λ l first q e k n h. leaf-lowers r a at l first q e k n)
+        (λ t. closed-lowers r a at t))
         (λ y b at due. yard-lowers y b at)
 
   start-low : Low i (startSearch i)
   unfolding startSearch
   start-low = record {
     inner-low = λ v b y n. start-key i (sound .well) (λ o. o ≡ some b → Below i v y
-        → b ≤ total i y) v (λ p q below. root v b y p q below) (λ p q. absurd (no-key q));
+        → b ≤ total i y) v (λ p t q below. root v b y p q below) (λ p q. absurd (no-key q));
     region-low = λ v b y. start-key i (sound .well) (λ o. o ≡ some b → Below i v y → T (not (left (startSearch i .gone) y))
-        → b ≤ total i y) v (λ p q below n. root v b y p q below) (λ p q. absurd (no-key q));
+        → b ≤ total i y) v (λ p t q below n. root v b y p q below) (λ p q. absurd (no-key q));
     first-low = λ v b y. start-key i (sound .well) (λ o. o ≡ some b → Below i v y
-        → b ≤ total i y) v (λ p q below. root v b y p q below) (λ p q. absurd (no-key q));
+        → b ≤ total i y) v (λ p t q below. root v b y p q below) (λ p q. absurd (no-key q));
     yard-low = λ v b e. absurd (start-yard i (sound .well) v e);
     cover = λ y below. below-queued 0 (bound i 0) (start-key i (sound .well) (λ o. o
-        ≡ some (bound i 0)) 0 (λ p. refl) (λ p. absurd (p refl))) below (start-left i (sound .well) y);
+        ≡ some (bound i 0)) 0 (λ p t. refl) (λ p. absurd (p refl (below-admitted i below)))) below (start-left i (sound .well) y);
   }
     where
       root : (v b y : ℕ) → v ≡ 0 → _≡_ {A = Option ℕ} (some (bound i 0)) (some b) → Below i v y → b ≤ total i y

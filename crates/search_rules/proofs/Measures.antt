@@ -12,7 +12,7 @@ use Rattle.tree_layout.specs.Values.{Element, Mark}
 use Rattle.search_rules.specs.Instance.{Instance}
 use Rattle.search_rules.specs.Bounds.{absDiff, combine, aggregate, lower, over, total, listAbsDiff, f, yardBound}
 use Rattle.search_rules.specs.Queue.{unqueued, wordAt, pick}
-use Rattle.search_rules.specs.Step.{left, waiting, nextPlace, nextF}
+use Rattle.search_rules.specs.Step.{left, passed, waiting, nextPlace, nextF}
 
 -- ---- aggregates
 
@@ -51,7 +51,7 @@ module _ (i : Instance) (gone : List Bool) (m : Mark) where
   unfolding waiting
   waiting-none = refl
 
-  pub waiting-cons : (e : Element) (es : List Element) → waiting i gone m (e ∷ es) ≡ choose (left gone (e .yard)) unqueued (f i m e) ∷ waiting i gone m es
+  pub waiting-cons : (e : Element) (es : List Element) → waiting i gone m (e ∷ es) ≡ choose (passed i gone (e .yard)) unqueued (f i m e) ∷ waiting i gone m es
   unfolding waiting
   waiting-cons e es = refl
 

@@ -1,7 +1,7 @@
 -- The queue: words as keys, the least of them, the next element of a list, and the children's keys. Assumes nothing.
 use mathlib.Core.Path.{_≡_, refl, sym, ap, _∙_}
 use mathlib.Core.Logic.{_⊎_, inl, inr, _≢_}
-use mathlib.Core.Bool.{Bool, true, false, not}
+use mathlib.Core.Bool.{Bool, true, false, not, _||_}
 use mathlib.Core.List.{List, [], _∷_, List·Memᴰ as Mem, List·Memᴰ·head as head, List·Memᴰ·tail as tail, List·Memᴰ·not-nil as not-nil}
 use mathlib.Core.List.{List·Memᴰ·cases-cons as cases-cons}
 use mathlib.Core.Option.{Option, none, some}
@@ -18,7 +18,7 @@ use Rattle.tree_layout.specs.Values.{Element, Mark}
 use Rattle.search_rules.specs.Instance.{Instance}
 use Rattle.search_rules.specs.Bounds.{f, bound}
 use Rattle.search_rules.specs.Queue.{unqueued, queued, wordAt, pick}
-use Rattle.search_rules.specs.Step.{left, noElement, againKey, waiting, nextPlace, nextF, queueChildren}
+use Rattle.search_rules.specs.Step.{left, noElement, passed, againKey, waiting, nextPlace, nextF, queueChildren}
 
 -- ---- words as keys
 
@@ -138,6 +138,38 @@ pick-range ws (suc j) h = choose-case (λ p. p < suc j) (ltb (wordAt ws j) (word
 
 -- ---- the next element of a list
 
+-- a yard is not passed over exactly if it has not left and is wanted
+module _ (i : Instance) (gone : List Bool) (y : ℕ) where
+  pub passed-is : passed i gone y ≡ (left gone y || not (i .wants y))
+  unfolding passed
+  passed-is = refl
+
+  pub stays-left : T (not (passed i gone y)) → T (not (left gone y))
+  unfolding passed
+  stays-left = go (left gone y) _
+    where
+      go : (a b : Bool) → T (not (a || b)) → T (not a)
+      go true b t = t
+      go false b t = tt
+
+  pub stays-wanted : T (not (passed i gone y)) → T (i .wants y)
+  unfolding passed
+  stays-wanted = go (left gone y) (i .wants y)
+    where
+      go : (a b : Bool) → T (not (a || not b)) → T b
+      go true b t = absurd t
+      go false true t = tt
+      go false false t = t
+
+  pub stays-by : T (not (left gone y)) → T (i .wants y) → T (not (passed i gone y))
+  unfolding passed
+  stays-by = go (left gone y) (i .wants y)
+    where
+      go : (a b : Bool) → T (not a) → T b → T (not (a || not b))
+      go true b s t = s
+      go false true s t = tt
+      go false false s t = absurd t
+
 module _ (i : Instance) (gone : List Bool) (m : Mark) where
   pub waiting-length : (es : List Element) → length (waiting i gone m es) ≡ length es
   unfolding waiting
@@ -145,46 +177,46 @@ module _ (i : Instance) (gone : List Bool) (m : Mark) where
   waiting-length (e ∷ es) = ap suc (waiting-length es)
 
   pub waiting-at : (es : List Element) (p : ℕ) → p < length es
-      → wordAt (waiting i gone m es) p ≡ choose (left gone (getD es p noElement .yard)) unqueued (f i m (getD es p noElement))
+      → wordAt (waiting i gone m es) p ≡ choose (passed i gone (getD es p noElement .yard)) unqueued (f i m (getD es p noElement))
   unfolding waiting wordAt
   waiting-at [] p h = absurd (omega arith)
   waiting-at (e ∷ es) zero h = refl
   waiting-at (e ∷ es) (suc p) h = waiting-at es p (omega arith)
 
-  -- Either every element has left, or the next one has not, and its f is least of those that have not.
+  -- Either every element is passed over, or the next one is not, and its f is least of those that are not.
   pub data Next : Type 0 where
-    no-more : unqueued ≤ nextF i gone m → ((e : Element) → Mem e (m .list) → T (left gone (e .yard))) → Next
+    no-more : unqueued ≤ nextF i gone m → ((e : Element) → Mem e (m .list) → T (passed i gone (e .yard))) → Next
     one-more : (e : Element) → getD (m .list) (nextPlace i gone m) noElement ≡ e → nextF i gone m ≡ f i m e → f i m e < unqueued → Mem e (m .list)
-        → T (not (left gone (e .yard)))
-        → ((g : Element) → Mem g (m .list) → T (not (left gone (g .yard))) → f i m e ≤ f i m g) → Next
+        → T (not (passed i gone (e .yard)))
+        → ((g : Element) → Mem g (m .list) → T (not (passed i gone (g .yard))) → f i m e ≤ f i m g) → Next
 
   module _ (small : (e : Element) → Mem e (m .list) → f i m e < unqueued) where
     -- every word is at least the next one's
-    word-up : (g : Element) → Mem g (m .list) → nextF i gone m ≤ choose (left gone (g .yard)) unqueued (f i m g)
+    word-up : (g : Element) → Mem g (m .list) → nextF i gone m ≤ choose (passed i gone (g .yard)) unqueued (f i m g)
     unfolding nextF nextPlace
     word-up g k = go (mem-getD (m .list) noElement g k)
       where
         go : (p : ℕ) × (p < length (m .list)) × (g ≡ getD (m .list) p noElement)
-            → wordAt (waiting i gone m (m .list)) (pick (waiting i gone m (m .list)) (length (m .list))) ≤ choose (left gone (g .yard)) unqueued (f i m g)
+            → wordAt (waiting i gone m (m .list)) (pick (waiting i gone m (m .list)) (length (m .list))) ≤ choose (passed i gone (g .yard)) unqueued (f i m g)
         go (p, h, e) = rw (e, ← waiting-at (m .list) p h) (pick-least (waiting i gone m (m .list)) (length (m .list)) p h)
 
     pub next-is : Next
     unfolding nextF nextPlace waiting wordAt
     next-is = go (m .list) refl
       where
-        all-left : unqueued ≤ nextF i gone m → (e : Element) → Mem e (m .list) → T (left gone (e .yard))
-        all-left h e k = on (T-split (left gone (e .yard)))
+        all-passed : unqueued ≤ nextF i gone m → (e : Element) → Mem e (m .list) → T (passed i gone (e .yard))
+        all-passed h e k = on (T-split (passed i gone (e .yard)))
           where
-            on : T (left gone (e .yard)) ⊎ T (not (left gone (e .yard))) → T (left gone (e .yard))
+            on : T (passed i gone (e .yard)) ⊎ T (not (passed i gone (e .yard))) → T (passed i gone (e .yard))
             on (inl t) = t
-            on (inr t) = absurd (omega (arith, word-up e k, choose-no (left gone (e .yard)) unqueued (f i m e) t, small e k))
+            on (inr t) = absurd (omega (arith, word-up e k, choose-no (passed i gone (e .yard)) unqueued (f i m e) t, small e k))
 
         go : (es : List Element) → m .list ≡ es → Next
         go [] q = no-more empty (λ e k. absurd (not-nil (rw q at k)))
           where
             empty : unqueued ≤ nextF i gone m
             empty = rw q (omega arith)
-        go (g ∷ gs) q = on (T-split (left gone (e .yard)))
+        go (g ∷ gs) q = on (T-split (passed i gone (e .yard)))
           where
             p : ℕ
             p = nextPlace i gone m
@@ -195,23 +227,23 @@ module _ (i : Instance) (gone : List Bool) (m : Mark) where
             fits : p < length (m .list)
             fits = pick-range (waiting i gone m (m .list)) (length (m .list)) (rw q (omega arith))
 
-            word : nextF i gone m ≡ choose (left gone (e .yard)) unqueued (f i m e)
+            word : nextF i gone m ≡ choose (passed i gone (e .yard)) unqueued (f i m e)
             word = waiting-at (m .list) p fits
 
             mem : Mem e (m .list)
             mem = getD-mem (m .list) p noElement fits
 
-            on : T (left gone (e .yard)) ⊎ T (not (left gone (e .yard))) → Next
-            on (inl t) = let h : unqueued ≤ nextF i gone m = omega (arith, word, choose-yes (left gone (e .yard)) unqueued (f i m e) t) in
-                no-more h (all-left h)
+            on : T (passed i gone (e .yard)) ⊎ T (not (passed i gone (e .yard))) → Next
+            on (inl t) = let h : unqueued ≤ nextF i gone m = omega (arith, word, choose-yes (passed i gone (e .yard)) unqueued (f i m e) t) in
+                no-more h (all-passed h)
             on (inr t) =
-                let w : nextF i gone m ≡ f i m e = word ∙ choose-no (left gone (e .yard)) unqueued (f i m e) t in
-                one-more e refl w (small e mem) mem t (λ g k s. omega (arith, w, word-up g k, choose-no (left gone (g .yard)) unqueued (f i m g) s))
+                let w : nextF i gone m ≡ f i m e = word ∙ choose-no (passed i gone (e .yard)) unqueued (f i m e) t in
+                one-more e refl w (small e mem) mem t (λ g k s. omega (arith, w, word-up g k, choose-no (passed i gone (g .yard)) unqueued (f i m g) s))
 
 -- what a leaf's key becomes
 pub data Again (i : Instance) (gone : List Bool) (first : ℕ) (m : Mark) : Option ℕ → Type 0 where
-  empty : ((e : Element) → Mem e (m .list) → T (left gone (e .yard))) → Again i gone first m none
-  more : (e : Element) → Mem e (m .list) → T (not (left gone (e .yard))) → ((g : Element) → Mem g (m .list) → T (not (left gone (g .yard))) → f i m e ≤ f i m g)
+  empty : ((e : Element) → Mem e (m .list) → T (passed i gone (e .yard))) → Again i gone first m none
+  more : (e : Element) → Mem e (m .list) → T (not (passed i gone (e .yard))) → ((g : Element) → Mem g (m .list) → T (not (passed i gone (g .yard))) → f i m e ≤ f i m g)
       → Again i gone first m (some (max first (f i m e)))
 
 pub again-is : (i : Instance) (gone : List Bool) (first : ℕ) (m : Mark) → first < unqueued → ((e : Element) → Mem e (m .list) → f i m e < unqueued)

@@ -11,9 +11,9 @@ use lib.Dec.{T, ltb, eqb, ltb→lt, nltb→le, eqb→eq, T-not, not-T}
 use Rattle.book.specs.Choose.{choose}
 use Rattle.book.proofs.Choosing.{choose-case, and-left, and-right, and-both}
 use Rattle.book.proofs.Lists.{or-left, or-right, or-cases, eq→eqb}
+use Rattle.search_rules.specs.Order.{Entry}
 use Rattle.search_rules.specs.Instance.{Instance, size}
 use Rattle.search_rules.specs.Queue.{unqueued, queued, wordAt, pick}
-use Rattle.tree_layout.specs.Values.{Element}
 use Rattle.search_rules.specs.Rule.{Rule, nearest, inDrive}
 use Rattle.search_rules.specs.Keeping.{enoughBy, enough}
 use Rattle.search_rules.specs.Held.{greatestHeld}
@@ -36,28 +36,28 @@ pub record Due (i : Instance) (st : SearchState) (a : ℕ) : Type 0 where
   pub held : NotPast (i .rule) (st .held) a
 
 -- b is past what ends a search: k are held, and all of them at distances below b; or b is above the seconds
-abbrev pub Past : Rule → List Element → ℕ → Type 0
+abbrev pub Past : Rule → List Entry → ℕ → Type 0
 Past (nearest k) held b = (length held ≡ k) × (greatestHeld held < b)
 Past (inDrive s) held b = s < b
 
-pub past-more : (r : Rule) (held : List Element) (a b : ℕ) → a ≤ b → Past r held a → Past r held b
+pub past-more : (r : Rule) (held : List Entry) (a b : ℕ) → a ≤ b → Past r held a → Past r held b
 past-more (nearest k) held a b h p = (p .0, omega (arith, p .1))
 past-more (inDrive s) held a b h p = omega arith
 
 -- a yard whose distance is past what ends a search is left out
-pub past-out : (r : Rule) (held : List Element) (h : Element) → ((g : Element) → Mem g held → g .distance ≤ greatestHeld held) → Past r held (h .distance)
+pub past-out : (r : Rule) (held : List Entry) (h : Entry) → ((g : Entry) → Mem g held → g .distance ≤ greatestHeld held) → Past r held (h .distance)
     → LeftOut r held h
 past-out (nearest k) held h most p = record { full = p .0; after = λ g m. inl (omega (arith, p .1, most g m)) }
 past-out (inDrive s) held h most p = p
 
-enough-past : (r : Rule) (held : List Element) (key b : ℕ) → T (enoughBy r held key) → key ≤ b → Past r held b
+enough-past : (r : Rule) (held : List Entry) (key b : ℕ) → T (enoughBy r held key) → key ≤ b → Past r held b
 unfolding enoughBy
 enough-past (nearest k) held key b t h =
     let past = and-right (eqb (length held) k) _ t in
     (eqb→eq (length held) k (and-left (eqb (length held) k) _ t), omega (arith, ltb→lt))
 enough-past (inDrive s) held key b t h = omega (arith, ltb→lt)
 
-not-enough : (r : Rule) (held : List Element) (key : ℕ) → T (not (enoughBy r held key)) → NotPast r held key
+not-enough : (r : Rule) (held : List Entry) (key : ℕ) → T (not (enoughBy r held key)) → NotPast r held key
 unfolding enoughBy
 not-enough (nearest k) held key t = λ full. nltb→le (greatestHeld held) key (not-T (ltb (greatestHeld held) key)
     (λ s. T-not (eqb (length held) k && ltb (greatestHeld held) key) t (and-both (eqb (length held) k) _ (eq→eqb (length held) k full) s)))

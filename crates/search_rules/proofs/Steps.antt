@@ -7,6 +7,7 @@ use native.Mathlib.Omega.{arith}
 use lib.ListN.{length, getD, set, replicate}
 use lib.Dec.{T, ltb, eqb, lt→ltb, ltb→lt, not-T}
 use Rattle.book.specs.Choose.{choose}
+use Rattle.book.specs.Lists.{keepIf}
 use Rattle.book.proofs.Choosing.{choose-yes, choose-no, T-true}
 use Rattle.tree_layout.specs.Values.{Element, Mark, regionAt}
 use Rattle.tree.specs.Yards.{childrenOf}
@@ -17,8 +18,8 @@ use Rattle.search_rules.specs.Keeping.{keepBy, enoughBy, keep, enough}
 use Rattle.search_rules.specs.Held.{entry}
 use Rattle.search_rules.specs.Step.{SearchState, left, noElement, againKey, waiting, nextPlace, nextF, queueChildren, openInner, queueNext, closeLeaf}
 use Rattle.search_rules.specs.Step.{openLeaf}
-use Rattle.search_rules.specs.Step.{takeRegion, takeYard, nextRegion, nextYard, leastKey, step, settled, startSearch}
-use Rattle.search_rules.proofs.Queue.{small-queued, not-queued}
+use Rattle.search_rules.specs.Step.{takeRegion, takeYard, nextRegion, nextYard, leastKey, step, settled, rootKeys, startSearch}
+use Rattle.search_rules.proofs.Queue.{small-queued, queued-small}
 use Rattle.search_rules.proofs.Stepping.{Sizes}
 
 -- ---- the queue's least
@@ -45,7 +46,7 @@ module _ (i : Instance) where
   unfolding size
   size-is = refl
 
-  pub children-is : (r : ℕ) → children i r ≡ childrenOf (i .tree .regions) r
+  pub children-is : (r : ℕ) → children i r ≡ keepIf (i .admits) (childrenOf (i .tree .regions) r)
   unfolding children
   children-is r = refl
 
@@ -154,13 +155,37 @@ module _ (i : Instance) where
     unfolding openLeaf queueNext
     open-leaf-on h = rw (ee, em) (choose-yes (queued (nextF i (st .gone) (chosen i r))) _ _ (small-queued (nextF i (st .gone) (chosen i r)) (rw (← em) h)))
 
+  -- none remains
+  pub open-leaf-off : (st : SearchState) (r : ℕ) (m : Mark) → m ≡ chosen i r → unqueued ≤ nextF i (st .gone) m → openLeaf i st r ≡ record {
+    regionKeys = set (st .regionKeys) r unqueued;
+    yardKeys = st .yardKeys;
+    firsts = st .firsts;
+    gone = st .gone;
+    held = st .held;
+    measured = st .measured;
+  }
+  unfolding openLeaf closeLeaf
+  open-leaf-off st r m em h = choose-no (queued (nextF i (st .gone) (chosen i r))) _ _
+      (not-T (queued (nextF i (st .gone) (chosen i r))) (λ t. omega (arith, queued-small (nextF i (st .gone) (chosen i r)) t, ap (nextF i (st .gone)) em)))
+
+  -- ---- the start
+
   pub start-is : startSearch i ≡ record {
-    regionKeys = set (replicate (size i) unqueued) 0 (bound i 0);
+    regionKeys = rootKeys i;
     yardKeys = replicate (i .tree .junctions) unqueued;
-    firsts = set (replicate (size i) unqueued) 0 (bound i 0);
+    firsts = rootKeys i;
     gone = replicate (i .tree .junctions) false;
     held = [];
     measured = [];
   }
   unfolding startSearch
   start-is = refl
+
+  -- the root may enter the queue, or not
+  pub root-in : T (i .admits 0) → rootKeys i ≡ set (replicate (size i) unqueued) 0 (bound i 0)
+  unfolding rootKeys
+  root-in t = choose-yes (i .admits 0) (set (replicate (size i) unqueued) 0 (bound i 0)) (replicate (size i) unqueued) t
+
+  pub root-out : T (not (i .admits 0)) → rootKeys i ≡ replicate (size i) unqueued
+  unfolding rootKeys
+  root-out t = choose-no (i .admits 0) (set (replicate (size i) unqueued) 0 (bound i 0)) (replicate (size i) unqueued) t

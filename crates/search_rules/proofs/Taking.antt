@@ -6,20 +6,18 @@ use mathlib.Core.Option.{Option, none, some}
 use Prim.Native.Nat.{ℕ, suc, _≤_, _<_}
 use native.Mathlib.Omega.{arith}
 use lib.ListN.{length}
-use lib.Dec.{T, T-not}
-use Rattle.tree_layout.specs.Values.{Element, Mark}
-use Rattle.search_rules.specs.Instance.{Instance, size, marks, leaf}
-use Rattle.search_rules.specs.Bounds.{chosen, f}
+use lib.Dec.{T}
+use Rattle.search_rules.specs.Instance.{Instance, size, marks}
+use Rattle.search_rules.specs.Bounds.{chosen}
 use Rattle.search_rules.specs.Queue.{unqueued, queued, wordAt}
-use Rattle.search_rules.specs.Step.{SearchState, left, nextF, takeYard, leastKey, step, settled}
+use Rattle.search_rules.specs.Step.{SearchState, takeYard, leastKey, step, settled}
 use Rattle.search_rules.specs.Run.{run}
 use Rattle.search_rules.specs.Facts.{WellFormed}
-use Rattle.search_rules.specs.Theorems.{TreeYards}
-use Rattle.search_rules.proofs.Bounds.{chosen-mem}
-use Rattle.search_rules.proofs.Limits.{f-most}
-use Rattle.search_rules.proofs.Queue.{word-key, queued-small, Next, no-more, one-more, next-is}
+use Rattle.search_rules.specs.Theorems.{Covers}
+use Rattle.search_rules.proofs.Bounds.{below-wanted, chosen-mem}
+use Rattle.search_rules.proofs.Queue.{word-key, queued-small}
 use Rattle.search_rules.proofs.Stepping.{Sizes}
-use Rattle.search_rules.proofs.Kept.{Kept, OneLeft, run-kept}
+use Rattle.search_rules.proofs.Kept.{Kept, run-kept}
 use Rattle.search_rules.proofs.Theorems.{decided}
 use Rattle.search_rules.proofs.Turns.{run-on}
 use Rattle.search_rules.proofs.Steps.{settled-is, take-yard-is}
@@ -44,19 +42,15 @@ module _ (i : Instance) (well : WellFormed i) (st : SearchState) (steps : ℕ) (
   pub run-sizes : Sizes i st
   run-sizes = was .sizes
 
-  -- of a queued leaf some yard remains
-  pub leaf-waits : (r : ℕ) → T (leaf i r) → r < size i → wordAt (st .regionKeys) r < unqueued → nextF i (st .gone) (chosen i r) < unqueued
-  leaf-waits r t h w = go (next-is i (st .gone) (chosen i r) (λ e k. omega (arith, f-most i well r (chosen i r) e t (chosen-in i well r h) k)))
-    where
-      some-left : OneLeft (st .gone) (chosen i r)
-      some-left = was .leaf-open r (wordAt (st .regionKeys) r) t (word-key (st .regionKeys) r (wordAt (st .regionKeys) r) refl w)
+  -- what is queued may enter the queue: a queued region, and a queued yard, which is wanted
+  pub queued-admitted : (r : ℕ) → wordAt (st .regionKeys) r < unqueued → T (i .admits r)
+  queued-admitted r w = was .admitted r (wordAt (st .regionKeys) r) (word-key (st .regionKeys) r (wordAt (st .regionKeys) r) refl w)
 
-      go : Next i (st .gone) (chosen i r) → nextF i (st .gone) (chosen i r) < unqueued
-      go (no-more x l) = absurd (T-not (left (st .gone) (some-left .element .yard)) (some-left .stays) (l (some-left .element) (some-left .mem)))
-      go (one-more e p x s k n l) = omega arith
+  pub queued-wanted : (y : ℕ) → wordAt (st .yardKeys) y < unqueued → T (i .wants y)
+  queued-wanted y w = below-wanted i (was .yards-in y (wordAt (st .yardKeys) y) (word-key (st .yardKeys) y (wordAt (st .yardKeys) y) refl w))
 
-  -- before a yard is taken, fewer than all of the tree's yards are measured
-  pub measured-room : T (not (settled i st)) → (y : ℕ) → step i st ≡ takeYard i st y → (ys : List ℕ) → TreeYards i ys → length (st .measured) < length ys
+  -- before a yard is taken, fewer than all of the wanted yards are measured
+  pub measured-room : T (not (settled i st)) → (y : ℕ) → step i st ≡ takeYard i st y → (ys : List ℕ) → Covers i ys → length (st .measured) < length ys
   measured-room t y e ys all =
       let q : run i (suc steps) .state ≡ takeYard i st y = ap (λ o. o .state) (run-on i steps (rw is at t)) ∙ (ap (step i) (sym is) ∙ e) in
       let m : length (run i (suc steps) .state .measured) ≡ suc (length (st .measured)) = ap (λ (s : SearchState). length (s .measured)) (q

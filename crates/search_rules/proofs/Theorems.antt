@@ -1,31 +1,36 @@
 -- What is proved of the search, in one place: `bounded`, `decided`, `right`, and the laws of an answer. Assumes nothing.
 use mathlib.Core.Path.{_≡_, refl, ap, _∙_}
-use mathlib.Core.Bool.{not}
+use mathlib.Core.Bool.{true, not}
 use mathlib.Core.List.{List, [], _∷_, List·Memᴰ as Mem}
-use Prim.Native.Nat.{ℕ, _+_, _*_, _≤_, _<_}
+use Prim.Native.Nat.{ℕ, zero, suc, _+_, _*_, _≤_, _<_}
 use native.Mathlib.Omega.{arith}
 use lib.ListN.{length}
 use lib.Dec.{T}
-use Rattle.book.proofs.Choosing.{choose-yes, choose-no}
-use Rattle.tree_layout.specs.Values.{Element}
+use Rattle.book.specs.Lists.{keepIf}
+use Rattle.book.proofs.Choosing.{choose-yes, choose-no, T-true}
+use Rattle.book.proofs.Lists.{or-left, kept-length}
 use Rattle.tree.specs.Yards.{treeYards, inners}
-use Rattle.search_rules.specs.Instance.{Instance}
+use Rattle.search_rules.specs.Order.{Entry}
+use Rattle.search_rules.specs.Instance.{Instance, size}
+use Rattle.search_rules.specs.Queue.{unqueued, queued}
 use Rattle.search_rules.specs.Held.{ranked}
 use Rattle.search_rules.specs.Keeping.{front}
-use Rattle.search_rules.specs.Step.{settled}
-use Rattle.search_rules.specs.Run.{words, run, report, answer}
+use Rattle.search_rules.specs.Step.{leastKey, settled, startSearch}
+use Rattle.search_rules.specs.Run.{words, advance, run, report, answer}
 use Rattle.search_rules.specs.Facts.{WellFormed, SoundInstance}
-use Rattle.search_rules.specs.Theorems.{TreeYards, Listing, Limited, Bounded, Decided, Right}
+use Rattle.search_rules.specs.Theorems.{TreeYards, Covers, barrens, Listing, Limited, Bounded, Decided, Right}
 use Rattle.search_rules.proofs.Bounds.{bound-le, f-le, yardBound-le}
 use Rattle.search_rules.proofs.Held.{ranked-length}
 use Rattle.search_rules.proofs.Fronts.{front-length}
-use Rattle.search_rules.proofs.Kept.{run-kept}
+use Rattle.search_rules.proofs.Kept.{word-nothing, run-kept}
 use Rattle.search_rules.proofs.Found.{fewer, run-listing, run-complete}
 use Rattle.search_rules.proofs.Ends.{enough, unsettled-taken, taken-within, settled-stays}
 use Rattle.search_rules.proofs.Level.{run-measured, run-within, run-bound-within}
 use Rattle.search_rules.proofs.Fitting.{run-fits}
 use Rattle.search_rules.proofs.Limits.{lower-most, upper-most, bound-most, weight-most, f-most, yardBound-most, total-most}
-use Rattle.search_rules.proofs.Trees.{Accepted, tree-yards}
+use Rattle.search_rules.proofs.Trees.{Accepted, tree-covers}
+use Rattle.search_rules.proofs.Wanted.{no-barrens, sound-yards, barrens-few}
+use Rattle.search_rules.proofs.Steps.{queued-no, root-out}
 
 -- the bounds of a true tree
 pub bounded : (i : Instance) → SoundInstance i → Bounded i
@@ -54,11 +59,11 @@ decided i well limit = let was = run-kept i well limit in record {
   held = was .first-ranked;
   measured-once = was .once;
   measured-in = was .measured-in;
-  measured-few = λ ys t. fewer (run i limit .state .measured) ys (was .once) (λ y k. t .every y (was .measured-in y k));
+  measured-few = λ ys all. fewer (run i limit .state .measured) ys (was .once) (λ y k. all y (was .measured-in y k));
   spent = unsettled-taken i limit;
   within = taken-within i limit;
   stays = settled-stays i limit;
-  ends = λ ys t h. enough i well ys (t .every) limit h;
+  ends = λ ys all h. enough i well ys all limit (omega arith);
   fits = run-fits i well limit;
 }
 
@@ -97,12 +102,12 @@ module _ (i : Instance) (limit : ℕ) where
   answer-spent t = (choose-no (settled i (run i limit .state)) (run i limit .state .held) [] t, unsettled-taken i limit t)
 
 -- two words for each yard listed
-pub words-length : (es : List Element) → length (words es) ≡ 2 * length es
+pub words-length : (es : List Entry) → length (words es) ≡ 2 * length es
 unfolding words
 words-length [] = refl
 words-length (e ∷ es) = omega (arith, words-length es)
 
--- a settled search on a true tree lists what its rule asks for of the tree's yards
+-- a settled search on a true tree lists what its rule asks for of the tree's wanted yards
 pub answer-exact : (i : Instance) → SoundInstance i → (limit : ℕ) → T (answer i limit .settled) → (ys : List ℕ) → TreeYards i ys
     → answer i limit .listed ≡ front (i .rule) (ranked i ys)
 unfolding answer report
@@ -112,15 +117,15 @@ answer-exact i sound limit t ys tree = answer-listed i limit t ∙ run-complete 
 pub answer-listing : (i : Instance) → WellFormed i → (limit : ℕ) → T (answer i limit .settled) → Listing i (answer i limit .listed)
 answer-listing i well limit t = rw (answer-listed i limit t) (run-listing i well limit)
 
--- a limit of inner regions plus twice the yards settles
-pub answer-ends : (i : Instance) → WellFormed i → (limit : ℕ) → (ys : List ℕ) → TreeYards i ys → inners (i .tree) + 2 * length ys ≤ limit
+-- a limit of inner regions, leaves that are taken in vain, and twice the yards settles
+pub answer-ends : (i : Instance) → WellFormed i → (limit : ℕ) → (ys : List ℕ) → Covers i ys → inners (i .tree) + barrens i + 2 * length ys ≤ limit
     → T (answer i limit .settled)
-answer-ends i well limit ys tree h = rw (answer-settled i limit) (enough i well ys (tree .every) limit h)
+answer-ends i well limit ys all h = rw (answer-settled i limit) (enough i well ys all limit h)
 
--- no more are listed than the tree has yards
-pub listed-few : (i : Instance) → WellFormed i → (limit : ℕ) → T (answer i limit .settled) → (ys : List ℕ) → TreeYards i ys
+-- no more are listed than there are wanted yards
+pub listed-few : (i : Instance) → WellFormed i → (limit : ℕ) → T (answer i limit .settled) → (ys : List ℕ) → Covers i ys
     → length (answer i limit .listed) ≤ length ys
-listed-few i well limit t ys tree =
+listed-few i well limit t ys all =
     let d = decided i well limit in
     omega (
       arith,
@@ -128,23 +133,78 @@ listed-few i well limit t ys tree =
       ap length (d .held),
       front-length (i .rule) (ranked i (run i limit .state .measured)),
       ranked-length i (run i limit .state .measured),
-      d .measured-few ys tree,
+      d .measured-few ys all,
     )
 
 -- ---- of a tree whose book is accepted
 
 module _ (i : Instance) (a : Accepted (i .tree)) (limit : ℕ) where
-  pub accepted-ends : WellFormed i → inners (i .tree) + 2 * i .tree .yards ≤ limit → T (answer i limit .settled)
-  accepted-ends well h = answer-ends i well limit (treeYards (i .tree)) (tree-yards i a) (rw (a .whole .yard-count) h)
+  -- the tree's wanted yards
+  abbrev ys : List ℕ
+  ys = keepIf (i .wants) (treeYards (i .tree))
 
-  pub accepted-exact : SoundInstance i → T (answer i limit .settled) → answer i limit .listed ≡ front (i .rule) (ranked i (treeYards (i .tree)))
-  accepted-exact sound t = answer-exact i sound limit t (treeYards (i .tree)) (tree-yards i a)
+  -- a limit of inner regions plus twice the yards settles
+  pub accepted-ends : WellFormed i → inners (i .tree) + 2 * i .tree .yards ≤ limit → T (answer i limit .settled)
+  accepted-ends well h = answer-ends i well limit ys (tree-covers i a) (omega (arith, barrens-few i a, a .whole .yard-count))
+
+  -- of a true tree plus twice the wanted yards
+  pub sound-ends : SoundInstance i → inners (i .tree) + 2 * length ys ≤ limit → T (answer i limit .settled)
+  sound-ends sound h = answer-ends i (sound .well) limit ys (tree-covers i a) (omega (arith, no-barrens i sound))
+
+  pub accepted-exact : SoundInstance i → T (answer i limit .settled) → answer i limit .listed ≡ front (i .rule) (ranked i ys)
+  accepted-exact sound t = answer-exact i sound limit t ys (sound-yards i sound a)
+
+  -- every measured and every listed yard is one of the tree's wanted yards
+  pub measured-wanted : WellFormed i → (y : ℕ) → Mem y (run i limit .state .measured) → Mem y ys
+  measured-wanted well y k = tree-covers i a y (decided i well limit .measured-in y k)
+
+  pub listed-wanted : WellFormed i → T (answer i limit .settled) → (e : Entry) → Mem e (answer i limit .listed) → Mem (e .yard) ys
+  listed-wanted well t e k = tree-covers i a (e .yard) (answer-listing i well limit t .in-tree e k)
+
+  pub measured-few : WellFormed i → answer i limit .measured ≤ length ys
+  measured-few well = omega (arith, answer-measured i limit, decided i well limit .measured-few ys (tree-covers i a))
 
   pub accepted-measured : WellFormed i → answer i limit .measured ≤ i .tree .yards
-  accepted-measured well = omega (
-    arith,
-    answer-measured i limit,
-    a .whole .yard-count,
-    decided i well limit .measured-few (treeYards (i .tree)) (tree-yards i
-        a),
-  )
+  accepted-measured well = omega (arith, measured-few well, a .whole .yard-count, kept-length (i .wants) (treeYards (i .tree)))
+
+-- ---- of a root that may not enter the queue
+
+module _ (i : Instance) (out : T (not (i .admits 0))) where
+  -- nothing is queued
+  none-least : leastKey i (startSearch i) ≡ unqueued
+  unfolding startSearch leastKey
+  none-least = rw (root-out i out, word-nothing (size i), word-nothing (i .tree .junctions)) refl
+
+  none-settled : T (settled i (startSearch i))
+  unfolding settled
+  none-settled = or-left (not (queued (leastKey i (startSearch i)))) _ (rw (none-least, queued-no) tt)
+
+  -- the search is settled before its first step
+  pub unrooted-run : (limit : ℕ) → run i limit ≡ record { state = startSearch i; taken = 0 }
+  unfolding run advance
+  unrooted-run zero = refl
+  unrooted-run (suc limit) = rw (unrooted-run limit) (choose-yes (settled i (startSearch i)) _ _ none-settled)
+
+  pub unrooted-settled : (limit : ℕ) → T (settled i (run i limit .state))
+  unrooted-settled limit = rw (unrooted-run limit) none-settled
+
+  pub unrooted-taken : (limit : ℕ) → run i limit .taken ≡ 0
+  unrooted-taken limit = rw (unrooted-run limit) refl
+
+  pub unrooted-measured : (limit : ℕ) → run i limit .state .measured ≡ []
+  unfolding startSearch
+  unrooted-measured limit = rw (unrooted-run limit) refl
+
+  pub unrooted-held : (limit : ℕ) → run i limit .state .held ≡ []
+  unfolding startSearch
+  unrooted-held limit = rw (unrooted-run limit) refl
+
+  -- it lists nothing, with 0 taken and 0 measured
+  pub unrooted-answer : (limit : ℕ) → answer i limit ≡ record { settled = true; listed = []; taken = 0; measured = 0 }
+  unfolding answer report startSearch
+  unrooted-answer limit = rw (unrooted-run limit, T-true (settled i (startSearch i)) none-settled) (λ j. record {
+    settled = true;
+    listed = choose-yes {A = List Entry} true [] [] tt j;
+    taken = 0;
+    measured = 0;
+  })

@@ -9,14 +9,13 @@ use lib.Seq.{take-suc}
 use lib.Dec.{T, ltb, ltb→lt}
 use Rattle.book.specs.Choose.{choose}
 use Rattle.book.proofs.Choosing.{choose-case, choose-yes, choose-no}
-use Rattle.tree_layout.specs.Values.{Element, Mark, lastFrom}
-use Rattle.search_rules.specs.Order.{yardFirst}
+use Rattle.tree_layout.specs.Values.{Mark, noMark}
+use Rattle.search_rules.specs.Order.{Entry, yardFirst}
 use Rattle.search_rules.specs.Instance.{Instance}
 use Rattle.search_rules.specs.Bounds.{combine, aggregate, greatestOf, leastFrom, leastOf, weight, best, bestOf}
-use Rattle.tree_layout.specs.Values.{noMark}
 use Rattle.search_rules.specs.Queue.{wordAt, pick}
-use Rattle.search_rules.specs.Held.{insert, hold, greatestHeld}
-use Rattle.search_rules.specs.Step.{left, noElement, step, settled, startSearch}
+use Rattle.search_rules.specs.Held.{insert, hold, lastDistance, greatestHeld}
+use Rattle.search_rules.specs.Step.{step, settled, startSearch}
 use Rattle.search_rules.specs.Run.{words, advance, run}
 use Rattle.search_rules.proofs.Choices.{choose-two}
 use Rattle.search_rules.proofs.Bounds.{combine-zero, combine-assoc}
@@ -88,37 +87,37 @@ module _ (i : Instance) where
 
 -- ---- held yards
 
-pub insert-none : (e : Element) → insert e [] ≡ e ∷ []
+pub insert-none : (e : Entry) → insert e [] ≡ e ∷ []
 unfolding insert
 insert-none e = refl
 
-pub insert-more : (e h : Element) (hs : List Element) → insert e (h ∷ hs) ≡ choose (yardFirst e h) (e ∷ h ∷ hs) (h ∷ insert e hs)
+pub insert-more : (e h : Entry) (hs : List Entry) → insert e (h ∷ hs) ≡ choose (yardFirst e h) (e ∷ h ∷ hs) (h ∷ insert e hs)
 unfolding insert
 insert-more e h hs = refl
 
-pub hold-is : (k : ℕ) (e : Element) (held : List Element) → hold k e held ≡ take k (insert e held)
+pub hold-is : (k : ℕ) (e : Entry) (held : List Entry) → hold k e held ≡ take k (insert e held)
 unfolding hold
 hold-is k e held = refl
 
-pub greatest-is : (held : List Element) → greatestHeld held ≡ lastFrom 0 held
+pub greatest-is : (held : List Entry) → greatestHeld held ≡ lastDistance 0 held
 unfolding greatestHeld
 greatest-is held = refl
 
 -- an insertion as one pass that carries an element: from where it belongs on, each place takes what is carried and its own is carried on
-unfoldable pub carried : Bool → Element → List Element → List Element
+unfoldable pub carried : Bool → Entry → List Entry → List Entry
 carried placed c [] = c ∷ []
 carried placed c (h ∷ hs) = choose (placed || yardFirst c h) (c ∷ carried true h hs) (h ∷ carried false c hs)
 
-carried-placed : (c : Element) (l : List Element) → carried true c l ≡ c ∷ l
+carried-placed : (c : Entry) (l : List Entry) → carried true c l ≡ c ∷ l
 unfolding carried
 carried-placed c [] = refl
 carried-placed c (h ∷ hs) = choose-yes true _ _ tt ∙ ap (λ l. c ∷ l) (carried-placed h hs)
 
-pub carried-insert : (e : Element) (l : List Element) → carried false e l ≡ insert e l
+pub carried-insert : (e : Entry) (l : List Entry) → carried false e l ≡ insert e l
 unfolding carried insert
 carried-insert e [] = refl
 carried-insert e (h ∷ hs) = let p = carried-placed h hs in let q = carried-insert e hs in
-    choose-two (λ (x y : List Element). x ≡ y) (yardFirst e h) (λ t. ap (λ l. e ∷ l) p) (λ t. ap (λ l. h ∷ l) q)
+    choose-two (λ (x y : List Entry). x ≡ y) (yardFirst e h) (λ t. ap (λ l. e ∷ l) p) (λ t. ap (λ l. h ∷ l) q)
 
 -- ---- the queue's least
 
@@ -149,13 +148,6 @@ pick-first ws (suc j) v h = rw pick-more (choose-case (λ p. v < p → wordAt ws
     (λ t k. omega (arith, ltb→lt (wordAt ws j) (wordAt ws (pick ws j)) t, pick-least ws j v k))
     (λ t k. pick-first ws j v k) (rw pick-more at h))
 
--- ---- a leaf's list
-
--- when an element has left, its word becomes `unqueued`, and the others' stay: a list names each yard once
-module _ (i : Instance) (gone : List Bool) (m : Mark) (es : List Element) (p : ℕ) (h : p < length es) where
-  abbrev y : ℕ
-  y = getD es p noElement .yard
-
 -- ---- a search's turn
 
 module _ (i : Instance) where
@@ -175,7 +167,7 @@ pub words-none : words [] ≡ []
 unfolding words
 words-none = refl
 
-pub words-append : (es : List Element) (e : Element) → words (es ++ (e ∷ [])) ≡ words es ++ (e .yard ∷ e .distance ∷ [])
+pub words-append : (es : List Entry) (e : Entry) → words (es ++ (e ∷ [])) ≡ words es ++ (e .yard ∷ e .distance ∷ [])
 unfolding words
 words-append [] e = refl
 words-append (g ∷ es) e = ap (λ l. g .yard ∷ g .distance ∷ l) (words-append es e)

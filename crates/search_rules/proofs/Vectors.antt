@@ -5,6 +5,7 @@ use mathlib.Core.List.{List, [], _∷_}
 use Prim.Native.Nat.{ℕ, _+_, min, max}
 use lib.ListN.{getD, take}
 use Rattle.book.specs.Choose.{choose}
+use Rattle.book.specs.Lists.{keepIf}
 use Rattle.tree_layout.specs.Values.{Tree, leafMark, innerMark, firstDistance, lastFrom, noRegion, regionAt}
 use Rattle.tree_layout.specs.Refusal.{all}
 use Rattle.search_rules.specs.Order.{yardFirst}
@@ -19,10 +20,10 @@ use Rattle.search_rules.specs.Bounds.{markBound}
 use Rattle.search_rules.specs.Bounds.{bound, weight, best, bestOf, chosen, listAbsDiff, f, yardBound}
 use Rattle.tree_layout.specs.Values.{noMark}
 use Rattle.search_rules.specs.Queue.{unqueued, queued, wordAt, pick}
-use Rattle.search_rules.specs.Held.{insert, hold, greatestHeld, entry, ranked}
-use Rattle.search_rules.specs.Step.{SearchState, left, noElement, againKey, waiting, nextPlace, nextF, queueChildren, openInner, queueNext, closeLeaf}
+use Rattle.search_rules.specs.Held.{insert, hold, lastDistance, greatestHeld, entry, ranked}
+use Rattle.search_rules.specs.Step.{SearchState, left, noElement, againKey, passed, waiting, nextPlace, nextF, queueChildren, openInner, queueNext, closeLeaf}
 use Rattle.search_rules.specs.Step.{openLeaf}
-use Rattle.search_rules.specs.Step.{takeRegion, takeYard, nextRegion, nextYard, leastKey, step, settled, startSearch}
+use Rattle.search_rules.specs.Step.{takeRegion, takeYard, nextRegion, nextYard, leastKey, step, settled, rootKeys, startSearch}
 use Rattle.search_rules.specs.Run.{Outcome, Answer, words, advance, run, report, answer}
 use Rattle.search_rules.specs.Examples.{onChain, at, leafOf, three, from0, from2}
 
@@ -41,7 +42,7 @@ oneJunction = onChain (0 ∷ []) 0 2 (0 ∷ []) 1 (leafOf 0 1 (leafMark 0 (at 0 
 -- a chain of eight, seconds 1, 2, 3, 1, 2, 3, 1; yards 1 and 2 in one leaf, 5 and 7 in another
 unfoldable pub eight : List ℕ → Instance
 eight crews = onChain (0 ∷ 1 ∷ 3 ∷ 6 ∷ 7 ∷ 9 ∷ 12 ∷ 13 ∷ []) 0 2 crews 4
-    (record { first = 0; after = 8; children = 2; yards = 4; marks = innerMark 0 1 13 ∷ [] }
+    (record { first = 0; after = 8; children = 2; yards = 4; kinds = 255; marks = innerMark 0 1 13 ∷ [] }
     ∷ leafOf 0 4 (leafMark 3 (at 3 2 ∷ at 5 1 ∷ []) ∷ []) (at 3 2 ∷ at 5 1 ∷ [])
     ∷ leafOf 4 8 (leafMark 4 (at 2 5 ∷ at 6 7 ∷ []) ∷ []) (at 2 5 ∷ at 6 7 ∷ []) ∷ [])
 
@@ -62,20 +63,20 @@ pub starred : row (netN 0 2 (0 ∷ 2 ∷ [])) 4 ∷ row (netN 0 2 (0 ∷ 2 ∷ [
     ∷ (1 ∷ 2 ∷ 1 ∷ 1 ∷ 3 ∷ []) ∷ (1 ∷ 2 ∷ 1 ∷ 1 ∷ 4 ∷ []) ∷ (1 ∷ 6 ∷ 3 ∷ 1 ∷ 5 ∷ 3 ∷ 13 ∷ 4 ∷ 15 ∷ [])
     ∷ (1 ∷ 2 ∷ 1 ∷ 0 ∷ 0 ∷ []) ∷ (1 ∷ 4 ∷ 2 ∷ 0 ∷ 1 ∷ []) ∷ []
 unfolding row onChain at leafOf netN oneJunction three from0 from2 twoLeaves eight choose leafMark innerMark firstDistance lastFrom noRegion regionAt all
-    yardFirst keep enough keepBy enoughBy names once inRange namedBy firstList agreeing sameYards leafOk siblings subtree endOf starts childrenOf size children marks leaf
+    yardFirst keep enough keepBy enoughBy names once inRange namedBy firstList agreeing sameYards leafOk siblings subtree endOf starts childrenOf size keepIf children marks leaf
     absDiff combine aggregate greatestOf leastFrom leastOf crewBound noMark tableAt lower upper over total markBound bound weight best bestOf chosen
-    listAbsDiff f yardBound queued wordAt pick insert hold greatestHeld entry left noElement againKey waiting nextPlace nextF queueChildren openInner
-    queueNext closeLeaf openLeaf takeRegion takeYard nextRegion nextYard leastKey step settled startSearch words advance run report answer
+    listAbsDiff f yardBound queued wordAt pick insert hold lastDistance greatestHeld entry left noElement againKey passed waiting nextPlace nextF queueChildren openInner
+    queueNext closeLeaf openLeaf takeRegion takeYard nextRegion nextYard leastKey step settled rootKeys startSearch words advance run report answer
 starred = refl
 
 -- limit 0 is spent with no step taken; a tree of two leaves, where three yards tie at 12 and the lower numbers are held
 pub limits : row (netN 0 2 (0 ∷ 2 ∷ [])) 0 ∷ row twoLeaves 9 ∷ row twoLeaves 7 ∷ []
     ≡ (0 ∷ 0 ∷ 0 ∷ []) ∷ (1 ∷ 8 ∷ 3 ∷ 1 ∷ 12 ∷ 2 ∷ 12 ∷ []) ∷ (0 ∷ 7 ∷ 2 ∷ []) ∷ []
 unfolding row onChain at leafOf netN oneJunction three from0 from2 twoLeaves eight choose leafMark innerMark firstDistance lastFrom noRegion regionAt all
-    yardFirst keep enough keepBy enoughBy names once inRange namedBy firstList agreeing sameYards leafOk siblings subtree endOf starts childrenOf size children marks leaf
+    yardFirst keep enough keepBy enoughBy names once inRange namedBy firstList agreeing sameYards leafOk siblings subtree endOf starts childrenOf size keepIf children marks leaf
     absDiff combine aggregate greatestOf leastFrom leastOf crewBound noMark tableAt lower upper over total markBound bound weight best bestOf chosen
-    listAbsDiff f yardBound queued wordAt pick insert hold greatestHeld entry left noElement againKey waiting nextPlace nextF queueChildren openInner
-    queueNext closeLeaf openLeaf takeRegion takeYard nextRegion nextYard leastKey step settled startSearch words advance run report answer
+    listAbsDiff f yardBound queued wordAt pick insert hold lastDistance greatestHeld entry left noElement againKey passed waiting nextPlace nextF queueChildren openInner
+    queueNext closeLeaf openLeaf takeRegion takeYard nextRegion nextYard leastKey step settled rootKeys startSearch words advance run report answer
 limits = refl
 
 -- ---- bounds
@@ -98,8 +99,10 @@ crewsAt = record {
   code = 0;
   rule = nearest 1;
   crews = 1 ∷ 1 ∷ 2 ∷ [];
-  tree = record { junctions = 3; yards = 0; landmarks = 1; regions = [] };
+  tree = record { version = 1; junctions = 3; yards = 0; landmarks = 1; regions = [] };
   d = λ u v. getD (0 ∷ 5 ∷ 10 ∷ []) v 0;
+  admits = λ r. true;
+  wants = λ y. true;
 }
 
 -- "Crew values 5, 5, 10 and list 4, 7: f is 8 and 7."
@@ -115,16 +118,16 @@ both-sides = refl
 pub ties : run (three (from0 ∷ [])) 1 .state .gone ∷ run (three (from2 ∷ from0 ∷ [])) 1 .state .gone ∷ []
     ≡ (true ∷ false ∷ false ∷ []) ∷ (false ∷ false ∷ true ∷ []) ∷ []
 unfolding onChain at leafOf three from0 from2 choose leafMark innerMark firstDistance lastFrom noRegion regionAt all yardFirst keep enough keepBy enoughBy names once inRange
-    namedBy firstList agreeing sameYards leafOk siblings subtree endOf starts childrenOf size children marks leaf absDiff combine aggregate greatestOf
+    namedBy firstList agreeing sameYards leafOk siblings subtree endOf starts childrenOf size keepIf children marks leaf absDiff combine aggregate greatestOf
     leastFrom leastOf crewBound noMark tableAt lower upper over total markBound bound weight best bestOf chosen listAbsDiff f yardBound queued wordAt pick
-    insert hold greatestHeld entry left noElement againKey waiting nextPlace nextF queueChildren openInner queueNext closeLeaf openLeaf takeRegion takeYard
-    nextRegion nextYard leastKey step settled startSearch advance run
+    insert hold lastDistance greatestHeld entry left noElement againKey passed waiting nextPlace nextF queueChildren openInner queueNext closeLeaf openLeaf takeRegion takeYard
+    nextRegion nextYard leastKey step settled rootKeys startSearch advance run
 ties = refl
 
 pub orders : run (three (from0 ∷ [])) 2 .state .measured ∷ run twoLeaves 6 .state .measured ∷ [] ≡ [] ∷ (1 ∷ []) ∷ []
 unfolding onChain at leafOf three from0 from2 twoLeaves eight choose leafMark innerMark firstDistance lastFrom noRegion regionAt all yardFirst keep enough keepBy enoughBy
-    names once inRange namedBy firstList agreeing sameYards leafOk siblings subtree endOf starts childrenOf size children marks leaf absDiff combine aggregate
+    names once inRange namedBy firstList agreeing sameYards leafOk siblings subtree endOf starts childrenOf size keepIf children marks leaf absDiff combine aggregate
     greatestOf leastFrom leastOf crewBound noMark tableAt lower upper over total markBound bound weight best bestOf chosen listAbsDiff f yardBound queued
-    wordAt pick insert hold greatestHeld entry left noElement againKey waiting nextPlace nextF queueChildren openInner queueNext closeLeaf openLeaf takeRegion
-    takeYard nextRegion nextYard leastKey step settled startSearch advance run
+    wordAt pick insert hold lastDistance greatestHeld entry left noElement againKey passed waiting nextPlace nextF queueChildren openInner queueNext closeLeaf openLeaf takeRegion
+    takeYard nextRegion nextYard leastKey step settled rootKeys startSearch advance run
 orders = refl

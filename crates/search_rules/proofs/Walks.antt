@@ -6,7 +6,7 @@ use Prim.Native.Nat.{ℕ, _≤_, _<_, min}
 use native.Mathlib.Omega.{arith}
 use lib.ListN.{length, length-take}
 use lib.Dec.{T}
-use Rattle.book.specs.Lists.{Distinct}
+use Rattle.book.specs.Lists.{Distinct, keepIf}
 use Rattle.book.proofs.Lists.{map-mem}
 use Rattle.road_layout.specs.Road.{junctions}
 use Rattle.adjacency.specs.Arcs.{net}
@@ -16,31 +16,28 @@ use Rattle.road.proofs.Walks.{least-unique}
 use Rattle.road.proofs.Theorems.{metric}
 use Rattle.tree_layout.specs.Decode.{decode}
 use Rattle.tree.specs.Yards.{treeYards}
-use Rattle.search_rules.specs.Rule.{Rule, nearest, inDrive}
+use Rattle.search_rules.specs.Rule.{Asking, nearest, inDrive}
 use Rattle.search_rules.specs.Instance.{Instance}
 use Rattle.search_rules.specs.Books.{searchOf, Passed}
 use Rattle.search_rules.specs.Bounds.{aggregate, over, total}
-use Rattle.tree_layout.specs.Values.{Element}
 use Rattle.search_rules.specs.Held.{entry, ranked}
 use Rattle.search_rules.specs.Keeping.{front}
 use Rattle.search_rules.specs.Run.{answer}
 use Rattle.search_rules.specs.Facts.{Below, SoundInstance}
-use Rattle.search_rules.specs.Order.{YardBefore}
+use Rattle.search_rules.specs.Order.{Entry, YardBefore}
 use Rattle.search_rules.specs.Theorems.{Sorted, LeftOut, Allowed, TreeYards, Listing}
 use Rattle.search_rules.specs.Walks.{AggregateLeast, none, more, FirstYards, DriveYards}
-use Rattle.search_rules.proofs.Bounds.{below-range}
 use Rattle.search_rules.proofs.Held.{before-not, ranked-length}
 use Rattle.search_rules.proofs.Found.{run-complete}
-use Rattle.search_rules.proofs.Trees.{tree-yards}
-use Rattle.search_rules.proofs.Books.{count, accepted-of}
 use Rattle.search_rules.proofs.Theorems.{answer-settled, answer-listed, answer-listing, answer-exact}
+use Rattle.search_rules.proofs.Asked.{asked-yards, asked-there}
 
 -- yards of a list in yard order whose equal yards are one are distinct
-pub yards-distinct : (l : List Element) → Sorted l → ((h g : Element) → Mem h l → Mem g l → h .yard ≡ g .yard → h ≡ g) → Distinct (map (λ (e : Element). e .yard) l)
+pub yards-distinct : (l : List Entry) → Sorted l → ((h g : Entry) → Mem h l → Mem g l → h .yard ≡ g .yard → h ≡ g) → Distinct (map (λ (e : Entry). e .yard) l)
 yards-distinct [] s d = tt
 yards-distinct (h ∷ l) s d = (
   (λ m.
-      let (g, j, e) = map-mem (λ (x : Element). x .yard) l (h .yard) m in
+      let (g, j, e) = map-mem (λ (x : Entry). x .yard) l (h .yard) m in
       let b : YardBefore h g = s .0 g j in
       let c : YardBefore h h = rw (← d h g (head refl) (tail j) e) at b in
       before-not c c),
@@ -65,88 +62,99 @@ module _ (road : List ℕ) (roads : Passing road) (code : ℕ) where
       let f : s ≡ aggregate code (λ x. dist road x y) qs = aggregate-one y h (λ x j. k x (tail j)) a in
       cc
 
-module _ (road tree : List ℕ) (code : ℕ) (goal : Rule) (crews : List ℕ) (p : Passed road tree crews) where
+module _ (road tree : List ℕ) (a : Asking) (crews : List ℕ) (p : Passed road tree crews) where
   abbrev i : Instance
-  i = searchOf road tree code goal crews
+  i = searchOf road tree a crews
 
-  total-is : (y : ℕ) → total i y ≡ aggregate code (λ q. dist road q y) crews
+  -- the tree book's wanted yards
+  abbrev wanted : List ℕ
+  wanted = keepIf (i .wants) (treeYards (decode tree))
+
+  total-is : (y : ℕ) → total i y ≡ aggregate (a .code) (λ q. dist road q y) crews
   unfolding total over searchOf
   total-is y = refl
 
-  pub total-least : (y : ℕ) → y < junctions road → AggregateLeast (net road) code y crews (total i y)
-  total-least y h = rw total-is (aggregate-least road (p .roads) code y h crews (p .there))
+  pub total-least : (y : ℕ) → y < junctions road → AggregateLeast (net road) (a .code) y crews (total i y)
+  total-least y h = rw total-is (aggregate-least road (p .roads) (a .code) y h crews (p .there))
 
-  pub total-one : (y s : ℕ) → y < junctions road → AggregateLeast (net road) code y crews s → s ≡ total i y
-  total-one y s h a = aggregate-one road (p .roads) code y h (p .there) a ∙ sym (total-is y)
+  pub total-one : (y s : ℕ) → y < junctions road → AggregateLeast (net road) (a .code) y crews s → s ≡ total i y
+  total-one y s h l = aggregate-one road (p .roads) (a .code) y h (p .there) l ∙ sym (total-is y)
 
   -- ---- a settled search of true books
 
   module _ (sound : SoundInstance i) (limit : ℕ) (t : T (answer i limit .settled)) where
     yard-there : (y : ℕ) → Below i 0 y → y < junctions road
-    unfolding searchOf
-    yard-there y b = omega (arith, below-range i (sound .well .shape) b, count road tree code goal crews p)
+    yard-there = asked-there road tree a crews p
 
-    ys : TreeYards i (treeYards (decode tree))
-    unfolding searchOf
-    ys = tree-yards i (accepted-of road tree code goal crews p)
+    ys : TreeYards i wanted
+    ys = asked-yards road tree a crews p sound
 
     l : Listing i (answer i limit .listed)
     l = answer-listing i (sound .well) limit t
 
-    pub listed-distances : (e : Element) → Mem e (answer i limit .listed) → AggregateLeast (net road) code (e .yard) crews (e .distance)
+    pub listed-distances : (e : Entry) → Mem e (answer i limit .listed) → AggregateLeast (net road) (a .code) (e .yard) crews (e .distance)
     listed-distances e k = rw (l .distances e k) (total-least (e .yard) (yard-there (e .yard) (l .in-tree e k)))
 
-    pub listed-yards : (e : Element) → Mem e (answer i limit .listed) → Mem (e .yard) (treeYards (decode tree))
+    pub listed-yards : (e : Entry) → Mem e (answer i limit .listed) → Mem (e .yard) wanted
     listed-yards e k = ys .every (e .yard) (l .in-tree e k)
 
-    -- a yard with its aggregate is listed, or the rule leaves it out
-    pub listed-rest : (h : Element) → Mem (h .yard) (treeYards (decode tree)) → AggregateLeast (net road) code (h .yard) crews (h .distance)
-        → Mem h (answer i limit .listed) ⊎ LeftOut goal (answer i limit .listed) h
+    -- a wanted yard with its aggregate is listed, or the rule leaves it out
+    pub listed-rest : (h : Entry) → Mem (h .yard) wanted → AggregateLeast (net road) (a .code) (h .yard) crews (h .distance)
+        → Mem h (answer i limit .listed) ⊎ LeftOut (a .rule) (answer i limit .listed) h
     unfolding searchOf entry
-    listed-rest h k a = let b = ys .below (h .yard) k in
-        rw (answer-listed i limit t, total-one (h .yard) (h .distance) (yard-there (h .yard) b) a) (run-complete i sound limit (rw (answer-settled i limit) at t)
+    listed-rest h k s = let b = ys .below (h .yard) k in
+        rw (answer-listed i limit t, total-one (h .yard) (h .distance) (yard-there (h .yard) b) s) (run-complete i sound limit (rw (answer-settled i limit) at t)
         .rest (h .yard) b)
 
-    pub listed-once : Distinct (map (λ (e : Element). e .yard) (answer i limit .listed))
+    pub listed-once : Distinct (map (λ (e : Entry). e .yard) (answer i limit .listed))
     listed-once = yards-distinct (answer i limit .listed) (l .sorted) (l .distinct)
 
-    pub listed-front : answer i limit .listed ≡ front goal (ranked i (treeYards (decode tree)))
+    pub listed-front : answer i limit .listed ≡ front (a .rule) (ranked i wanted)
     unfolding searchOf
-    listed-front = answer-exact i sound limit t (treeYards (decode tree)) ys
+    listed-front = answer-exact i sound limit t wanted ys
 
-    pub listed-allowed : Allowed goal (answer i limit .listed)
+    pub listed-allowed : Allowed (a .rule) (answer i limit .listed)
     unfolding searchOf
     listed-allowed = l .allowed
 
-module _ (road tree : List ℕ) (code k : ℕ) (crews : List ℕ) (p : Passed road tree crews) (sound : SoundInstance (searchOf road tree code (nearest k)
-    crews)) (limit : ℕ) (t : T (answer (searchOf road tree code (nearest k) crews) limit .settled)) where
-  -- the first k yards
-  pub first-yards : FirstYards (net road) code k crews (treeYards (decode tree)) (answer (searchOf road tree code (nearest k) crews) limit .listed)
+module _ (road tree : List ℕ) (code k kinds : ℕ) (crews : List ℕ) where
+  abbrev k-asked : Asking
+  k-asked = record { code = code; rule = nearest k; wanted = kinds }
+
+  abbrev k-search : Instance
+  k-search = searchOf road tree k-asked crews
+
+  -- the first k wanted yards
+  pub first-yards : (p : Passed road tree crews) → SoundInstance k-search → (limit : ℕ) → T (answer k-search limit .settled)
+      → FirstYards (net road) code k crews (keepIf (k-search .wants) (treeYards (decode tree))) (answer k-search limit .listed)
   unfolding front
-  first-yards = record {
-    sorted = answer-listing (searchOf road tree code (nearest k) crews) (sound .well) limit t .sorted;
-    distances = listed-distances road tree code (nearest k) crews p sound limit t;
-    yards = listed-yards road tree code (nearest k) crews p sound limit t;
-    number = ap length (listed-front road tree code (nearest k) crews p sound limit t) ∙ length-take k _ ∙ ap (min k) (ranked-length _ (treeYards (decode tree)));
-    rest = listed-rest road tree code (nearest k) crews p sound limit t;
+  first-yards p sound limit t = record {
+    sorted = answer-listing k-search (sound .well) limit t .sorted;
+    distances = listed-distances road tree k-asked crews p sound limit t;
+    yards = listed-yards road tree k-asked crews p sound limit t;
+    number = ap length (listed-front road tree k-asked crews p sound limit t) ∙ length-take k _ ∙ ap (min k) (ranked-length _ (keepIf (k-search .wants) (treeYards (decode tree))));
+    rest = listed-rest road tree k-asked crews p sound limit t;
   }
 
-module _ (road tree : List ℕ) (code seconds : ℕ) (crews : List ℕ) (p : Passed road tree crews) (sound : SoundInstance (searchOf road tree code (inDrive seconds)
-    crews)) (limit : ℕ) (t : T (answer (searchOf road tree code (inDrive seconds) crews) limit .settled)) where
-  abbrev list : List Element
-  list = answer (searchOf road tree code (inDrive seconds) crews) limit .listed
+module _ (road tree : List ℕ) (code seconds kinds : ℕ) (crews : List ℕ) where
+  abbrev drive-asked : Asking
+  drive-asked = record { code = code; rule = inDrive seconds; wanted = kinds }
 
-  -- the yards within the drive
-  pub drive-yards : DriveYards (net road) code seconds crews (treeYards (decode tree)) list
-  drive-yards = record {
-    sorted = answer-listing (searchOf road tree code (inDrive seconds) crews) (sound .well) limit t .sorted;
-    distances = listed-distances road tree code (inDrive seconds) crews p sound limit t;
-    yards = listed-yards road tree code (inDrive seconds) crews p sound limit t;
-    once = listed-once road tree code (inDrive seconds) crews p sound limit t;
-    inside = listed-allowed road tree code (inDrive seconds) crews p sound limit t;
-    every = λ h k a near. found h near (listed-rest road tree code (inDrive seconds) crews p sound limit t h k a);
+  abbrev drive-search : Instance
+  drive-search = searchOf road tree drive-asked crews
+
+  -- the wanted yards within the drive
+  pub drive-yards : (p : Passed road tree crews) → SoundInstance drive-search → (limit : ℕ) → T (answer drive-search limit .settled)
+      → DriveYards (net road) code seconds crews (keepIf (drive-search .wants) (treeYards (decode tree))) (answer drive-search limit .listed)
+  drive-yards p sound limit t = record {
+    sorted = answer-listing drive-search (sound .well) limit t .sorted;
+    distances = listed-distances road tree drive-asked crews p sound limit t;
+    yards = listed-yards road tree drive-asked crews p sound limit t;
+    once = listed-once road tree drive-asked crews p sound limit t;
+    inside = listed-allowed road tree drive-asked crews p sound limit t;
+    every = λ h k s near. found h near (listed-rest road tree drive-asked crews p sound limit t h k s);
   }
     where
-      found : (h : Element) → h .distance ≤ seconds → Mem h list ⊎ (seconds < h .distance) → Mem h list
+      found : (h : Entry) → h .distance ≤ seconds → Mem h (answer drive-search limit .listed) ⊎ (seconds < h .distance) → Mem h (answer drive-search limit .listed)
       found h near (inl m) = m
       found h near (inr f) = absurd (omega arith)

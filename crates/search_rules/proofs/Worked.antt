@@ -1,6 +1,7 @@
 -- The worked examples, by computing the definitions. Assumes nothing.
 use mathlib.Core.Path.{refl}
 use Rattle.book.specs.Choose.{choose}
+use Rattle.book.specs.Lists.{keepIf}
 use Rattle.tree_layout.specs.Values.{leafMark, innerMark, firstDistance, lastFrom, noRegion, regionAt, noMark}
 use Rattle.tree_layout.specs.Refusal.{all, comes}
 use Rattle.tree_leaf.specs.Leaf.{names, once, inRange, namedBy, firstList, agreeing, sameYards, leafOk}
@@ -11,20 +12,22 @@ use Rattle.search_rules.specs.Bounds.{absDiff, combine, aggregate, great
 use Rattle.search_rules.specs.Bounds.{markBound, bound, weight, best, bestOf, chosen, listAbsDiff, f, yardBound}
 use Rattle.search_rules.specs.Queue.{queued, wordAt, pick}
 use Rattle.search_rules.specs.Order.{yardFirst}
-use Rattle.search_rules.specs.Held.{insert, hold, greatestHeld, entry}
+use Rattle.search_rules.specs.Held.{insert, hold, lastDistance, greatestHeld, entry}
 use Rattle.search_rules.specs.Keeping.{keep, enough, keepBy, enoughBy}
-use Rattle.search_rules.specs.Step.{left, noElement, againKey, waiting, nextPlace, nextF, queueChildren, openInner, queueNext, closeLeaf, openLeaf}
-use Rattle.search_rules.specs.Step.{takeRegion, takeYard, nextRegion, nextYard, leastKey, step, settled, startSearch}
+use Rattle.search_rules.specs.Step.{left, noElement, againKey, passed, waiting, nextPlace, nextF, queueChildren, openInner, queueNext, closeLeaf, openLeaf}
+use Rattle.search_rules.specs.Step.{takeRegion, takeYard, nextRegion, nextYard, leastKey, step, settled, rootKeys, startSearch}
 use Rattle.search_rules.specs.Run.{advance, run, report, answer}
-use Rattle.search_rules.specs.Examples.{onChain, at, leafOf, three, from0, from2, heavy, near, six, across, driven, counts, lists}
+use Rattle.search_rules.specs.Theorems.{anyWanted, barren, barrenFrom, barrens}
+use Rattle.search_rules.specs.Examples.{onChain, at, found, leafOf, three, from0, from2, heavy, near, six, across, driven, wanting, fourOnly, inVain, noneWanted, netFor, ended, counts, lists}
 use Rattle.search_rules.specs.Examples.{regionKeysAfter, yardKeysAfter, measuredAfter, Worked}
 
 pub worked : Worked
-unfolding onChain at leafOf three from0 from2 heavy near six across driven counts lists regionKeysAfter yardKeysAfter measuredAfter choose leafMark innerMark firstDistance lastFrom
-    noRegion regionAt noMark all comes names once inRange namedBy firstList agreeing sameYards leafOk siblings subtree endOf starts childrenOf size children
+unfolding onChain at found leafOf three from0 from2 heavy near six across driven wanting fourOnly inVain noneWanted netFor ended counts lists regionKeysAfter yardKeysAfter measuredAfter choose leafMark innerMark firstDistance lastFrom
+    noRegion regionAt noMark all comes names once inRange namedBy firstList agreeing sameYards leafOk siblings subtree endOf starts childrenOf size keepIf children
     marks leaf absDiff combine aggregate greatestOf leastFrom leastOf crewBound tableAt lower upper over total markBound bound weight best bestOf chosen
-    listAbsDiff f yardBound queued wordAt pick yardFirst insert hold greatestHeld entry keep enough keepBy enoughBy left noElement againKey waiting nextPlace nextF
-    queueChildren openInner queueNext closeLeaf openLeaf takeRegion takeYard nextRegion nextYard leastKey step settled startSearch advance run report answer
+    listAbsDiff f yardBound queued wordAt pick yardFirst insert hold lastDistance greatestHeld entry keep enough keepBy enoughBy left noElement againKey passed waiting nextPlace nextF
+    queueChildren openInner queueNext closeLeaf openLeaf takeRegion takeYard nextRegion nextYard leastKey step settled rootKeys startSearch advance run report answer
+    anyWanted barren barrenFrom barrens
 worked = record {
   tied-weights = refl;
   first-landmark = refl;
@@ -43,4 +46,18 @@ worked = record {
   stops-above = refl;
   measured-above = refl;
   counted-above = refl;
+  wanted-1 = refl;
+  wanted-2 = refl;
+  wanted-3 = refl;
+  wanted-list = refl;
+  next-wanted = refl;
+  vain-3 = refl;
+  vain-4 = refl;
+  vain-counts = refl;
+  vain-list = refl;
+  vain-leaves = refl;
+  none-queued = refl;
+  none-settled = refl;
+  none-counts = refl;
+  none-list = refl;
 }

@@ -8,7 +8,7 @@ use Prim.Native.Nat.{ℕ}
 use lib.ListN.{length}
 use lib.Dec.{T, ltb, eqb}
 use Rattle.book.specs.Choose.{choose}
-use Rattle.tree_layout.specs.Values.{Element}
+use Rattle.search_rules.specs.Order.{Entry}
 use Rattle.search_rules.specs.Rule.{Rule, nearest, inDrive}
 use Rattle.search_rules.specs.Held.{greatestHeld}
 use Rattle.search_rules.specs.Keeping.{keepBy}
@@ -20,7 +20,7 @@ exceeds none n = false
 exceeds (some seconds) n = ltb seconds n
 
 -- "Search uses the k-th held distance, or no ceiling until k are held; the drive search its seconds."
-unfoldable pub ceilingBy : Rule → List Element → Option ℕ
+unfoldable pub ceilingBy : Rule → List Entry → Option ℕ
 ceilingBy (nearest k) held = choose (eqb (length held) k) (some (greatestHeld held)) none
 ceilingBy (inDrive seconds) held = some seconds
 
@@ -35,5 +35,5 @@ measuredBy ceiling n = choose (exceeds ceiling n) above (exact n)
 
 -- a yard that is above changes nothing in what is held, by either rule
 abbrev pub AboveKept : Type 0
-AboveKept = (rule : Rule) (held : List Element) → Sorted held → (e : Element)
+AboveKept = (rule : Rule) (held : List Entry) → Sorted held → (e : Entry)
     → T (exceeds (ceilingBy rule held) (e .distance)) → keepBy rule e held ≡ held

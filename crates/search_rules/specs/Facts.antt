@@ -8,6 +8,7 @@ use Prim.Native.Nat.{ℕ, _+_, _≤_, _<_}
 use lib.ListN.{length}
 use lib.Dec.{T}
 use Rattle.tree_layout.specs.Values.{Element, Mark}
+use Rattle.tree.specs.Yards.{childrenOf}
 use Rattle.search_rules.specs.Instance.{Instance, size, children, marks, leaf}
 
 -- yard y stands in landmark m's list
@@ -16,10 +17,18 @@ pub record Listed (m : Mark) (y : ℕ) : Type 0 where
   pub mem : Mem element (m .list)
   pub names : element .yard ≡ y
 
--- y is a yard below region r: a leaf's lists name it, or it is below a child
+-- y is a wanted yard below region r, and all regions on the way to it may enter the queue: a leaf's lists name it, or it
+-- is below a child
 pub data Below (i : Instance) : ℕ → ℕ → Type 0 where
-  inside : {r y : ℕ} (m : Mark) → T (leaf i r) → Mem m (marks i r) → Listed m y → Below i r y
-  under : {r y : ℕ} (c : ℕ) → T (not (leaf i r)) → Mem c (children i r) → Below i c y → Below i r y
+  inside : {r y : ℕ} (m : Mark) → T (i .admits r) → T (leaf i r) → Mem m (marks i r) → Listed m y → T (i .wants y)
+      → Below i r y
+  under : {r y : ℕ} (c : ℕ) → T (i .admits r) → T (not (leaf i r)) → Mem c (children i r) → Below i c y → Below i r y
+
+-- y is a yard below region r, wanted or not: a leaf's lists name it, or it is below a child
+pub data Holds (i : Instance) : ℕ → ℕ → Type 0 where
+  listed : {r y : ℕ} (m : Mark) → T (leaf i r) → Mem m (marks i r) → Listed m y → Holds i r y
+  child's : {r y : ℕ} (c : ℕ) → T (not (leaf i r)) → Mem c (childrenOf (i .tree .regions) r) → Holds i c y
+      → Holds i r y
 
 -- The tree's shape. A region of no number has neither children nor landmarks.
 pub record Shape (i : Instance) : Type 0 where
@@ -68,13 +77,15 @@ pub record Triangle (i : Instance) : Type 0 where
 pub record Symmetric (i : Instance) : Type 0 where
   pub turn : (u v : ℕ) → u < i .tree .junctions → v < i .tree .junctions → i .d u v ≡ i .d v u
 
--- The tree's numbers are true: a list's distances are those from its landmark, and a landmark's least and greatest
--- enclose those to the yards below its region.
+-- The tree's numbers are true: a list's distances are those from its landmark, a landmark's least and greatest enclose
+-- those to the yards below its region, and a region may enter the queue exactly if it holds a wanted yard.
 pub record Truth (i : Instance) : Type 0 where
   pub lists : (r : ℕ) (m : Mark) (e : Element) → T (leaf i r) → Mem m (marks i r) → Mem e (m .list)
       → e .distance ≡ i .d (m .place) (e .yard)
   pub least : (r : ℕ) (m : Mark) (y : ℕ) → Mem m (marks i r) → Below i r y → m .least ≤ i .d (m .place) y
   pub greatest : (r : ℕ) (m : Mark) (y : ℕ) → Mem m (marks i r) → Below i r y → i .d (m .place) y ≤ m .greatest
+  pub admitted : (r y : ℕ) → Holds i r y → T (i .wants y) → T (i .admits r)
+  pub wanted : (r : ℕ) → r < size i → T (i .admits r) → (y : ℕ) × Holds i r y × T (i .wants y)
 
 -- all of it: what holds of a tree that check accepts
 pub record SoundInstance (i : Instance) : Type 0 where

@@ -4,7 +4,7 @@ use mathlib.Core.List.{List, [], _∷_}
 use Prim.Native.Nat.{ℕ, zero, suc}
 use lib.ListN.{length}
 use Rattle.book.specs.Choose.{choose}
-use Rattle.tree_layout.specs.Values.{Element}
+use Rattle.search_rules.specs.Order.{Entry}
 use Rattle.search_rules.specs.Instance.{Instance}
 use Rattle.search_rules.specs.Step.{SearchState, step, settled, startSearch}
 
@@ -17,12 +17,12 @@ pub record Outcome : Type 0 where
 -- taken, and the number of yards measured.
 pub record Answer : Type 0 where
   pub settled : Bool
-  pub listed : List Element
+  pub listed : List Entry
   pub taken : ℕ
   pub measured : ℕ
 
 -- "(yard, distance) words": those of a list of yards
-unfoldable pub words : List Element → List ℕ
+unfoldable pub words : List Entry → List ℕ
 words [] = []
 words (e ∷ es) = e .yard ∷ e .distance ∷ words es
 

@@ -8,6 +8,7 @@ use lib.Dec.{ltb}
 use Rattle.book.specs.Choose.{choose}
 use Rattle.tree_layout.specs.Values.{Element, Mark}
 use Rattle.search_rules.specs.Instance.{Instance, size, children, leaf}
+use Rattle.search_rules.specs.Order.{Entry}
 use Rattle.search_rules.specs.Bounds.{bound, chosen, f, yardBound}
 use Rattle.search_rules.specs.Queue.{unqueued, queued, wordAt, pick}
 use Rattle.search_rules.specs.Keeping.{keep, enough}
@@ -20,7 +21,7 @@ pub record SearchState : Type 0 where
   pub yardKeys : List ℕ
   pub firsts : List ℕ
   pub gone : List Bool
-  pub held : List Element
+  pub held : List Entry
   pub measured : List ℕ
 
 -- yard y has left its leaf
@@ -29,7 +30,7 @@ left gone y = getD gone y false
 
 -- what stands for the element of an empty list
 unfoldable pub noElement : Element
-noElement = record { distance = 0; yard = 0 }
+noElement = record { distance = 0; yard = 0; kinds = 0 }
 
 -- the leaf's key when it is queued again: "if any remain, itself, with the greater of its first key and the next f"
 unfoldable pub againKey : ℕ → ℕ → ℕ
@@ -38,10 +39,14 @@ againKey first next = choose (queued next) (max first next) unqueued
 module _ (i : Instance) where
   -- ---- a leaf's list
 
-  -- for each element f, or `unqueued` if it has left
+  -- yard y has left its leaf, or is not wanted: "A leaf, when taken, passes over its unwanted elements"
+  unfoldable pub passed : List Bool → ℕ → Bool
+  passed gone y = left gone y || not (i .wants y)
+
+  -- for each element f, or `unqueued` if it is passed over
   unfoldable pub waiting : List Bool → Mark → List Element → List ℕ
   waiting gone m [] = []
-  waiting gone m (e ∷ es) = choose (left gone (e .yard)) unqueued (f i m e) ∷ waiting gone m es
+  waiting gone m (e ∷ es) = choose (passed gone (e .yard)) unqueued (f i m e) ∷ waiting gone m es
 
   -- "Its list's elements leave by f .., then by place": the place of the next one
   unfoldable pub nextPlace : List Bool → Mark → ℕ
@@ -83,7 +88,7 @@ module _ (i : Instance) where
         measured = st .measured;
       }
 
-  -- a leaf of which none remains leaves the queue
+  -- a leaf of which none remains leaves the queue: "A leaf without any wanted yard queues nothing when taken."
   unfoldable pub closeLeaf : SearchState → ℕ → SearchState
   closeLeaf st r = record {
     regionKeys = set (st .regionKeys) r unqueued;
@@ -149,12 +154,17 @@ module _ (i : Instance) where
   unfoldable pub settled : SearchState → Bool
   settled st = not (queued (leastKey st)) || enough i (st .held) (leastKey st)
 
-  -- "The queue starts with the root."
+  -- "The queue starts with the root.", if it may enter
+  unfoldable pub rootKeys : List ℕ
+  rootKeys =
+      let none = replicate (size i) unqueued in
+      choose (i .admits 0) (set none 0 (bound i 0)) none
+
   unfoldable pub startSearch : SearchState
   startSearch = record {
-    regionKeys = set (replicate (size i) unqueued) 0 (bound i 0);
+    regionKeys = rootKeys;
     yardKeys = replicate (i .tree .junctions) unqueued;
-    firsts = set (replicate (size i) unqueued) 0 (bound i 0);
+    firsts = rootKeys;
     gone = replicate (i .tree .junctions) false;
     held = [];
     measured = [];

@@ -1,11 +1,12 @@
 -- What is proved of the search. Assumes nothing: these are statements.
 use mathlib.Core.Path.{_≡_}
 use mathlib.Core.Logic.{_⊎_}
-use mathlib.Core.Bool.{Bool, true, false, not}
+use mathlib.Core.Bool.{Bool, true, false, not, _&&_, _||_}
 use mathlib.Core.List.{List, [], _∷_, List·Memᴰ as Mem}
-use Prim.Native.Nat.{ℕ, _+_, _*_, _≤_, _<_, max}
+use Prim.Native.Nat.{ℕ, zero, suc, _+_, _*_, _≤_, _<_, max}
 use lib.ListN.{length}
 use lib.Dec.{T}
+use Rattle.book.specs.Choose.{choose}
 use Rattle.book.specs.Lists.{Distinct}
 use Rattle.tree_layout.specs.Values.{Element, Mark}
 use Rattle.tree.specs.Yards.{inners}
@@ -13,7 +14,7 @@ use Rattle.search_rules.specs.Rule.{Rule, nearest, inDrive}
 use Rattle.search_rules.specs.Instance.{Instance, size, marks, leaf}
 use Rattle.search_rules.specs.Bounds.{lower, upper, bound, total, weight, chosen, f, yardBound}
 use Rattle.search_rules.specs.Queue.{unqueued, wordAt}
-use Rattle.search_rules.specs.Order.{YardBefore}
+use Rattle.search_rules.specs.Order.{Entry, YardBefore}
 use Rattle.search_rules.specs.Held.{greatestHeld, entry, ranked}
 use Rattle.search_rules.specs.Keeping.{front}
 use Rattle.search_rules.specs.Step.{SearchState, settled}
@@ -23,50 +24,71 @@ use Rattle.search_rules.specs.Facts.{Below}
 -- ---- lists of yards
 
 -- "Yard order": each element comes before all that follow it
-abbrev pub Sorted : List Element → Type 0
+abbrev pub Sorted : List Entry → Type 0
 Sorted [] = Unit {0}
-Sorted (h ∷ hs) = ((g : Element) → Mem g hs → YardBefore h g) × Sorted hs
+Sorted (h ∷ hs) = ((g : Entry) → Mem g hs → YardBefore h g) × Sorted hs
 
 -- a yard is left out of the first k: they are k, and it comes after every one of them
-pub record Out (k : ℕ) (first : List Element) (h : Element) : Type 0 where
+pub record Out (k : ℕ) (first : List Entry) (h : Entry) : Type 0 where
   pub full : length first ≡ k
-  pub after : (g : Element) → Mem g first → YardBefore g h
+  pub after : (g : Entry) → Mem g first → YardBefore g h
 
 -- a yard is left out by a rule: of the first k as above, of a drive because it is further than the seconds
-abbrev pub LeftOut : Rule → List Element → Element → Type 0
+abbrev pub LeftOut : Rule → List Entry → Entry → Type 0
 LeftOut (nearest k) list h = Out k list h
 LeftOut (inDrive seconds) list h = seconds < h .distance
 
 -- a list has no more than a rule asks for: no more than k yards, or none further than the seconds
-abbrev pub Allowed : Rule → List Element → Type 0
+abbrev pub Allowed : Rule → List Entry → Type 0
 Allowed (nearest k) list = length list ≤ k
-Allowed (inDrive seconds) list = (h : Element) → Mem h list → h .distance ≤ seconds
+Allowed (inDrive seconds) list = (h : Entry) → Mem h list → h .distance ≤ seconds
 
 -- a number is not past what ends a search: the last distance of a full list, or the seconds
-abbrev pub NotPast : Rule → List Element → ℕ → Type 0
+abbrev pub NotPast : Rule → List Entry → ℕ → Type 0
 NotPast (nearest k) list a = length list ≡ k → a ≤ greatestHeld list
 NotPast (inDrive seconds) list a = a ≤ seconds
 
--- ys are the tree's yards, each once
+-- ys are the wanted yards that may be reached, each once
 pub record TreeYards (i : Instance) (ys : List ℕ) : Type 0 where
   pub distinct : Distinct ys
   pub below : (y : ℕ) → Mem y ys → Below i 0 y
   pub every : (y : ℕ) → Below i 0 y → Mem y ys
 
+-- ys have every wanted yard that may be reached
+abbrev pub Covers : Instance → List ℕ → Type 0
+Covers i ys = (y : ℕ) → Below i 0 y → Mem y ys
+
+-- some element of a list is wanted
+unfoldable pub anyWanted : Instance → List Element → Bool
+anyWanted i [] = false
+anyWanted i (e ∷ es) = i .wants (e .yard) || anyWanted i es
+
+-- leaf r may enter the queue and has no wanted yard: it is taken once and queues nothing
+unfoldable pub barren : Instance → ℕ → Bool
+barren i r = i .admits r && (leaf i r && not (anyWanted i (chosen i r .list)))
+
+-- how many such leaves are among n regions from number r on, and among all
+unfoldable pub barrenFrom : Instance → ℕ → ℕ → ℕ
+barrenFrom i zero r = 0
+barrenFrom i (suc n) r = choose (barren i r) 1 0 + barrenFrom i n (suc r)
+
+unfoldable pub barrens : Instance → ℕ
+barrens i = barrenFrom i (size i) 0
+
 -- what holds of a list of yards whatever the tree's numbers say: "with true distances, distinct yards and yard order,
 -- but a yard may be left out"
-pub record Listing (i : Instance) (list : List Element) : Type 0 where
+pub record Listing (i : Instance) (list : List Entry) : Type 0 where
   pub sorted : Sorted list
-  pub distances : (h : Element) → Mem h list → h .distance ≡ total i (h .yard)
-  pub distinct : (h g : Element) → Mem h list → Mem g list → h .yard ≡ g .yard → h ≡ g
-  pub in-tree : (h : Element) → Mem h list → Below i 0 (h .yard)
+  pub distances : (h : Entry) → Mem h list → h .distance ≡ total i (h .yard)
+  pub distinct : (h g : Entry) → Mem h list → Mem g list → h .yard ≡ g .yard → h ≡ g
+  pub in-tree : (h : Entry) → Mem h list → Below i 0 (h .yard)
   pub allowed : Allowed (i .rule) list
   -- the greatest distance is the last one's
-  pub greatest : (h : Element) → Mem h list → h .distance ≤ greatestHeld list
+  pub greatest : (h : Entry) → Mem h list → h .distance ≤ greatestHeld list
 
 -- the list has what the rule asks for of the tree's yards, in yard order: the first k, or all if there are fewer; or
 -- all within the seconds
-pub record Complete (i : Instance) (list : List Element) : Type 0 where
+pub record Complete (i : Instance) (list : List Entry) : Type 0 where
   -- a yard of the tree is listed, or the rule leaves it out
   pub rest : (y : ℕ) → Below i 0 y → Mem (entry i y) list ⊎ LeftOut (i .rule) list (entry i y)
   -- as an equation
@@ -118,14 +140,14 @@ pub record Decided (i : Instance) (limit : ℕ) : Type 0 where
   pub held : run i limit .state .held ≡ front (i .rule) (ranked i (run i limit .state .measured))
   pub measured-once : Distinct (run i limit .state .measured)
   pub measured-in : (y : ℕ) → Mem y (run i limit .state .measured) → Below i 0 y
-  pub measured-few : (ys : List ℕ) → TreeYards i ys → length (run i limit .state .measured) ≤ length ys
+  pub measured-few : (ys : List ℕ) → Covers i ys → length (run i limit .state .measured) ≤ length ys
   -- "It is spent exactly if the limit's number of steps was taken and it isn't settled."
   pub spent : T (not (settled i (run i limit .state))) → run i limit .taken ≡ limit
   pub within : run i limit .taken ≤ limit
   -- a settled search stays as it is under a greater limit
   pub stays : T (settled i (run i limit .state)) → (more : ℕ) → run i (limit + more) ≡ run i limit
-  -- inner regions plus twice the yards are enough
-  pub ends : (ys : List ℕ) → TreeYards i ys → inners (i .tree) + 2 * length ys ≤ limit
+  -- inner regions, leaves that are taken in vain, and twice the yards are enough
+  pub ends : (ys : List ℕ) → Covers i ys → inners (i .tree) + barrens i + 2 * length ys ≤ limit
       → T (settled i (run i limit .state))
   -- no key is above sixteen times a u32
   pub fits : KeysFit 68719476720 (run i limit .state)

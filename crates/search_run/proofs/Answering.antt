@@ -6,7 +6,7 @@ use Prim.Native.Nat.{ℕ}
 use lib.ListN.{length}
 use Rattle.book.specs.Choose.{choose}
 use Rattle.book.proofs.Choosing.{choose-case}
-use Rattle.tree_layout.specs.Values.{Element}
+use Rattle.search_rules.specs.Order.{Entry}
 use Rattle.search_rules.specs.Rule.{Rule}
 use Rattle.search_rules.specs.Instance.{Instance}
 use Rattle.search_rules.specs.Step.{SearchState, settled}
@@ -19,7 +19,7 @@ use Rattle.search_state.proofs.Newest.{newest-length}
 use Rattle.search_run.specs.declared.Outcome.{Outcome}
 use Rattle.search_run.specs.code.Answers.{answerOf}
 
-same-answer : (a : Answer) (s : Bool) (l : List Element) (t m : ℕ) → s ≡ a .settled → l ≡ a .listed → t ≡ a .taken → m ≡ a .measured
+same-answer : (a : Answer) (s : Bool) (l : List Entry) (t m : ℕ) → s ≡ a .settled → l ≡ a .listed → t ≡ a .taken → m ≡ a .measured
     → _≡_ {A = Answer} (record { settled = s; listed = l; taken = t; measured = m }) a
 same-answer a s l t m e f g h = rw (e, f, g, h) refl
 
@@ -34,7 +34,7 @@ module _ (i : Instance) (limit r n : ℕ) (words list measured : List ℕ) (rule
 
   listed-is : choose (o .settled) (heldBy rule (o .kept) list) [] ≡ answer i limit .listed
   listed-is =
-      choose-case (λ (l : List Element). l ≡ answer i limit .listed) (o .settled) (λ t. held-is ∙ sym (answer-listed i limit (rw settled-is at t)))
+      choose-case (λ (l : List Entry). l ≡ answer i limit .listed) (o .settled) (λ t. held-is ∙ sym (answer-listed i limit (rw settled-is at t)))
       (λ t. sym (answer-spent i limit (rw settled-is at t) .0))
 
   measured-is : o .measured ≡ answer i limit .measured

@@ -10,7 +10,7 @@ use lib.Seq.{length-take-le}
 use lib.Dec.{T}
 use Rattle.book.proofs.Choosing.{true-T, false-T}
 use Rattle.tree_layout.specs.Decode.{junctionCount}
-use Rattle.search_rules.specs.Rule.{Rule}
+use Rattle.search_rules.specs.Rule.{Rule, Asking}
 use Rattle.search_rules.specs.Instance.{Instance}
 use Rattle.search_rules.specs.Books.{searchOf}
 use Rattle.search_rules.specs.Queue.{pick}
@@ -40,17 +40,17 @@ pub record Runs (i : Instance) (r n : ℕ) (words values : List ℕ) (st : Searc
   pub counts : taken ≡ run i taken .taken
 
 -- what the steps change: of the search by every road book beside which it is ready, and within the limit and the room
-pub record Steps (tree : List ℕ) (code : ℕ) (goal : Rule) (crews drives places table : List ℕ) (limit room : ℕ) (words values list measured : List ℕ)
+pub record Steps (tree : List ℕ) (a : Asking) (crews drives places table : List ℕ) (limit room : ℕ) (words values list measured : List ℕ)
     (progress : Progress) (taken : ℕ) : Type 0 where
   pub size : length words ≡ wordCount (length places) (junctionCount tree)
   pub value-size : length values ≡ valueCount
   pub same : length measured ≡ room
   pub list-size : length list ≡ 512
-  pub runs : (road : List ℕ) → Ready road tree code goal crews drives places table
-      → Runs (searchOf road tree code goal crews) (length places) (junctionCount tree) words values
-      (stateOf (length places) (junctionCount tree) words (heldBy goal (progress .kept) list) measured (progress .measured)) taken
-  pub few : Fits goal (progress .kept)
-  pub low : countBy goal (progress .kept) ≤ progress .measured
+  pub runs : (road : List ℕ) → Ready road tree a crews drives places table
+      → Runs (searchOf road tree a crews) (length places) (junctionCount tree) words values
+      (stateOf (length places) (junctionCount tree) words (heldBy (a .rule) (progress .kept) list) measured (progress .measured)) taken
+  pub few : Fits (a .rule) (progress .kept)
+  pub low : countBy (a .rule) (progress .kept) ≤ progress .measured
   pub most : progress .measured ≤ 256
   pub within : taken ≤ limit
 
@@ -62,9 +62,9 @@ pub least-of : (r n : ℕ) (ws : List ℕ) (queue p : ℕ) → queue ≡ r + n �
     → p ≡ pick (take queue ws) (length (take queue ws)) → FirstLeast r n ws p
 least-of r n ws queue p e s h = h ∙ (ap (pick (take queue ws)) (length-take-le queue ws (omega arith) ∙ e) ∙ rw (e, part-all ws (r + n)) refl)
 
-module _ {tree : List ℕ} {code : ℕ} {goal : Rule} {crews drives places table : List ℕ} {limit room : ℕ} {words values list measured : List ℕ} {progress : Progress} {taken : ℕ}
-    (steps : Steps tree code goal crews drives places table limit room words values list measured progress taken)
-    (p : ℕ) (e : FirstLeast (length places) (junctionCount tree) words p) (b : Bool) (q : b ≡ settledBy goal (getD words p 0) (heldBy goal (progress .kept) list)) where
+module _ {tree : List ℕ} {a : Asking} {crews drives places table : List ℕ} {limit room : ℕ} {words values list measured : List ℕ} {progress : Progress} {taken : ℕ}
+    (steps : Steps tree a crews drives places table limit room words values list measured progress taken)
+    (p : ℕ) (e : FirstLeast (length places) (junctionCount tree) words p) (b : Bool) (q : b ≡ settledBy (a .rule) (getD words p 0) (heldBy (a .rule) (progress .kept) list)) where
   abbrev r : ℕ
   r = length places
 
@@ -72,11 +72,11 @@ module _ {tree : List ℕ} {code : ℕ} {goal : Rule} {crews drives places table
   n = junctionCount tree
 
   abbrev st : SearchState
-  st = stateOf r n words (heldBy goal (progress .kept) list) measured (progress .measured)
+  st = stateOf r n words (heldBy (a .rule) (progress .kept) list) measured (progress .measured)
 
-  module _ (road : List ℕ) (ready : Ready road tree code goal crews drives places table) where
+  module _ (road : List ℕ) (ready : Ready road tree a crews drives places table) where
     abbrev i : Instance
-    i = searchOf road tree code goal crews
+    i = searchOf road tree a crews
 
     abbrev s : Runs i r n words values st taken
     s = steps .runs road ready
@@ -84,19 +84,19 @@ module _ {tree : List ℕ} {code : ℕ} {goal : Rule} {crews drives places table
     -- what the test says
     settled-is : b ≡ settled i st
     settled-is =
-        q ∙ (ap (λ (w : ℕ). settledBy goal w (heldBy goal (progress .kept) list))
+        q ∙ (ap (λ (w : ℕ). settledBy (a .rule) w (heldBy (a .rule) (progress .kept) list))
         (picked-word r n words (steps .size) (some-region ready) (some-junction ready) i (regions-of ready) (junctions-are ready)
-        (heldBy goal (progress .kept) list) measured (progress .measured) p e)
-        ∙ (ap (λ (k : Rule). settledBy k (leastKey i st) (heldBy goal (progress .kept) list)) (sym (ap (λ (z : Instance). z .rule) (search-of road tree code goal crews)))
-        ∙ settled-of i r n words (heldBy goal (progress .kept) list) measured (progress .measured)))
+        (heldBy (a .rule) (progress .kept) list) measured (progress .measured) p e)
+        ∙ (ap (λ (k : Rule). settledBy k (leastKey i st) (heldBy (a .rule) (progress .kept) list)) (sym (ap (λ (z : Instance). z .rule) (search-of road tree a crews)))
+        ∙ settled-of i r n words (heldBy (a .rule) (progress .kept) list) measured (progress .measured)))
 
     -- one step more is taken
     pub going : b ≡ false → Going i r n words values st
     going z = record { value-count = steps .value-size; cached = s .cached; unsettled = record { steps = taken; is = s .is; unsettled = false-T (sym settled-is ∙ z) } }
 
     goes-on : b ≡ false → (words′ values′ list′ measured′ : List ℕ) (progress′ : Progress) → Cached i (picksIn r n words′) (fsIn n values′) (boundsIn n values′)
-        → stateOf r n words′ (heldBy goal (progress′ .kept) list′) measured′ (progress′ .measured) ≡ step i st
-        → Runs i r n words′ values′ (stateOf r n words′ (heldBy goal (progress′ .kept) list′) measured′ (progress′ .measured)) (taken + 1)
+        → stateOf r n words′ (heldBy (a .rule) (progress′ .kept) list′) measured′ (progress′ .measured) ≡ step i st
+        → Runs i r n words′ values′ (stateOf r n words′ (heldBy (a .rule) (progress′ .kept) list′) measured′ (progress′ .measured)) (taken + 1)
     goes-on z words′ values′ list′ measured′ progress′ c t =
         let o = run-on i taken (rw (s .is) at (going z .unsettled .unsettled)) in
         rw add-one (record {
@@ -107,20 +107,20 @@ module _ {tree : List ℕ} {code : ℕ} {goal : Rule} {crews drives places table
 
     -- it is settled before the limit
     pub ends-settled : b ≡ true
-        → answerOf goal list (record { kept = progress .kept; measured = progress .measured; taken = taken; settled = true }) ≡ answer i limit
+        → answerOf (a .rule) list (record { kept = progress .kept; measured = progress .measured; taken = taken; settled = true }) ≡ answer i limit
     ends-settled z =
         let t : T (settled i (run i taken .state)) = rw (s .is) at (true-T (sym settled-is ∙ z)) in
         let l : taken + (limit - taken) ≡ limit = omega (arith, steps .within) in
-        let o : run i limit ≡ run i taken = rw l at (decided i (well road tree code goal crews drives places table ready) taken .stays t (limit - taken)) in
-        answer-is i limit r n words list measured goal (record { kept = progress .kept; measured = progress .measured; taken = taken; settled = true })
+        let o : run i limit ≡ run i taken = rw l at (decided i (well road tree a crews drives places table ready) taken .stays t (limit - taken)) in
+        answer-is i limit r n words list measured (a .rule) (record { kept = progress .kept; measured = progress .measured; taken = taken; settled = true })
         (s .is ∙ sym (ap (λ (x : Ended). x .state) o))
         (s .counts ∙ sym (ap (λ (x : Ended). x .taken) o))
         (rw (o, ← s .is) (sym z ∙ settled-is))
 
     -- the limit's number of steps was taken
     pub ends-limit : b ≡ false → taken ≡ limit
-        → answerOf goal list (record { kept = progress .kept; measured = progress .measured; taken = taken; settled = false }) ≡ answer i limit
-    ends-limit z l = rw (← l) (answer-is i taken r n words list measured goal
+        → answerOf (a .rule) list (record { kept = progress .kept; measured = progress .measured; taken = taken; settled = false }) ≡ answer i limit
+    ends-limit z l = rw (← l) (answer-is i taken r n words list measured (a .rule)
         (record { kept = progress .kept; measured = progress .measured; taken = taken; settled = false })
         (s .is) (s .counts) (rw (← s .is) (sym z ∙ settled-is)))
 
@@ -128,12 +128,12 @@ module _ {tree : List ℕ} {code : ℕ} {goal : Rule} {crews drives places table
       → length values′ ≡ length values
       → length list′ ≡ length list
       → length measured′ ≡ length measured
-      → ((road : List ℕ) → Ready road tree code goal crews drives places table
-      → Cached (searchOf road tree code goal crews) (picksIn r n words′) (fsIn n values′) (boundsIn n values′))
-      → ((road : List ℕ) → Ready road tree code goal crews drives places table
-      → stateOf r n words′ (heldBy goal (progress′ .kept) list′) measured′ (progress′ .measured) ≡ step (searchOf road tree code goal crews) st)
-      → Fits goal (progress′ .kept) × (countBy goal (progress′ .kept) ≤ progress′ .measured) × (progress′ .measured ≤ 256)
-      → Steps tree code goal crews drives places table limit room words′ values′ list′ measured′ progress′ (taken + 1)
+      → ((road : List ℕ) → Ready road tree a crews drives places table
+      → Cached (searchOf road tree a crews) (picksIn r n words′) (fsIn n values′) (boundsIn n values′))
+      → ((road : List ℕ) → Ready road tree a crews drives places table
+      → stateOf r n words′ (heldBy (a .rule) (progress′ .kept) list′) measured′ (progress′ .measured) ≡ step (searchOf road tree a crews) st)
+      → Fits (a .rule) (progress′ .kept) × (countBy (a .rule) (progress′ .kept) ≤ progress′ .measured) × (progress′ .measured ≤ 256)
+      → Steps tree a crews drives places table limit room words′ values′ list′ measured′ progress′ (taken + 1)
   steps-on z l words′ values′ list′ measured′ progress′ sw sv sh sm c t f = record {
     size = sw ∙ steps .size;
     value-size = sv ∙ steps .value-size;

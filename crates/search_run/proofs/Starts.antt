@@ -1,11 +1,14 @@
 -- The words before the first step are the definition's start. Assumes nothing.
 use mathlib.Core.Path.{_≡_, refl, sym, ap, _∙_}
-use mathlib.Core.Bool.{false}
+use mathlib.Core.Logic.{_⊎_, inl, inr}
+use mathlib.Core.Bool.{Bool, false, not}
 use mathlib.Core.List.{List}
 use Prim.Native.Nat.{ℕ, _+_, _*_, _≤_, _<_}
 use native.Mathlib.Omega.{arith}
 use lib.ListN.{length, getD, take, set, replicate, length-set, length-replicate, getD-replicate}
 use lib.Seq.{length-take-le}
+use lib.Dec.{T}
+use Rattle.book.proofs.Choosing.{choose-case, choose-yes, choose-no, T-split}
 use Rattle.tree_layout.specs.Values.{regionAt}
 use Rattle.tree_layout.specs.Decode.{decode, junctionCount, landmarkCount}
 use Rattle.tree_layout.specs.Reading.{headerOf}
@@ -13,12 +16,15 @@ use Rattle.tree_layout.specs.declared.Header.{Header}
 use Rattle.tree_layout.proofs.Reading.{header-junctions}
 use Rattle.tree.specs.Arrays.{Laid}
 use Rattle.tree.proofs.Fielding.{laid-few}
-use Rattle.search_rules.specs.Rule.{Rule, nearest, inDrive}
+use Rattle.search_rules.specs.Rule.{Rule, nearest, inDrive, Asking}
 use Rattle.search_rules.specs.Instance.{Instance, size}
 use Rattle.search_rules.specs.Books.{searchOf}
+use Rattle.search_rules.specs.Bounds.{bound}
 use Rattle.search_rules.specs.Queue.{unqueued}
+use Rattle.search_rules.specs.Step.{rootKeys}
 use Rattle.search_rules.specs.Run.{Outcome as Ended, run}
-use Rattle.search_rules.proofs.Steps.{start-is}
+use Rattle.search_rules.proofs.Equations.{admits-of}
+use Rattle.search_rules.proofs.Steps.{start-is, root-in, root-out}
 use Rattle.search_rules.proofs.Turns.{run-start}
 use Rattle.search_held.specs.declared.Kept.{Kept}
 use Rattle.search_held.specs.code.Rules.{heldBy, countBy, Fits, Small}
@@ -30,6 +36,8 @@ use Rattle.search_state.proofs.Newest.{newest-none}
 use Rattle.search_bounds.specs.code.Bounds.{rowsBound}
 use Rattle.search_bounds.proofs.Searching.{bound-of}
 use Rattle.search_leaf.specs.code.Ready.{Ready, Cached, unopened}
+use Rattle.search_step.specs.code.Children.{wantedIn}
+use Rattle.search_step.proofs.Queueing.{wanted-is}
 use Rattle.search_step.proofs.Opening.{cached-by, regions-of, junctions-are}
 use Rattle.search_step.proofs.Taking.{some-region}
 use Rattle.search_run.specs.code.Answers.{putRoot}
@@ -49,10 +57,24 @@ cached-none i r n values er en few e = record {
     marked : (v : ℕ) → v < size i → getD (replicate r unqueued) v 0 ≡ unopened
     marked v k = getD-replicate r v unqueued 0 (omega arith)
 
-module _ {road tree : List ℕ} {code : ℕ} {goal : Rule} {crews drives places table : List ℕ} (ready : Ready road tree code goal crews drives places table)
+-- the words with the root in the queue, or not
+module _ (admitted : Bool) (r n key : ℕ) (ws : List ℕ) where
+  put-in : T admitted → putRoot admitted r n key ws ≡ set (set ws 0 key) (firstsAt r n) key
+  unfolding putRoot
+  put-in t = choose-yes admitted _ _ t
+
+  pub put-out : T (not admitted) → putRoot admitted r n key ws ≡ ws
+  unfolding putRoot
+  put-out t = choose-no admitted _ _ t
+
+  put-length : length (putRoot admitted r n key ws) ≡ length ws
+  unfolding putRoot
+  put-length = choose-case (λ (l : List ℕ). length l ≡ length ws) admitted (λ t. simp (length-set, length-set)) (λ t. refl)
+
+module _ {road tree : List ℕ} {a : Asking} {crews drives places table : List ℕ} (ready : Ready road tree a crews drives places table)
     (words values list measured : List ℕ) (kept : Kept) (none : (kept .held .count ≡ 0) × (kept .listed ≡ 0)) where
   abbrev i : Instance
-  i = searchOf road tree code goal crews
+  i = searchOf road tree a crews
 
   abbrev r : ℕ
   r = length places
@@ -61,28 +83,37 @@ module _ {road tree : List ℕ} {code : ℕ} {goal : Rule} {crews drives places 
   n = junctionCount tree
 
   abbrev key : ℕ
-  key = rowsBound table (landmarkCount tree) code crews (regionAt (decode tree .regions) 0 .marks)
+  key = rowsBound table (landmarkCount tree) (a .code) crews (regionAt (decode tree .regions) 0 .marks)
 
-  module _ (e : words ≡ putRoot r n key (replicate (wordCount r n) unqueued)) where
-    start-parts : Parts r n words (set (replicate r unqueued) 0 key) (replicate n unqueued) (set (replicate r unqueued) 0 key)
-        (replicate r unqueued) (replicate n false)
-    unfolding putRoot
-    start-parts = rw e (store-first (store-key (parts-replicate r n unqueued (λ z. absurd (omega arith))) 0 key 0 refl (some-region ready))
-        (firstsAt r n) key 0 (omega arith) (some-region ready))
+  abbrev admitted : Bool
+  admitted = wantedIn tree (a .wanted) 0
 
-    start-state : stateOf r n words (heldBy goal kept list) measured 0 ≡ run i 0 .state
+  admits-is : i .admits 0 ≡ admitted
+  admits-is = admits-of road tree a crews 0 ∙ sym (wanted-is tree (a .wanted) 0)
+
+  key-is : key ≡ bound i 0
+  key-is = bound-of road tree a crews (ready .passed) (landmarkCount tree) table (ready .tableed) 0 key refl
+
+  module _ (e : words ≡ putRoot admitted r n key (replicate (wordCount r n) unqueued)) where
+    fresh : Parts r n (replicate (wordCount r n) unqueued) (replicate r unqueued) (replicate n unqueued) (replicate r unqueued) (replicate r unqueued)
+        (replicate n false)
+    fresh = parts-replicate r n unqueued (λ z. absurd (omega arith))
+
+    start-parts : Parts r n words (rootKeys i) (replicate n unqueued) (rootKeys i) (replicate r unqueued) (replicate n false)
+    start-parts = go (T-split (i .admits 0))
+      where
+        go : T (i .admits 0) ⊎ T (not (i .admits 0)) → Parts r n words (rootKeys i) (replicate n unqueued) (rootKeys i) (replicate r unqueued) (replicate n false)
+        go (inl t) = rw (e, put-in admitted r n key (replicate (wordCount r n) unqueued) (rw admits-is at t), root-in i t, regions-of ready, ← key-is)
+            (store-first (store-key fresh 0 key 0 refl (some-region ready)) (firstsAt r n) key 0 (omega arith) (some-region ready))
+        go (inr t) = rw (e, put-out admitted r n key (replicate (wordCount r n) unqueued) (rw admits-is at t), root-out i t, regions-of ready) fresh
+
+    start-state : stateOf r n words (heldBy (a .rule) kept list) measured 0 ≡ run i 0 .state
     start-state =
-        state-by start-parts (heldBy goal kept list) measured 0
-        ∙ (rw (
-          none-held goal kept list none,
-          newest-none measured,
-          bound-of road tree code goal crews (ready .passed) (landmarkCount tree) table (ready .tableed) 0 key refl,
-          ← regions-of ready,
-          ← junctions-are ready,
-        ) refl
+        state-by start-parts (heldBy (a .rule) kept list) measured 0
+        ∙ (rw (none-held (a .rule) kept list none, newest-none measured, ← junctions-are ready) refl
         ∙ sym (ap (λ (o : Ended). o .state) (run-start i) ∙ start-is i))
 
-    starts : length values ≡ valueCount → Runs i r n words values (stateOf r n words (heldBy goal kept list) measured 0) 0
+    starts : length values ≡ valueCount → Runs i r n words values (stateOf r n words (heldBy (a .rule) kept list) measured 0) 0
     starts v = record {
       cached = cached-by start-parts (cached-none i r n values (regions-of ready) (junctions-are ready) (ready .laid .layout .junctions .1) v);
       is = start-state;
@@ -98,34 +129,30 @@ none-low : (rule : Rule) (kept : Kept) → (kept .held .count ≡ 0) × (kept .l
 none-low (nearest k) kept z = omega (arith, z .0)
 none-low (inDrive seconds) kept z = omega (arith, z .1)
 
-pub steps-start : (tree : List ℕ) (code : ℕ) (goal : Rule) (crews drives places table : List ℕ) (limit : ℕ) (words₀ words values list measured : List ℕ) (kept : Kept)
+pub steps-start : (tree : List ℕ) (a : Asking) (crews drives places table : List ℕ) (limit : ℕ) (words₀ words values list measured : List ℕ) (kept : Kept)
     → words₀ ≡ replicate (wordCount (length places) (junctionCount tree)) unqueued
-    → words ≡ putRoot (length places) (junctionCount tree)
-    (rowsBound table (landmarkCount tree) code crews (regionAt (decode tree .regions) 0 .marks)) words₀
-    → length values ≡ valueCount → length list ≡ 512 → Small goal → (kept .held .count ≡ 0) × (kept .listed ≡ 0)
-    → Steps tree code goal crews drives places table limit (length measured) words values list measured (record { kept = kept; measured = 0 }) 0
-unfolding putRoot
-steps-start tree code goal crews drives places table limit words₀ words values list measured kept z e v h small none = record {
-  size = long;
+    → words ≡ putRoot (wantedIn tree (a .wanted) 0) (length places) (junctionCount tree)
+    (rowsBound table (landmarkCount tree) (a .code) crews (regionAt (decode tree .regions) 0 .marks)) words₀
+    → length values ≡ valueCount → length list ≡ 512 → Small (a .rule) → (kept .held .count ≡ 0) × (kept .listed ≡ 0)
+    → Steps tree a crews drives places table limit (length measured) words values list measured (record { kept = kept; measured = 0 }) 0
+steps-start tree a crews drives places table limit words₀ words values list measured kept z e v h small none = record {
+  size = ap length e ∙ (put-length _ (length places) (junctionCount tree) _ words₀ ∙ (ap length z ∙ length-replicate _ unqueued));
   value-size = v;
   same = refl;
   list-size = h;
   runs = λ road ready. starts ready words values list measured kept none (rw z at e) v;
-  few = none-fits goal kept none small;
-  low = none-low goal kept none;
+  few = none-fits (a .rule) kept none small;
+  low = none-low (a .rule) kept none;
   most = omega arith;
   within = omega arith;
 }
-  where
-    long : length words ≡ wordCount (length places) (junctionCount tree)
-    long = rw (e, z) (simp (length-set, length-set, length-replicate))
 
 -- the root's key, by the landmark table's rows
-pub root-put : (tree table : List ℕ) (code : ℕ) (crews : List ℕ) (rows r n first w : ℕ) (ws : List ℕ) → rows ≡ landmarkCount tree → first ≡ firstsAt r n
-    → w ≡ rowsBound table rows code crews (regionAt (decode tree .regions) 0 .marks)
-    → set (set ws 0 w) first w ≡ putRoot r n (rowsBound table (landmarkCount tree) code crews (regionAt (decode tree .regions) 0 .marks)) ws
-unfolding putRoot
-root-put tree table code crews rows r n first w ws e f g = rw (f, g, e) refl
+pub root-put : (tree table : List ℕ) (code : ℕ) (crews : List ℕ) (admitted : Bool) (rows r n first w : ℕ) (ws : List ℕ) → T admitted → rows ≡ landmarkCount tree
+    → first ≡ firstsAt r n → w ≡ rowsBound table rows code crews (regionAt (decode tree .regions) 0 .marks)
+    → set (set ws 0 w) first w ≡ putRoot admitted r n (rowsBound table (landmarkCount tree) code crews (regionAt (decode tree .regions) 0 .marks)) ws
+root-put tree table code crews admitted rows r n first w ws t e f g =
+    rw (f, g, e) refl ∙ sym (put-in admitted r n (rowsBound table (landmarkCount tree) code crews (regionAt (decode tree .regions) 0 .marks)) ws t)
 
 -- ---- the counts
 

@@ -3,6 +3,7 @@ use search_bounds::regions;
 use search_held::Asked;
 use search_held::Kept;
 use search_step::Progress;
+use search_step::inner;
 use tree_layout::Region;
 use tree_layout::records;
 ghost use mathlib.Core.Path.{_≡_};
@@ -15,11 +16,11 @@ ghost use Rattle.tree.specs.Arrays.{Laid};
 ghost use Rattle.search_rules.specs.Books.{searchOf};
 ghost use Rattle.search_rules.specs.Queue.{unqueued};
 ghost use Rattle.search_rules.specs.Run.{answer};
-ghost use Rattle.search_held.specs.code.Rules.{ruleOf, countBy, Fits, Small};
+ghost use Rattle.search_held.specs.code.Rules.{ruleOf, askingOf, countBy, Fits, Small};
 ghost use Rattle.search_bounds.specs.code.Rows.{Rows};
 ghost use Rattle.search_bounds.specs.code.Bounds.{rowsBound, Crews};
 ghost use Rattle.search_state.specs.code.State.{wordCount, valueCount};
-ghost use Rattle.search_step.specs.code.Children.{Ended};
+ghost use Rattle.search_step.specs.code.Children.{wantedIn, Ended};
 ghost use Rattle.search_leaf.specs.code.Ready.{Ready};
 ghost use Rattle.search_step.specs.code.Prepared.{IsPrepared};
 ghost use Rattle.search_run.specs.code.Answers.{putRoot, answerOf};
@@ -41,25 +42,29 @@ pub struct Outcome {
     pub settled: bool,
 }
 
-// "The queue starts with the root.": its key and its first key are its bound.
+// "The queue starts with the root.", if it has a wanted bit: its key and its first key are its bound.
 fn queue_root(
     tree: &[u8],
     places: &[usize],
     table: &[u32],
     crews: &[u16],
-    code: u8,
+    asked: Asked,
     words: &mut [u64],
 )
     requires { ⌜ Laid (now tree) (now places) × Rows (now table) (landmarkCount (now tree)) × Crews (now crews)
         × (length (now words) ≡ wordCount (length (now places)) (junctionCount (now tree))) ⌝ }
-    ensures { λ _. ⌜ now (words .exit) ≡ putRoot (length (now (places .entry))) (junctionCount (now (tree .entry)))
-        (rowsBound (now (table .entry)) (landmarkCount (now (tree .entry))) code (now (crews .entry))
+    ensures { λ _. ⌜ now (words .exit) ≡ putRoot (wantedIn (now (tree .entry)) (asked .wanted) 0)
+        (length (now (places .entry))) (junctionCount (now (tree .entry)))
+        (rowsBound (now (table .entry)) (landmarkCount (now (tree .entry))) (asked .aggregate) (now (crews .entry))
         (regionAt (decode (now (tree .entry)) .regions) 0 .marks)) (now (words .entry)) ⌝ }
 {
     let h = records::header(tree);
     let rows = h.landmarks as usize;
     let root = Region { number: 0 };
-    let w = regions::region_bound(tree, places, table, rows, code, crews, root);
+    if !inner::wanted(tree, places, asked.wanted, root) {
+        return;
+    }
+    let w = regions::region_bound(tree, places, table, rows, asked.aggregate, crews, root);
     words[0] = w;
     let first = places.len() + h.junctions as usize;
     words[first] = w;
@@ -80,22 +85,22 @@ fn steps(
     list: &mut [u32],
     measured: &mut [u16],
 ) -> Outcome
-    requires { ⌜ IsPrepared (now adj) (now tree) (asked .aggregate) (ruleOf (asked .rule))
+    requires { ⌜ IsPrepared (now adj) (now tree) (askingOf asked)
         (now crews) (now drives) (now places) (now table)
         × Ended (now tree) (now ends) × (length (now list) ≡ 512) × (256 ≤ length (now measured))
         × Small (ruleOf (asked .rule))
         × (now words ≡ replicate (wordCount (length (now places)) (junctionCount (now tree))) unqueued)
         × (length (now values) ≡ valueCount) ⌝ }
     ensures answer { λ o. ⌜ ((road : List ℕ)
-        → Ready road (now (tree .entry)) (asked .aggregate) (ruleOf (asked .rule))
+        → Ready road (now (tree .entry)) (askingOf asked)
         (now (crews .entry)) (now (drives .entry)) (now (places .entry)) (now (table .entry))
         → answerOf (ruleOf (asked .rule)) (now (list .exit)) o
-        ≡ answer (searchOf road (now (tree .entry)) (asked .aggregate) (ruleOf (asked .rule)) (now (crews .entry)))
+        ≡ answer (searchOf road (now (tree .entry)) (askingOf asked) (now (crews .entry)))
         (asked .limit)) ⌝ }
     ensures room { λ o. ⌜ Fits (ruleOf (asked .rule)) (o .kept)
         × (countBy (ruleOf (asked .rule)) (o .kept) ≤ o .measured) × (o .measured ≤ 256) ⌝ }
 {
-    queue_root(tree, places, table, crews, asked.aggregate, words);
+    queue_root(tree, places, table, crews, asked, words);
     let h = records::header(tree);
     let queue = places.len() + h.junctions as usize;
     let mut progress = Progress {
@@ -155,14 +160,14 @@ pub fn run(
     asked: Asked,
     list: &mut [u32],
 ) -> Outcome
-    requires { ⌜ IsPrepared (now adj) (now tree) (asked .aggregate) (ruleOf (asked .rule))
+    requires { ⌜ IsPrepared (now adj) (now tree) (askingOf asked)
         (now crews) (now drives) (now places) (now table)
         × Ended (now tree) (now ends) × (length (now list) ≡ 512) × Small (ruleOf (asked .rule)) ⌝ }
     ensures answer { λ o. ⌜ ((road : List ℕ)
-        → Ready road (now (tree .entry)) (asked .aggregate) (ruleOf (asked .rule))
+        → Ready road (now (tree .entry)) (askingOf asked)
         (now (crews .entry)) (now (drives .entry)) (now (places .entry)) (now (table .entry))
         → answerOf (ruleOf (asked .rule)) (now (list .exit)) o
-        ≡ answer (searchOf road (now (tree .entry)) (asked .aggregate) (ruleOf (asked .rule)) (now (crews .entry)))
+        ≡ answer (searchOf road (now (tree .entry)) (askingOf asked) (now (crews .entry)))
         (asked .limit)) ⌝ }
     ensures room { λ o. ⌜ Fits (ruleOf (asked .rule)) (o .kept)
         × (countBy (ruleOf (asked .rule)) (o .kept) ≤ o .measured) × (o .measured ≤ 256) ⌝ }

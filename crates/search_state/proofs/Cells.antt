@@ -8,7 +8,7 @@ use borrow.Author.Tests.{ne-eqb}
 use lib.ListN.{length, getD, take, drop, set, replicate, length-take, length-drop}
 use lib.Seq.{take-set-le, take-set-lt, drop-set-lt, drop-set-add, getD-take, getD-drop}
 use lib.Dec.{eqb}
-use Rattle.tree_layout.specs.Values.{Element}
+use Rattle.search_rules.specs.Order.{Entry}
 use Rattle.search_state.specs.code.State.{wordCount, firstsAt, picksAt, goneAt, part, zeros, newest, stateOf}
 use Rattle.search_state.specs.code.State.{regionKeysIn, yardKeysIn, firstsIn, picksIn, goneIn}
 
@@ -100,7 +100,7 @@ parts-of r n ws = record { keys-are = refl; yards-are = refl; firsts-are = refl;
 
 -- the state by its parts
 pub state-by : {r n : ℕ} {ws keys yards firsts picks : List ℕ} {gone : List Bool} → Parts r n ws keys yards firsts picks gone
-    → (held : List Element) (measured : List ℕ) (count : ℕ) → stateOf r n ws held measured count ≡ record {
+    → (held : List Entry) (measured : List ℕ) (count : ℕ) → stateOf r n ws held measured count ≡ record {
       regionKeys = keys;
       yardKeys = yards;
       firsts = firsts;

@@ -11,7 +11,7 @@ use Rattle.search_rules.specs.Step.{SearchState, nextRegion, nextYard, leastKey
 use Rattle.search_rules.proofs.Queue.{pick-least, pick-range}
 use Rattle.search_rules.proofs.Turns.{word-at, pick-first}
 use Rattle.search_rules.proofs.Steps.{next-region-is, next-yard-is, least-key-is}
-use Rattle.tree_layout.specs.Values.{Element}
+use Rattle.search_rules.specs.Order.{Entry}
 use Rattle.search_state.specs.code.State.{wordCount, part, regionKeysIn, yardKeysIn, stateOf}
 use Rattle.search_state.proofs.Cells.{part-length, part-at, parts-of, state-by}
 
@@ -116,7 +116,7 @@ module _ (r n : ℕ) (ws : List ℕ) (size-is : length ws ≡ wordCount r n) (so
 
   -- ---- by the definition
 
-  module _ (i : Instance) (er : size i ≡ r) (en : i .tree .junctions ≡ n) (held : List Element) (measured : List ℕ) (count : ℕ) where
+  module _ (i : Instance) (er : size i ≡ r) (en : i .tree .junctions ≡ n) (held : List Entry) (measured : List ℕ) (count : ℕ) where
     abbrev st : SearchState
     st = stateOf r n ws held measured count
 

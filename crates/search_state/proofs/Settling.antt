@@ -4,7 +4,7 @@ use mathlib.Core.Bool.{Bool, true}
 use mathlib.Core.List.{List}
 use Prim.Native.Nat.{ℕ, _≤_, _<_}
 use native.Mathlib.Omega.{arith}
-use Rattle.tree_layout.specs.Values.{Element}
+use Rattle.search_rules.specs.Order.{Entry}
 use Rattle.search_rules.specs.Rule.{Rule}
 use Rattle.search_rules.specs.Instance.{Instance}
 use Rattle.search_rules.specs.Queue.{unqueued}
@@ -15,7 +15,7 @@ use Rattle.search_state.specs.code.State.{settledBy, stateOf}
 
 -- ---- the code's tests
 
-module _ (rule : Rule) (least : ℕ) (held : List Element) where
+module _ (rule : Rule) (least : ℕ) (held : List Entry) where
   pub settled-empty : least ≡ unqueued → true ≡ settledBy rule least held
   unfolding settledBy
   settled-empty q = rw (q, queued-no) refl
@@ -30,7 +30,7 @@ small-key a n h = omega (arith, n)
 
 -- ---- the definition's
 
-pub settled-of : (i : Instance) (r n : ℕ) (ws : List ℕ) (held : List Element) (measured : List ℕ) (count : ℕ)
+pub settled-of : (i : Instance) (r n : ℕ) (ws : List ℕ) (held : List Entry) (measured : List ℕ) (count : ℕ)
     → settledBy (i .rule) (leastKey i (stateOf r n ws held measured count)) held ≡ settled i (stateOf r n ws held measured count)
 unfolding settledBy stateOf
 settled-of i r n ws held measured count = by (leastKey i (stateOf r n ws held measured count)) refl

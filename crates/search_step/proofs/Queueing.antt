@@ -1,18 +1,24 @@
 -- The children of a region, queued one after the other. Assumes nothing.
 use mathlib.Core.Path.{_≡_, refl, sym, ap, _∙_}
-use mathlib.Core.Bool.{Bool}
+use mathlib.Core.Bool.{Bool, not}
 use mathlib.Core.List.{List, [], _∷_, List·Memᴰ as Mem, List·Memᴰ·head as head, List·Memᴰ·tail as tail}
 use Prim.Native.Nat.{ℕ, suc, _+_, _-_, _≤_, _<_, max}
 use native.Mathlib.Numerals.{add-one}
 use native.Mathlib.Omega.{arith}
 use lib.ListN.{length, set, length-set}
+use lib.Dec.{T}
+use Rattle.book.specs.Lists.{keepIf}
+use Rattle.book.proofs.Lists.{kept-none, kept-yes, kept-no}
+use Rattle.kinds.specs.Kinds.{shares}
 use Rattle.tree_layout.specs.Values.{regionAt}
 use Rattle.tree_layout.specs.Decode.{decode, junctionCount, landmarkCount}
 use Rattle.tree_layout.specs.Reading.{headerOf}
 use Rattle.tree_layout.specs.declared.Header.{Header}
 use Rattle.tree_layout.proofs.Reading.{header-junctions}
-use Rattle.tree.specs.Arrays.{Laid}
+use Rattle.tree_layout.specs.declared.Fields.{Fields}
+use Rattle.tree.specs.Arrays.{Laid, fieldsOf}
 use Rattle.tree.proofs.Fielding.{laid-few}
+use Rattle.tree.proofs.Recursing.{kinds-is}
 use Rattle.tree.specs.Yards.{endOf, starts, childrenOf}
 use Rattle.tree.proofs.Siblings.{starts-none, starts-more, children-are}
 use Rattle.search_rules.specs.Instance.{Instance}
@@ -22,7 +28,16 @@ use Rattle.search_rules.proofs.Steps.{queue-none, queue-more}
 use Rattle.search_bounds.specs.code.Bounds.{rowsBound}
 use Rattle.search_state.specs.code.State.{wordCount, firstsAt}
 use Rattle.search_state.proofs.Cells.{Parts, store-key, store-first}
-use Rattle.search_step.specs.code.Children.{keyOf, putKeys, Ended, Slots}
+use Rattle.search_step.specs.code.Children.{wantedIn, keyOf, putKeys, Ended, Slots}
+
+-- whether a region's byte shares a bit, by its fields
+pub wanted-of : (tree : List ℕ) (w c : ℕ) (f : Fields) (r : Bool) → f ≡ fieldsOf tree c → r ≡ shares w (f .kinds) → r ≡ wantedIn tree w c
+unfolding wantedIn
+wanted-of tree w c f r e q = q ∙ ap (shares w) (sym (kinds-is tree c f e))
+
+pub wanted-is : (tree : List ℕ) (w c : ℕ) → wantedIn tree w c ≡ shares w (regionAt (decode tree .regions) c .kinds)
+unfolding wantedIn
+wanted-is tree w c = refl
 
 pub key-of : (tree table : List ℕ) (rows code : ℕ) (crews : List ℕ) (parent c x w : ℕ)
     → x ≡ rowsBound table rows code crews (regionAt (decode tree .regions) c .marks)
@@ -74,12 +89,13 @@ counted tree places h rows firsts e p q = record {
 
 -- ---- one child after the other
 
--- k of n children of region v are queued, and c is the next one: what is left to do gives the whole
-pub record Queueing (g : ℕ → ℕ) (tree : List ℕ) (r j v n k c : ℕ) (words₀ words : List ℕ) : Type 0 where
+-- k of n children of region v are looked at, and those of a kind p queued, and c is the next one: what is left to do gives the whole
+pub record Queueing (p : ℕ → Bool) (g : ℕ → ℕ) (tree : List ℕ) (r j v n k c : ℕ) (words₀ words : List ℕ) : Type 0 where
   pub within : k ≤ n
   pub count : length words ≡ wordCount r j
   pub there : (d : ℕ) → Mem d (starts (endOf (decode tree .regions)) (n - k) c) → d < r
-  pub left : putKeys g r j (starts (endOf (decode tree .regions)) (n - k) c) words ≡ putKeys g r j (childrenOf (decode tree .regions) v) words₀
+  pub left : putKeys g r j (keepIf p (starts (endOf (decode tree .regions)) (n - k) c)) words
+      ≡ putKeys g r j (keepIf p (childrenOf (decode tree .regions) v)) words₀
 
 -- region c has a place in each of three arrays, in the words twice
 pub record Next (c firsts : ℕ) (places-of ends-of words-of : List ℕ) : Type 0 where
@@ -90,7 +106,7 @@ pub record Next (c firsts : ℕ) (places-of ends-of words-of : List ℕ) : Type 
   pub small : c < 511
   pub few : firsts < 2000
 
-module _ (g : ℕ → ℕ) (tree : List ℕ) (r j v n : ℕ) where
+module _ (p : ℕ → Bool) (g : ℕ → ℕ) (tree : List ℕ) (r j v n : ℕ) where
   abbrev f : ℕ → ℕ
   f = endOf (decode tree .regions)
 
@@ -99,7 +115,7 @@ module _ (g : ℕ → ℕ) (tree : List ℕ) (r j v n : ℕ) where
 
   -- none is queued
   pub queueing-none : (words : List ℕ) (x : ℕ) → n ≡ regionAt (decode tree .regions) v .children → Slots tree r j words v
-      → Queueing g tree r j v n 0 (v + 1) (set words v x) (set words v x)
+      → Queueing p g tree r j v n 0 (v + 1) (set words v x) (set words v x)
   queueing-none words x e s = record {
     within = omega arith;
     count = simp length-set (s .count);
@@ -113,7 +129,7 @@ module _ (g : ℕ → ℕ) (tree : List ℕ) (r j v n : ℕ) where
           go : (m u : ℕ) → m ≡ regionAt (decode tree .regions) v .children → u ≡ suc v → starts f m u ≡ cs
           go m u p q = rw (p, q) (sym (children-are (decode tree .regions) v))
 
-  module _ (words₀ words : List ℕ) (k c : ℕ) (q : Queueing g tree r j v n k c words₀ words) (h : k < n) where
+  module _ (words₀ words : List ℕ) (k c : ℕ) (q : Queueing p g tree r j v n k c words₀ words) (h : k < n) where
     rest : starts f (n - k) c ≡ c ∷ starts f (n - (k + 1)) (f c)
     rest = go (n - k) (n - (k + 1)) (omega arith)
       where
@@ -135,18 +151,37 @@ module _ (g : ℕ → ℕ) (tree : List ℕ) (r j v n : ℕ) where
       few = omega (arith, counts .firsts-are, laid-few tree places laid, laid .layout .junctions .1);
     }
 
-    -- one more
-    pub queueing-on : (w d s : ℕ) → w ≡ g c → d ≡ f c → s ≡ firstsAt r j → Queueing g tree r j v n (k + 1) d words₀ (set (set words c w) (s + c) w)
-    queueing-on w d s p e z = record {
-      within = omega arith;
-      count = simp (length-set, length-set) (q .count);
-      there = λ d m. q .there d (rw rest (tail (rw e at m)));
-      left = rw (e, p, z, ← put-more g r j c (starts f (n - (k + 1)) (f c)) words, ← rest) (q .left);
-    }
+    module _ (d : ℕ) (e : d ≡ f c) (words′ : List ℕ) where
+      -- one more is queued
+      pub queueing-on : (w s : ℕ) → T (p c) → w ≡ g c → s ≡ firstsAt r j → words′ ≡ set (set words c w) (s + c) w
+          → Queueing p g tree r j v n (k + 1) d words₀ words′
+      queueing-on w s t ew es new = record {
+        within = omega arith;
+        count = ap length new ∙ simp (length-set, length-set) (q .count);
+        there = λ d m. q .there d (rw rest (tail (rw e at m)));
+        left = rw (
+          new,
+          e,
+          ew,
+          es,
+          ← put-more g r j c (keepIf p (starts f (n - (k + 1)) (f c))) words,
+          ← kept-yes p c (starts f (n - (k + 1)) (f c)) t,
+          ← rest,
+        ) (q .left);
+      }
 
-  -- all are queued
-  pub queueing-all : (words₀ words : List ℕ) (k c : ℕ) → Queueing g tree r j v n k c words₀ words → n ≤ k → words ≡ putKeys g r j cs words₀
-  queueing-all words₀ words k c q h = rw (end, put-none) at (q .left)
+      -- one of another kind is not
+      pub queueing-over : T (not (p c)) → words′ ≡ words → Queueing p g tree r j v n (k + 1) d words₀ words′
+      queueing-over t new = record {
+        within = omega arith;
+        count = ap length new ∙ q .count;
+        there = λ d m. q .there d (rw rest (tail (rw e at m)));
+        left = rw (new, e, ← kept-no p c (starts f (n - (k + 1)) (f c)) t, ← rest) (q .left);
+      }
+
+  -- all are looked at
+  pub queueing-all : (words₀ words : List ℕ) (k c : ℕ) → Queueing p g tree r j v n k c words₀ words → n ≤ k → words ≡ putKeys g r j (keepIf p cs) words₀
+  queueing-all words₀ words k c q h = rw (end, kept-none p, put-none) at (q .left)
     where
       end : starts f (n - k) c ≡ []
       end = go (n - k) (omega arith)

@@ -6,12 +6,13 @@ use native.Mathlib.Omega.{arith}
 use lib.ListN.{length, getD, set}
 use lib.Dec.{T}
 use Rattle.road_layout.specs.Road.{junctions}
-use Rattle.tree_layout.specs.Values.{Element}
 use Rattle.tree_layout.specs.Decode.{junctionCount}
-use Rattle.tree_layout.specs.Reading.{element}
+use Rattle.book.specs.Lists.{keepIf}
+use Rattle.book.proofs.Lists.{kept-length}
 use Rattle.tree.specs.Yards.{treeYards}
 use Rattle.tree.proofs.Fielding.{laid-few}
-use Rattle.search_rules.specs.Rule.{Rule}
+use Rattle.search_rules.specs.Rule.{Rule, Asking}
+use Rattle.search_rules.specs.Order.{Entry, entryOf}
 use Rattle.search_rules.specs.Instance.{Instance}
 use Rattle.search_rules.specs.Books.{searchOf}
 use Rattle.search_rules.specs.Queue.{unqueued, wordAt}
@@ -26,8 +27,8 @@ use Rattle.search_rules.proofs.Found.{run-listing}
 use Rattle.search_rules.proofs.Books.{accepted-of}
 use Rattle.search_rules.proofs.Equations.{search-of}
 use Rattle.search_rules.proofs.Steps.{least-key-is, step-yard, step-region, take-yard-is, entry-is}
-use Rattle.search_rules.proofs.Taking.{unsettled-key, leaf-waits, measured-room}
-use Rattle.search_rules.proofs.Trees.{Accepted, tree-yards}
+use Rattle.search_rules.proofs.Taking.{unsettled-key, measured-room}
+use Rattle.search_rules.proofs.Trees.{Accepted, tree-covers}
 use Rattle.search_state.specs.code.State.{wordCount, regionKeysIn, yardKeysIn, firstsIn, picksIn, fsIn, boundsIn, goneIn, newest, stateOf, Unsettled}
 use Rattle.search_state.proofs.Cells.{Parts, parts-of, store-yard, state-by}
 use Rattle.search_state.proofs.Choosing.{picked-inside, picked-word, picked-region, picked-most, picked-yard, picked-less, region-low}
@@ -41,16 +42,16 @@ use Rattle.search_step.specs.code.Prepared.{IsPrepared}
 use Rattle.search_step.proofs.Opening.{cached-by, regions-of, junctions-are}
 
 -- what is held after one more yard, by its distance
-pub held-by : (rule : Rule) (d t y : ℕ) (l r : List Element) → d ≡ t → r ≡ keepBy rule (element d y) l → r ≡ keepBy rule (element t y) l
+pub held-by : (rule : Rule) (d t y : ℕ) (l r : List Entry) → d ≡ t → r ≡ keepBy rule (entryOf d y) l → r ≡ keepBy rule (entryOf t y) l
 held-by rule d t y l r e h = rw (← e) h
 
 -- and after one that is above the ceiling
-pub held-above : (rule : Rule) (t y : ℕ) (l : List Element) → Sorted l → T (exceeds (ceilingBy rule l) t) → l ≡ keepBy rule (element t y) l
-held-above rule t y l s u = sym (above-kept rule l s (element t y) u)
+pub held-above : (rule : Rule) (t y : ℕ) (l : List Entry) → Sorted l → T (exceeds (ceilingBy rule l) t) → l ≡ keepBy rule (entryOf t y) l
+held-above rule t y l s u = sym (above-kept rule l s (entryOf t y) u)
 
 -- ---- the numbers
 
-module _ {road tree : List ℕ} {code : ℕ} {goal : Rule} {crews drives places table : List ℕ} (ready : Ready road tree code goal crews drives places table) where
+module _ {road tree : List ℕ} {a : Asking} {crews drives places table : List ℕ} (ready : Ready road tree a crews drives places table) where
   pub some-region : 0 < length places
   some-region = omega (arith, ready .laid .layout .regions .0, ready .laid .count)
 
@@ -70,12 +71,12 @@ pub record Picked (tree places words : List ℕ) (p : ℕ) : Type 0 where
   pub below : p < length places + junctionCount tree
   pub small : p < 1535
 
-module _ {adj tree : List ℕ} {code : ℕ} {goal : Rule} {crews drives places table : List ℕ} (prepared : IsPrepared adj tree code goal crews drives places table) where
-  abbrev rd : Ready (prepared .road) tree code goal crews drives places table
+module _ {adj tree : List ℕ} {a : Asking} {crews drives places table : List ℕ} (prepared : IsPrepared adj tree a crews drives places table) where
+  abbrev rd : Ready (prepared .road) tree a crews drives places table
   rd = prepared .ready
 
   -- without the adjacency
-  pub readied : Readied tree code goal crews drives places table
+  pub readied : Readied tree a crews drives places table
   readied = record { road = prepared .road; ready = rd }
 
   pub picked : {words : List ℕ} {p : ℕ} → length words ≡ wordCount (length places) (junctionCount tree)
@@ -104,16 +105,16 @@ module _ {adj tree : List ℕ} {code : ℕ} {goal : Rule} {crews drives places t
   yard-measurable y h = record { road = prepared .road; measurable = measurable-in y h }
 
   -- its aggregate is the same beside every road book that the search is ready beside
-  pub total-same : (road : List ℕ) → Ready road tree code goal crews drives places table → (y : ℕ) → y < junctionCount tree
-      → totalOf (prepared .road) code crews y ≡ totalOf road code crews y
-  total-same road r y h = same-total (prepared .road) road crews drives code y (rd .driven) (r .driven) (omega (arith, rd .laid .layout .junctions .1))
+  pub total-same : (road : List ℕ) → Ready road tree a crews drives places table → (y : ℕ) → y < junctionCount tree
+      → totalOf (prepared .road) (a .code) crews y ≡ totalOf road (a .code) crews y
+  total-same road r y h = same-total (prepared .road) road crews drives (a .code) y (rd .driven) (r .driven) (omega (arith, rd .laid .layout .junctions .1))
 
 -- ---- what the step does
 
-module _ {road tree : List ℕ} {code : ℕ} {goal : Rule} {crews drives places table : List ℕ} (ready : Ready road tree code goal crews drives places table)
-    (words values : List ℕ) (held : List Element) (measured : List ℕ) (count : ℕ) where
+module _ {road tree : List ℕ} {a : Asking} {crews drives places table : List ℕ} (ready : Ready road tree a crews drives places table)
+    (words values : List ℕ) (held : List Entry) (measured : List ℕ) (count : ℕ) where
   abbrev i : Instance
-  i = searchOf road tree code goal crews
+  i = searchOf road tree a crews
 
   abbrev r : ℕ
   r = length places
@@ -129,7 +130,7 @@ module _ {road tree : List ℕ} {code : ℕ} {goal : Rule} {crews drives places 
     u = g .unsettled
 
     formed : WellFormed i
-    formed = well road tree code goal crews drives places table ready
+    formed = well road tree a crews drives places table ready
 
     word : getD words p 0 ≡ leastKey i st
     word = picked-word r n words s (some-region ready) (some-junction ready) i (regions-of ready) (junctions-are ready) held measured count p e
@@ -155,12 +156,10 @@ module _ {road tree : List ℕ} {code : ℕ} {goal : Rule} {crews drives places 
         value-count = g .value-count;
         cached = g .cached;
         inside = omega (arith, regions-of ready);
-        waits = λ t. rw (ap (λ (x : SearchState). x .gone) (state-by (parts-of r n words) held measured count)) at (leaf-waits i formed st
-            (u .steps) (u .is) p t (omega (arith, regions-of ready)) (omega (arith, key, low)));
       }
 
       pub region-is-taken : (words′ : List ℕ)
-          → ((x : List Element) (m : List ℕ) (c : ℕ) → stateOf r n words′ x m c ≡ takeRegion i (stateOf r n words x m c) p (getD words p 0))
+          → ((x : List Entry) (m : List ℕ) (c : ℕ) → stateOf r n words′ x m c ≡ takeRegion i (stateOf r n words x m c) p (getD words p 0))
           → stateOf r n words′ held measured count ≡ step i st
       region-is-taken words′ t = t held measured count ∙ sym (step-region i st p (nextYard i st) (getD words p 0) (wordAt (st .yardKeys) (nextYard i st))
           next-region refl key refl (omega (arith, most, key, ap (wordAt (st .regionKeys)) next-region)) low)
@@ -194,14 +193,15 @@ module _ {road tree : List ℕ} {code : ℕ} {goal : Rule} {crews drives places 
           (state-by (parts-of r n words) held measured count) ∙ newest-length measured count in
           omega (
             arith,
-            measured-room i formed st (u .steps) (u .is) (u .unsettled) y yard-step (treeYards (i .tree))
-                (tree-yards i accepted),
+            measured-room i formed st (u .steps) (u .is) (u .unsettled) y yard-step (keepIf (i .wants) (treeYards (i .tree)))
+                (tree-covers i accepted),
+            kept-length (i .wants) (treeYards (i .tree)),
             accepted .whole .yard-count,
             accepted .few-yards,
           )
         where
           accepted : Accepted (i .tree)
-          accepted = accepted-of road tree code goal crews (ready .passed)
+          accepted = accepted-of road tree a crews (ready .passed)
 
       yard-parts : Parts r n (set words p unqueued) (regionKeysIn r n words) (set (yardKeysIn r n words) y unqueued)
           (firstsIn r n words) (picksIn r n words) (goneIn r n words)
@@ -212,9 +212,9 @@ module _ {road tree : List ℕ} {code : ℕ} {goal : Rule} {crews drives places 
       pub yard-cached : Cached i (picksIn r n (set words p unqueued)) (fsIn n values) (boundsIn n values)
       yard-cached = cached-by yard-parts (g .cached)
 
-      pub yard-is-taken : (measured′ : List ℕ) (held′ : List Element) (count′ : ℕ) → count′ ≡ count + 1
+      pub yard-is-taken : (measured′ : List ℕ) (held′ : List Entry) (count′ : ℕ) → count′ ≡ count + 1
           → newest measured′ (count + 1) ≡ (p - r) ∷ newest measured count
-          → held′ ≡ keepBy goal (element (totalOf road code crews (p - r)) (p - r)) held
+          → held′ ≡ keepBy (a .rule) (entryOf (totalOf road (a .code) crews (p - r)) (p - r)) held
           → stateOf r n (set words p unqueued) held′ measured′ count′ ≡ step i st
       unfolding y
       yard-is-taken measured′ held′ count′ c q t =
@@ -224,6 +224,6 @@ module _ {road tree : List ℕ} {code : ℕ} {goal : Rule} {crews drives places 
         where
           holds : held′ ≡ keepBy (i .rule) (entry i y) held
           holds =
-              t ∙ (ap (λ (d : ℕ). keepBy goal (element d y) held) (total-of road tree code goal crews y)
-              ∙ (ap (λ (x : Element). keepBy goal x held) (sym (entry-is i y))
-              ∙ ap (λ (k : Rule). keepBy k (entry i y) held) (sym (ap (λ (z : Instance). z .rule) (search-of road tree code goal crews)))))
+              t ∙ (ap (λ (d : ℕ). keepBy (a .rule) (entryOf d y) held) (total-of road tree a crews y)
+              ∙ (ap (λ (x : Entry). keepBy (a .rule) x held) (sym (entry-is i y))
+              ∙ ap (λ (k : Rule). keepBy k (entry i y) held) (sym (ap (λ (z : Instance). z .rule) (search-of road tree a crews)))))

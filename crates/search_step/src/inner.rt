@@ -1,18 +1,29 @@
 // An inner region is taken: it queues its children.
 use search_bounds::numbers;
 use search_bounds::regions;
+use search_held::Asked;
 use tree_layout::Region;
 use tree_layout::records;
 ghost use mathlib.Core.Path.{_≡_};
 ghost use Prim.Native.Nat.{_<_};
 ghost use lib.ListN.{length, set};
+ghost use Rattle.book.specs.Lists.{keepIf};
 ghost use Rattle.tree_layout.specs.Decode.{decode, junctionCount, landmarkCount};
 ghost use Rattle.tree.specs.Arrays.{Laid};
 ghost use Rattle.tree.specs.Yards.{childrenOf};
 ghost use Rattle.search_rules.specs.Queue.{unqueued};
 ghost use Rattle.search_bounds.specs.code.Rows.{Rows};
 ghost use Rattle.search_bounds.specs.code.Bounds.{Crews};
-ghost use Rattle.search_step.specs.code.Children.{keyOf, putKeys, Ended, Slots};
+ghost use Rattle.search_step.specs.code.Children.{wantedIn, keyOf, putKeys, Ended, Slots};
+
+// Whether a region's byte shares a bit with the wanted byte.
+pub fn wanted(tree: &[u8], places: &[usize], kinds: u8, c: Region) -> bool
+    requires { ⌜ Laid (now tree) (now places) × (c .number < length (now places)) ⌝ }
+    ensures { λ r. ⌜ r ≡ wantedIn (now (tree .entry)) kinds (c .number) ⌝ }
+{
+    let f = tree::regions::fields(tree, places, c);
+    kinds::shares(kinds, f.kinds)
+}
 
 // A region's key: "the greater of this and its parent's key".
 fn key(
@@ -34,14 +45,15 @@ fn key(
     numbers::greater64(x, parent)
 }
 
-// "An inner region queues its children.": region r, whose key is a, leaves the queue, and each child gets its key.
+// "An inner region queues its children.": region r, whose key is a, leaves the queue, and each child with a wanted bit
+// gets its key.
 pub fn open_inner(
     tree: &[u8],
     places: &[usize],
     ends: &[usize],
     table: &[u32],
     crews: &[u16],
-    code: u8,
+    asked: Asked,
     words: &mut [u64],
     r: Region,
     a: u64,
@@ -51,9 +63,11 @@ pub fn open_inner(
         × Slots (now tree) (length (now places)) (junctionCount (now tree)) (now words) (r .number) ⌝ }
     ensures { λ _. ⌜ now (words .exit)
         ≡ putKeys
-        (keyOf (now (tree .entry)) (now (table .entry)) (landmarkCount (now (tree .entry))) code (now (crews .entry)) a)
+        (keyOf (now (tree .entry)) (now (table .entry)) (landmarkCount (now (tree .entry)))
+        (asked .aggregate) (now (crews .entry)) a)
         (length (now (places .entry))) (junctionCount (now (tree .entry)))
-        (childrenOf (decode (now (tree .entry)) .regions) (r .number))
+        (keepIf (wantedIn (now (tree .entry)) (asked .wanted))
+        (childrenOf (decode (now (tree .entry)) .regions) (r .number)))
         (set (now (words .entry)) (r .number) unqueued) ⌝ }
 {
     let h = records::header(tree);
@@ -67,9 +81,11 @@ pub fn open_inner(
     let mut k: u8 = 0;
     while k < n {
         let child = Region { number: c as u16 };
-        let w = key(tree, places, table, rows, code, crews, child, a);
-        words[c] = w;
-        words[firsts + c] = w;
+        if wanted(tree, places, asked.wanted, child) {
+            let w = key(tree, places, table, rows, asked.aggregate, crews, child, a);
+            words[c] = w;
+            words[firsts + c] = w;
+        }
         c = ends[c];
         k += 1;
     }

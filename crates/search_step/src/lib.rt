@@ -14,7 +14,7 @@ ghost use lib.ListN.{length};
 ghost use Rattle.tree_layout.specs.Decode.{junctionCount};
 ghost use Rattle.search_rules.specs.Books.{searchOf};
 ghost use Rattle.search_rules.specs.Step.{step};
-ghost use Rattle.search_held.specs.code.Rules.{ruleOf, heldBy, countBy, Fits};
+ghost use Rattle.search_held.specs.code.Rules.{ruleOf, askingOf, heldBy, countBy, Fits};
 ghost use Rattle.search_state.specs.code.State.{wordCount, picksIn, fsIn, boundsIn, stateOf};
 ghost use Rattle.search_step.specs.code.Children.{Ended};
 ghost use Rattle.search_leaf.specs.code.Ready.{Ready, Cached};
@@ -44,13 +44,13 @@ pub fn step(
     progress: Progress,
     p: usize,
 ) -> Progress
-    requires { ⌜ IsPrepared (now adj) (now tree) (asked .aggregate) (ruleOf (asked .rule))
+    requires { ⌜ IsPrepared (now adj) (now tree) (askingOf asked)
         (now crews) (now drives) (now places) (now table)
         × Ended (now tree) (now ends)
         × ((road : List ℕ)
-        → Ready road (now tree) (asked .aggregate) (ruleOf (asked .rule))
+        → Ready road (now tree) (askingOf asked)
         (now crews) (now drives) (now places) (now table)
-        → Going (searchOf road (now tree) (asked .aggregate) (ruleOf (asked .rule)) (now crews))
+        → Going (searchOf road (now tree) (askingOf asked) (now crews))
         (length (now places)) (junctionCount (now tree)) (now words) (now values)
         (stateOf (length (now places)) (junctionCount (now tree)) (now words)
         (heldBy (ruleOf (asked .rule)) (progress .kept) (now list)) (now measured) (progress .measured)))
@@ -60,18 +60,18 @@ pub fn step(
         × Fits (ruleOf (asked .rule)) (progress .kept)
         × (countBy (ruleOf (asked .rule)) (progress .kept) ≤ progress .measured) × (length (now list) ≡ 512) ⌝ }
     ensures cached { λ _. ⌜ ((road : List ℕ)
-        → Ready road (now (tree .entry)) (asked .aggregate) (ruleOf (asked .rule))
+        → Ready road (now (tree .entry)) (askingOf asked)
         (now (crews .entry)) (now (drives .entry)) (now (places .entry)) (now (table .entry))
-        → Cached (searchOf road (now (tree .entry)) (asked .aggregate) (ruleOf (asked .rule)) (now (crews .entry)))
+        → Cached (searchOf road (now (tree .entry)) (askingOf asked) (now (crews .entry)))
         (picksIn (length (now (places .entry))) (junctionCount (now (tree .entry))) (now (words .exit)))
         (fsIn (junctionCount (now (tree .entry))) (now (values .exit)))
         (boundsIn (junctionCount (now (tree .entry))) (now (values .exit)))) ⌝ }
     ensures state { λ o. ⌜ ((road : List ℕ)
-        → Ready road (now (tree .entry)) (asked .aggregate) (ruleOf (asked .rule))
+        → Ready road (now (tree .entry)) (askingOf asked)
         (now (crews .entry)) (now (drives .entry)) (now (places .entry)) (now (table .entry))
         → stateOf (length (now (places .entry))) (junctionCount (now (tree .entry))) (now (words .exit))
         (heldBy (ruleOf (asked .rule)) (o .kept) (now (list .exit))) (now (measured .exit)) (o .measured)
-        ≡ step (searchOf road (now (tree .entry)) (asked .aggregate) (ruleOf (asked .rule)) (now (crews .entry)))
+        ≡ step (searchOf road (now (tree .entry)) (askingOf asked) (now (crews .entry)))
         (stateOf (length (now (places .entry))) (junctionCount (now (tree .entry))) (now (words .entry))
         (heldBy (ruleOf (asked .rule)) (progress .kept) (now (list .entry)))
         (now (measured .entry)) (progress .measured))) ⌝ }

@@ -9,7 +9,7 @@ ghost use mathlib.Core.List.{List, _∷_};
 ghost use Prim.Native.Nat.{ℕ, _+_, _≤_, _<_};
 ghost use lib.ListN.{length};
 ghost use Rattle.road.specs.code.Queue.{state};
-ghost use Rattle.tree_layout.specs.Reading.{element};
+ghost use Rattle.search_rules.specs.Order.{entryOf};
 ghost use Rattle.search_rules.specs.Keeping.{keepBy};
 ghost use Rattle.search_rules.specs.Ceiling.{ceilingBy};
 ghost use Rattle.search_rules.specs.Theorems.{Sorted};
@@ -69,7 +69,7 @@ pub fn take(
         ≡ y .number ∷ newest (now (measured .entry)) (progress .measured) ⌝ }
     ensures held { λ o. ⌜ ((road : List ℕ) → Measurable road (now (adj .entry)) (now (crews .entry)) (y .number)
         → heldBy (ruleOf (asked .rule)) (o .kept) (now (list .exit)) ≡ keepBy (ruleOf (asked .rule))
-        (element (totalOf road (asked .aggregate) (now (crews .entry)) (y .number)) (y .number))
+        (entryOf (totalOf road (asked .aggregate) (now (crews .entry)) (y .number)) (y .number))
         (heldBy (ruleOf (asked .rule)) (progress .kept) (now (list .entry)))) ⌝ }
     ensures room { λ o. ⌜ Fits (ruleOf (asked .rule)) (o .kept)
         × (countBy (ruleOf (asked .rule)) (o .kept) ≤ o .measured) ⌝ }

@@ -9,8 +9,8 @@ ghost use lib.ListN.{length};
 ghost use Rattle.tree_layout.specs.Decode.{junctionCount};
 ghost use Rattle.search_rules.specs.Books.{searchOf};
 ghost use Rattle.search_rules.specs.Step.{takeRegion};
-ghost use Rattle.tree_layout.specs.Values.{Element};
-ghost use Rattle.search_held.specs.code.Rules.{ruleOf};
+ghost use Rattle.search_rules.specs.Order.{Entry};
+ghost use Rattle.search_held.specs.code.Rules.{askingOf};
 ghost use Rattle.search_state.specs.code.State.{picksIn, fsIn, boundsIn, stateOf};
 ghost use Rattle.search_step.specs.code.Children.{Ended};
 ghost use Rattle.search_leaf.specs.code.Ready.{Ready, Readied, Cached};
@@ -30,28 +30,28 @@ pub fn take(
     r: Region,
     a: u64,
 )
-    requires { ⌜ Readied (now tree) (asked .aggregate) (ruleOf (asked .rule))
+    requires { ⌜ Readied (now tree) (askingOf asked)
         (now crews) (now drives) (now places) (now table)
         × Ended (now tree) (now ends)
         × ((road : List ℕ)
-        → Ready road (now tree) (asked .aggregate) (ruleOf (asked .rule))
+        → Ready road (now tree) (askingOf asked)
         (now crews) (now drives) (now places) (now table)
-        → RegionQueued (searchOf road (now tree) (asked .aggregate) (ruleOf (asked .rule)) (now crews))
+        → RegionQueued (searchOf road (now tree) (askingOf asked) (now crews))
         (length (now places)) (junctionCount (now tree)) (now words) (now values) (r .number)) ⌝ }
     ensures cached { λ _. ⌜ ((road : List ℕ)
-        → Ready road (now (tree .entry)) (asked .aggregate) (ruleOf (asked .rule))
+        → Ready road (now (tree .entry)) (askingOf asked)
         (now (crews .entry)) (now (drives .entry)) (now (places .entry)) (now (table .entry))
-        → Cached (searchOf road (now (tree .entry)) (asked .aggregate) (ruleOf (asked .rule)) (now (crews .entry)))
+        → Cached (searchOf road (now (tree .entry)) (askingOf asked) (now (crews .entry)))
         (picksIn (length (now (places .entry))) (junctionCount (now (tree .entry))) (now (words .exit)))
         (fsIn (junctionCount (now (tree .entry))) (now (values .exit)))
         (boundsIn (junctionCount (now (tree .entry))) (now (values .exit)))) ⌝ }
     ensures state { λ _. ⌜ ((road : List ℕ)
-        → Ready road (now (tree .entry)) (asked .aggregate) (ruleOf (asked .rule))
+        → Ready road (now (tree .entry)) (askingOf asked)
         (now (crews .entry)) (now (drives .entry)) (now (places .entry)) (now (table .entry))
-        → (held : List Element) (measured : List ℕ) (count : ℕ)
+        → (held : List Entry) (measured : List ℕ) (count : ℕ)
         → stateOf (length (now (places .entry))) (junctionCount (now (tree .entry))) (now (words .exit))
         held measured count
-        ≡ takeRegion (searchOf road (now (tree .entry)) (asked .aggregate) (ruleOf (asked .rule)) (now (crews .entry)))
+        ≡ takeRegion (searchOf road (now (tree .entry)) (askingOf asked) (now (crews .entry)))
         (stateOf (length (now (places .entry))) (junctionCount (now (tree .entry))) (now (words .entry))
         held measured count) (r .number) a) ⌝ }
 {
@@ -60,15 +60,5 @@ pub fn take(
         search_leaf::take(tree, places, table, drives, crews, asked, words, values, r);
         return;
     }
-    inner::open_inner(
-        tree,
-        places,
-        ends,
-        table,
-        crews,
-        asked.aggregate,
-        words,
-        r,
-        a,
-    );
+    inner::open_inner(tree, places, ends, table, crews, asked, words, r, a);
 }

@@ -14,10 +14,8 @@ use Rattle.adjacency.specs.Adjacency.{countIn, IsAdjacency}
 use Rattle.road.specs.code.Rows.{Within, Rowed}
 use Rattle.tree_layout.specs.Decode.{junctionCount, treeYardCount}
 use Rattle.tree_layout.specs.Facts.{TreeLayout}
-use Rattle.query.specs.Query.{crewCount, crewsOf, aggregateOf, kOf, limitOf, queryOf}
-use Rattle.query.specs.declared.Query.{Query}
-use Rattle.query.proofs.Reading.{its-aggregate, its-limit, its-crews}
-use Rattle.search_rules.specs.Rule.{Rule}
+use Rattle.query.specs.Query.{crewCount, crewsOf, kOf, limitOf}
+use Rattle.search_rules.specs.Rule.{Rule, Asking}
 use Rattle.search_rules.specs.Books.{searchOf, Passed}
 use Rattle.search_rules.specs.Run.{Answer, answer}
 use Rattle.search_rules.proofs.Books.{accepted-of, well-of}
@@ -25,7 +23,7 @@ use Rattle.search_rules.proofs.Theorems.{accepted-measured}
 use Rattle.search_rules.proofs.Asked.{yards-of}
 use Rattle.search_held.specs.declared.Kept.{Kept}
 use Rattle.search_held.specs.code.Rules.{countBy, Fits, Small}
-use Rattle.search_call.specs.Call.{ruleBy, mostYards}
+use Rattle.search_call.specs.Call.{ruleBy, mostBy}
 use Rattle.search_bounds.specs.code.Rows.{tableWords}
 use Rattle.search_bounds.specs.code.Tables.{rootPlaces}
 use Rattle.search_bounds.proofs.Filled.{table-filled}
@@ -66,9 +64,9 @@ module _ (work part : List ℕ) (size : length part ≡ workWords) where
 
 -- ---- the call
 
-module _ {road tree adj places ends query : List ℕ} {rule : Rule} {work results : ℕ} (d : District road tree adj places ends)
-    (by : AcceptedBy road tree query rule work results) where
-  abbrev a : AcceptedSearch road tree query (by .drive) work results
+module _ {road tree adj places ends query : List ℕ} {asking : Asking} {work results : ℕ} (d : District road tree adj places ends)
+    (by : AcceptedBy road tree query asking work results) where
+  abbrev a : AcceptedSearch road tree query (by .want) work results
   a = by .accepted
 
   tree-laid : TreeLayout tree
@@ -78,29 +76,26 @@ module _ {road tree adj places ends query : List ℕ} {rule : Rule} {work result
   crews-needs room e = (a .asked .sized, omega (arith, a .asked .few-crews))
 
   -- its k is at most 64
-  pub rule-small : Small rule
-  rule-small = go rule (by .drive) (by .is)
+  pub rule-small : Small (asking .rule)
+  rule-small = go (asking .rule) (by .want .drive) (ap (λ (x : Asking). x .rule) (by .is))
     where
       go : (r : Rule) (drive : Option ℕ) → r ≡ ruleBy (kOf query) drive → Small r
       go r none q = rw q (a .asked .few-k)
       go r (some seconds) q = rw q tt
 
-  -- ---- what the query asks
+  -- ---- the crews and the limit
 
-  module _ (asked : Query) (read : asked ≡ queryOf query) where
-    pub few-crews : asked .crews ≤ 16
-    few-crews = omega (arith, its-crews query asked read, a .asked .few-crews)
+  module _ (q : ℕ) (count : q ≡ crewCount query) where
+    pub few-crews : q ≤ 16
+    few-crews = omega (arith, count, a .asked .few-crews)
 
-    module _ (q : ℕ) (count : q ≡ asked .crews) (copied : List ℕ) (crews : take (crewCount query) copied ≡ crewsOf query) where
+    module _ (limit : ℕ) (limited : limit ≡ limitOf query) (copied : List ℕ) (crews : take (crewCount query) copied ≡ crewsOf query) where
       crews-are : take q copied ≡ crewsOf query
-      crews-are = let e : q ≡ crewCount query = count ∙ its-crews query asked read in rw e crews
+      crews-are = rw count crews
 
       -- the search is the call's
-      same-search : answer (searchOf road tree (asked .aggregate) rule (take q copied)) (asked .limit) ≡ answerBy road tree query rule
-      same-search =
-          let g : asked .aggregate ≡ aggregateOf query = its-aggregate query asked read in
-          let l : asked .limit ≡ limitOf query = its-limit query asked read in
-          rw (crews-are, g, l) refl
+      same-search : answer (searchOf road tree asking (take q copied)) limit ≡ answerBy road tree query asking
+      same-search = rw (crews-are, limited) refl
 
       -- ---- the arrays
 
@@ -122,38 +117,38 @@ module _ {road tree adj places ends query : List ℕ} {rule : Rule} {work result
         )
 
         pub ready : (drives part table : List ℕ) → drives ≡ part → Rowed road (take q copied) part → length table ≡ tableWords
-            → Rowed road (rootPlaces tree) table → Ready road tree (asked .aggregate) rule (take q copied) drives places table
+            → Rowed road (rootPlaces tree) table → Ready road tree asking (take q copied) drives places table
         ready drives part table e driven four rowed = record {
           passed = passed;
           driven = rw e driven;
           laid = d .laid;
-          tableed = table-filled road tree tree-laid (asked .aggregate) rule (take q copied) table four rowed;
+          tableed = table-filled road tree tree-laid asking (take q copied) table four rowed;
         }
 
         -- and what the steps come to is the call's answer
         pub answered : (drives part table : List ℕ) → drives ≡ part → Rowed road (take q copied) part → length table ≡ tableWords
             → Rowed road (rootPlaces tree) table → (o : Answer)
-            → (Ready road tree (asked .aggregate) rule (take q copied) drives places table
-            → o ≡ answer (searchOf road tree (asked .aggregate) rule (take q copied)) (asked .limit)) → o ≡ answerBy road tree query rule
+            → (Ready road tree asking (take q copied) drives places table
+            → o ≡ answer (searchOf road tree asking (take q copied)) limit) → o ≡ answerBy road tree query asking
         answered drives part table e driven four rowed o f = f (ready drives part table e driven four rowed) ∙ same-search
 
         -- the result area has room for what is held
-        pub results-room : (o : Answer) (kept : Kept) → o ≡ answerBy road tree query rule → Fits rule kept → countBy rule kept ≤ o .measured
-            → 2 * countBy rule kept ≤ results
-        results-room o kept e fits low = by-drive rule (by .drive) (by .is) (a .results-full) fits low few
+        pub results-room : (o : Answer) (kept : Kept) → o ≡ answerBy road tree query asking → Fits (asking .rule) kept → countBy (asking .rule) kept ≤ o .measured
+            → 2 * countBy (asking .rule) kept ≤ results
+        results-room o kept e fits low = by-drive (asking .rule) (by .want .drive) (ap (λ (x : Asking). x .rule) (by .is)) (a .results-full) fits low few
           where
-            few : answerBy road tree query rule .measured ≤ treeYardCount tree
+            few : answerBy road tree query asking .measured ≤ treeYardCount tree
             few = omega (
               arith,
-              accepted-measured (searchOf road tree (aggregateOf query) rule (crewsOf query)) (accepted-of road tree (aggregateOf query) rule (crewsOf query) (a .books
-                  bytes)) (limitOf query) (well-of road tree (aggregateOf query) rule (crewsOf query) (a .books bytes)),
-              yards-of road tree (aggregateOf query) rule (crewsOf query),
+              accepted-measured (searchOf road tree asking (crewsOf query)) (accepted-of road tree asking (crewsOf query) (a .books
+                  bytes)) (limitOf query) (well-of road tree asking (crewsOf query) (a .books bytes)),
+              yards-of road tree asking (crewsOf query),
             )
 
-            measured-is : o .measured ≡ answerBy road tree query rule .measured
+            measured-is : o .measured ≡ answerBy road tree query asking .measured
             measured-is = ap (λ (x : Answer). x .measured) e
 
-            by-drive : (r : Rule) (drive : Option ℕ) → r ≡ ruleBy (kOf query) drive → 2 * mostYards tree query drive ≤ results → Fits r kept
-                → countBy r kept ≤ o .measured → answerBy road tree query rule .measured ≤ treeYardCount tree → 2 * countBy r kept ≤ results
+            by-drive : (r : Rule) (drive : Option ℕ) → r ≡ ruleBy (kOf query) drive → 2 * mostBy (kOf query) (treeYardCount tree) drive ≤ results → Fits r kept
+                → countBy r kept ≤ o .measured → answerBy road tree query asking .measured ≤ treeYardCount tree → 2 * countBy r kept ≤ results
             by-drive r none q full f l m = let k : (kept .held .count ≤ kOf query) × (kOf query ≤ 64) = rw q at f in rw q (omega (arith, k .0))
             by-drive r (some seconds) q full f l m = omega (arith, measured-is)

@@ -1,7 +1,6 @@
 -- What reading a district answers for what its steps found, and what it leaves in the arrays. Assumes nothing.
 use mathlib.Core.Path.{_≡_, refl, sym, ap, _∙_}
 use mathlib.Core.List.{List}
-use mathlib.Core.Option.{Option}
 use Prim.Native.Nat.{ℕ, zero, suc, _≤_}
 use native.Mathlib.Omega.{arith}
 use lib.ListN.{length, take}
@@ -25,7 +24,7 @@ use Rattle.tree.specs.Answer.{treeOf, treeNumber as tree-number, placesAfter, e
 use Rattle.tree.specs.declared.Tree.{Tree}
 use Rattle.tree.specs.declared.Tree.the-variants.{Shaped, Refused as tree-refused}
 use Rattle.tree.proofs.Answering.{shaped-answer, shaped-found, number-is, accepted-laid, accepted-room, accepted-ends}
-use Rattle.search_call.specs.Call.{treeRefusalIn, searchRefusal}
+use Rattle.search_call.specs.Call.{Want, treeRefusalIn, searchRefusal}
 use Rattle.search_call.proofs.Refusing.{tree-turned-back, counts-differ, counts-agree, tree-passed, by-road, by-tree}
 use Rattle.search_tree.specs.code.District.{districtRefusal, District}
 
@@ -95,23 +94,23 @@ module _ (road tree : List ℕ) (o : RoadBook) (e : o ≡ told (roadRefusal road
 
 -- ---- for the call: a district that is turned back turns the call back
 
-pub district-back : (road tree query : List ℕ) (drive : Option ℕ) (work results why : ℕ) → why ≡ districtRefusal road tree → (why ≡ 0 → ⊥)
-    → (why ≡ searchRefusal road tree query drive work results) × (why ≡ 0 → ⊥)
+pub district-back : (road tree query : List ℕ) (want : Want) (work results why : ℕ) → why ≡ districtRefusal road tree → (why ≡ 0 → ⊥)
+    → (why ≡ searchRefusal road tree query want work results) × (why ≡ 0 → ⊥)
 unfolding districtRefusal
-district-back road tree query drive work results why e h = (go (roadRefusal road) refl, h)
+district-back road tree query want work results why e h = (go (roadRefusal road) refl, h)
   where
-    go : (x : ℕ) → x ≡ roadRefusal road → why ≡ searchRefusal road tree query drive work results
+    go : (x : ℕ) → x ≡ roadRefusal road → why ≡ searchRefusal road tree query want work results
     go zero q =
         let f = e ∙ first-later (roadRefusal road) (treeRefusalIn tree (junctions road)) (sym q) in
         let z : 1 ≤ treeRefusalIn tree (junctions road) = some why h f in
-        f ∙ sym (by-tree road tree query drive work results (sym q) z)
+        f ∙ sym (by-tree road tree query want work results (sym q) z)
       where
         some : (w : ℕ) → (w ≡ 0 → ⊥) → w ≡ treeRefusalIn tree (junctions road) → 1 ≤ treeRefusalIn tree (junctions road)
         some zero h f = absurd (h refl)
         some (suc w) h f = omega arith
     go (suc x) q =
         let z : 1 ≤ roadRefusal road = omega arith in
-        e ∙ first-earlier (roadRefusal road) (treeRefusalIn tree (junctions road)) z ∙ sym (by-road road tree query drive work results z)
+        e ∙ first-earlier (roadRefusal road) (treeRefusalIn tree (junctions road)) z ∙ sym (by-road road tree query want work results z)
 
 -- ---- the arrays' entries, one for each region
 

@@ -7,7 +7,7 @@ use lib.ListN.{length}
 use lib.Dec.{T}
 use Rattle.book.specs.Writing.{write}
 use Rattle.book.proofs.Choosing.{choose-yes, choose-no, true-T, false-T}
-use Rattle.tree_layout.specs.Values.{Element}
+use Rattle.search_rules.specs.Order.{Entry}
 use Rattle.search_rules.specs.Run.{Answer, words}
 use Rattle.search_rules.specs.Rule.{Rule}
 use Rattle.search_held.specs.code.Rules.{heldBy, countBy}
@@ -55,7 +55,7 @@ module _ (rule : Rule) (list : List ℕ) (o : Outcome) where
   unfolding writtenBy answerOf
   settled-written results out z e =
       let t : T (o .settled) = true-T z in
-      e ∙ ap (λ (l : List Element). write results 0 (words l)) (sym (choose-yes (o .settled) (heldBy rule (o .kept) list) [] t))
+      e ∙ ap (λ (l : List Entry). write results 0 (words l)) (sym (choose-yes (o .settled) (heldBy rule (o .kept) list) [] t))
       ∙ sym (choose-yes (o .settled) _ results t)
 
 -- what is reported of them

@@ -4,15 +4,20 @@ use mathlib.Core.Option.{Option, none, some}
 use Prim.Native.Nat.{ℕ}
 use Rattle.book.specs.Choose.{choose}
 use Rattle.search_rules.specs.Run.{Answer, words}
-use Rattle.search_call.specs.Call.{Found, overStart}
+use Rattle.search_call.specs.Call.{Want, Found, overStart}
 use Rattle.search_tree.specs.declared.Goal.{Goal}
 use Rattle.search_tree.specs.declared.Goal.the-variants.{Nearest, InDrive}
+use Rattle.search_tree.specs.declared.Want.{Want as Wanted}
 use Rattle.search_tree.specs.declared.Found.{Found as Returned}
 
 -- the seconds of a drive search; none in a search for k yards
 abbrev pub driveOf : Goal → Option ℕ
 driveOf Nearest = none
 driveOf (InDrive seconds) = some seconds
+
+-- what a call wants, as the definition has it
+abbrev pub wantOf : Wanted → Want
+wantOf w = record { kinds = w .kinds; drive = driveOf (w .goal) }
 
 -- the returned words, as the definition of a call has them
 unfoldable pub foundOf : Returned → Found

@@ -1,6 +1,5 @@
 // A call that no test turns back: its rows, its steps, and what it reports.
 use crate::Found;
-use query::Query;
 use search_bounds::table;
 use search_held::Asked;
 use search_held::Rule;
@@ -10,9 +9,9 @@ ghost use mathlib.Core.List.{List};
 ghost use Prim.Native.Nat.{ℕ, _*_, _≤_};
 ghost use lib.ListN.{length};
 ghost use Rattle.work_area.specs.Work.{workWords, zeroed};
-ghost use Rattle.query.specs.Query.{queryOf};
+ghost use Rattle.query.specs.Query.{aggregateOf, limitOf};
 ghost use Rattle.search_run.specs.code.Answers.{answerOf};
-ghost use Rattle.search_held.specs.code.Rules.{ruleOf, countBy, Fits};
+ghost use Rattle.search_held.specs.code.Rules.{ruleOf, askingOf, countBy, Fits};
 ghost use Rattle.search_call.specs.Call.{accepted};
 ghost use Rattle.search_tree.specs.code.Asking.{AcceptedBy, answerBy};
 ghost use Rattle.search_tree.specs.code.District.{District, IsDistrict};
@@ -59,27 +58,25 @@ pub fn search(
     places: &[usize],
     ends: &[usize],
     query: &[u8],
-    asked: Query,
-    rule: Rule,
+    asked: Asked,
     work: &mut [u32],
     results: &mut [u32],
 ) -> Found
-    requires { ⌜ IsDistrict (now tree) (now adj) (now places) (now ends) × (asked ≡ queryOf (now query))
+    requires { ⌜ IsDistrict (now tree) (now adj) (now places) (now ends) × (asked .aggregate ≡ aggregateOf (now query)) × (asked .limit ≡ limitOf (now query))
         × ((road : List ℕ) → District road (now tree) (now adj) (now places) (now ends)
-        → AcceptedBy road (now tree) (now query) (ruleOf rule) (length (now work)) (length (now results))) ⌝ }
+        → AcceptedBy road (now tree) (now query) (askingOf asked) (length (now work)) (length (now results))) ⌝ }
     ensures found { λ r. ⌜ ((road : List ℕ)
         → District road (now (tree .entry)) (now (adj .entry)) (now (places .entry)) (now (ends .entry))
-        → foundOf r ≡ accepted (answerBy road (now (tree .entry)) (now (query .entry)) (ruleOf rule))) ⌝ }
+        → foundOf r ≡ accepted (answerBy road (now (tree .entry)) (now (query .entry)) (askingOf asked))) ⌝ }
     ensures work { λ _. ⌜ now (work .exit) ≡ zeroed workWords (now (work .entry)) ⌝ }
     ensures results { λ _. ⌜ ((road : List ℕ)
         → District road (now (tree .entry)) (now (adj .entry)) (now (places .entry)) (now (ends .entry))
         → now (results .exit)
-        ≡ writtenBy (answerBy road (now (tree .entry)) (now (query .entry)) (ruleOf rule))
+        ≡ writtenBy (answerBy road (now (tree .entry)) (now (query .entry)) (askingOf asked))
         (now (results .entry))) ⌝ }
 {
     let mut crews = [0u16; CREWS];
-    query::crews(query, &mut crews);
-    let q = asked.crews as usize;
+    let q = query::crews(query, &mut crews);
     let mut table = [0u32; table::WORDS];
     table::prepare(
         adj,
@@ -97,13 +94,10 @@ pub fn search(
         &table,
         &work[..work_area::WORDS],
         &crews[..q],
-        Asked {
-            aggregate: asked.aggregate,
-            limit: asked.limit,
-            rule,
-        },
+        asked,
         &mut list,
     );
     work_area::zero_words(work);
+    let rule = asked.rule;
     report(&list, rule, o, results)
 }

@@ -1,9 +1,11 @@
 // One query over a district.
 use crate::Found;
 use crate::Goal;
+use crate::Want;
 use crate::accepted;
 use crate::refused;
 use query::QueryBook;
+use search_held::Asked;
 use search_held::Rule;
 use tree_layout::records;
 ghost use mathlib.Core.Path.{_≡_};
@@ -13,7 +15,7 @@ ghost use lib.ListN.{length};
 ghost use Rattle.work_area.specs.Work.{workAfter};
 ghost use Rattle.search_held.specs.code.Rules.{ruleOf};
 ghost use Rattle.search_call.specs.Call.{ruleBy, mostBy, areasRefusal, searchRefusal, searchFound, resultsAfter};
-ghost use Rattle.search_tree.specs.Found.{driveOf};
+ghost use Rattle.search_tree.specs.Found.{driveOf, wantOf};
 ghost use Rattle.search_tree.specs.code.District.{District, IsDistrict};
 ghost use Rattle.search_tree.specs.Found.{foundOf};
 
@@ -57,7 +59,7 @@ pub fn answer(
     places: &[usize],
     ends: &[usize],
     query: &[u8],
-    goal: Goal,
+    want: Want,
     work: &mut [u32],
     results: &mut [u32],
 ) -> Found
@@ -65,20 +67,25 @@ pub fn answer(
     ensures found { λ r. ⌜ ((road : List ℕ)
         → District road (now (tree .entry)) (now (adj .entry)) (now (places .entry)) (now (ends .entry))
         → foundOf r ≡ searchFound road (now (tree .entry)) (now (query .entry))
-        (driveOf goal) (length (now (work .entry))) (length (now (results .entry)))) ⌝ }
+        (wantOf want) (length (now (work .entry))) (length (now (results .entry)))) ⌝ }
     ensures work { λ _. ⌜ ((road : List ℕ)
         → District road (now (tree .entry)) (now (adj .entry)) (now (places .entry)) (now (ends .entry))
         → now (work .exit) ≡ workAfter (searchRefusal road (now (tree .entry)) (now (query .entry))
-        (driveOf goal) (length (now (work .entry))) (length (now (results .entry)))) (now (work .entry))) ⌝ }
+        (wantOf want) (length (now (work .entry))) (length (now (results .entry)))) (now (work .entry))) ⌝ }
     ensures results { λ _. ⌜ ((road : List ℕ)
         → District road (now (tree .entry)) (now (adj .entry)) (now (places .entry)) (now (ends .entry))
         → now (results .exit) ≡ resultsAfter road (now (tree .entry)) (now (query .entry))
-        (driveOf goal) (length (now (work .entry))) (now (results .entry))) ⌝ }
+        (wantOf want) (length (now (work .entry))) (now (results .entry))) ⌝ }
 {
     let q = query::read(query, adjacency::junctions(adj));
     let QueryBook::Asked(asked) = q else {
         return refused(query::number(q));
     };
+    let wanted = want.kinds;
+    if wanted == 0 {
+        return refused(13);
+    }
+    let goal = want.goal;
     let h = records::header(tree);
     let most = most_yards(asked.k as u16, h.yards, goal);
     let why = areas_refusal(most, work.len(), results.len());
@@ -86,5 +93,11 @@ pub fn answer(
         return refused(why);
     }
     let rule = rule_of(asked.k, goal);
-    accepted::search(adj, tree, places, ends, query, asked, rule, work, results)
+    let given = Asked {
+        aggregate: asked.aggregate,
+        limit: asked.limit,
+        rule,
+        wanted,
+    };
+    accepted::search(adj, tree, places, ends, query, given, work, results)
 }

@@ -8,12 +8,18 @@ ghost use mathlib.Core.Path.{_≡_};
 ghost use lib.ListN.{length};
 ghost use Rattle.work_area.specs.Work.{workAfter};
 ghost use Rattle.search_call.specs.Call.{refused, searchRefusal, searchFound, resultsAfter};
-ghost use Rattle.search_tree.specs.Found.{foundOf, driveOf};
+ghost use Rattle.search_tree.specs.Found.{foundOf, wantOf};
 
 // What a search is for: the first k yards of its query, or those within so many seconds.
 pub enum Goal {
     Nearest,
     InDrive(u32),
+}
+
+// What a call wants beside its books: yards of which kinds, and which of them.
+pub struct Want {
+    pub kinds: u8,
+    pub goal: Goal,
 }
 
 // What a search returns; settled is 1 or 0.
@@ -39,24 +45,24 @@ fn refused(why: u8) -> Found
     }
 }
 
-// Searches a tree beside a road book for what a query and a goal ask. An accepted call zeroes the first 16,384 work
+// Searches a tree beside a road book for what a query asks and a call wants. An accepted call zeroes the first 16,384 work
 // words; one that is turned back changes nothing.
 pub fn search(
     road: &[u8],
     tree: &[u8],
     query: &[u8],
-    goal: Goal,
+    want: Want,
     work: &mut [u32],
     results: &mut [u32],
 ) -> Found
     ensures found { λ r. ⌜ foundOf r ≡ searchFound (now (road .entry)) (now (tree .entry)) (now (query .entry))
-        (driveOf goal) (length (now (work .entry))) (length (now (results .entry))) ⌝ }
+        (wantOf want) (length (now (work .entry))) (length (now (results .entry))) ⌝ }
     ensures work { λ _. ⌜ now (work .exit) ≡ workAfter (searchRefusal (now (road .entry)) (now (tree .entry)) (now
-        (query .entry)) (driveOf goal)
+        (query .entry)) (wantOf want)
         (length (now (work .entry))) (length (now (results .entry)))) (now (work .entry)) ⌝ }
     ensures results { λ _. ⌜ now (results .exit)
         ≡ resultsAfter (now (road .entry)) (now (tree .entry)) (now (query .entry))
-        (driveOf goal) (length (now (work .entry))) (now (results .entry)) ⌝ }
+        (wantOf want) (length (now (work .entry))) (now (results .entry)) ⌝ }
 {
     let mut adj = [0u16; adjacency::WORDS];
     let mut places = [0usize; tree::REGIONS];
@@ -73,7 +79,7 @@ pub fn search(
         &places[..r],
         &ends[..r],
         query,
-        goal,
+        want,
         work,
         results,
     )

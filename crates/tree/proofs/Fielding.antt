@@ -4,12 +4,14 @@ use mathlib.Core.List.{List}
 use Prim.Native.Nat.{ℕ, _+_, _≤_, _<_}
 use native.Mathlib.Omega.{arith}
 use lib.ListN.{length, getD}
+use Rattle.book.specs.Open.{version}
+use Rattle.tree_layout.specs.Sizes.{fieldsSize}
 use Rattle.tree_layout.specs.code.Accessors.{fieldsAt}
 use Rattle.tree_layout.specs.Values.{Region, regionAt}
 use Rattle.tree_layout.specs.Decode.{readRegion, sizeAt, placeOf, landmarkCount, regionCount, decode}
 use Rattle.tree_layout.proofs.Places.{size-least, region-at, record-inside, decode-length}
 use Rattle.tree_layout.proofs.Formed.{at-mem}
-use Rattle.tree_layout.proofs.Reading.{region-first, region-after, region-children, region-yards}
+use Rattle.tree_layout.proofs.Reading.{region-first, region-after, region-children, region-yards, region-kinds}
 use Rattle.tree.specs.Arrays.{Laid, fieldsOf}
 use Rattle.tree_layout.specs.declared.Fields.{Fields}
 
@@ -38,8 +40,8 @@ module _ (b places : List ℕ) (laid : Laid b places) where
     pub laid-inside : placeOf b i + sizeAt b (landmarkCount b) (placeOf b i) ≤ length b
     laid-inside = record-inside b (laid .layout .filled) i counted
 
-    -- and so do its seven bytes before the landmarks
-    pub laid-room : getD places i 0 + 7 ≤ length b
+    -- and so do its fields
+    pub laid-room : getD places i 0 + fieldsSize (version b) ≤ length b
     laid-room = omega (arith, laid .held i h, laid-inside, size-least b (landmarkCount b) (placeOf b i))
 
     pub laid-children : regionAt (decode b .regions) i .children ≡ fieldsAt b (placeOf b i) .children
@@ -64,5 +66,6 @@ module _ (b places : List ℕ) (laid : Laid b places) where
           region-after b (landmarkCount b) (placeOf b i),
           region-children b (landmarkCount b) (placeOf b i),
           region-yards b (landmarkCount b) (placeOf b i),
+          region-kinds b (landmarkCount b) (placeOf b i),
           z,
         ) refl

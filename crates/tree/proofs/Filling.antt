@@ -10,6 +10,8 @@ use lib.Dec.{ltb}
 use Rattle.book.specs.Choose.{choose}
 use Rattle.book.proofs.Choosing.{choose-case}
 use lib.Seq.{getD-set-same, getD-set-other}
+use Rattle.book.specs.Open.{version}
+use Rattle.tree_layout.specs.Sizes.{headerSize, fieldsSize}
 use Rattle.tree_layout.specs.Decode.{placeOf, sizeAt, regionCount, landmarkCount}
 use Rattle.tree_layout.specs.Facts.{TreeLayout}
 use Rattle.tree_layout.proofs.Places.{place-after, record-inside, size-least}
@@ -54,8 +56,8 @@ module _ (b : List ℕ) (layout : TreeLayout b) (n m : ℕ) (n-is : n ≡ region
     whole : at + sizeAt b m at ≤ length b
     whole = rw (place, m-is) (record-inside b (layout .filled) i (omega (arith, n-is)))
 
-    pub place-room : (m ≤ 4) × (at + 7 ≤ length b)
-    place-room = (omega (arith, m-is, layout .landmarks .1), omega (arith, whole, size-least b m at))
+    pub place-room : (m ≤ 4) × (headerSize ≤ length b) × (at + fieldsSize (version b) ≤ length b)
+    place-room = (omega (arith, m-is, layout .landmarks .1), layout .opens .headed, omega (arith, whole, size-least b m at))
 
     pub place-end : (size : ℕ) → size ≡ sizeAt b m at → at + size ≤ length b
     place-end size e = omega (arith, whole)

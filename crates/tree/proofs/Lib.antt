@@ -19,3 +19,4 @@ pub mod Ranges
 pub mod Siblings
 pub mod RegionYards
 pub mod FirstFailing
+pub mod YardKinds

@@ -45,6 +45,10 @@ module _ (b : List ℕ) (i : ℕ) (f : Fields) (e : f ≡ fieldsOf b i) where
   unfolding fieldsOf
   yards-is = sym (ap (λ (x : Fields). x .yards) e)
 
+  pub kinds-is : regionAt (decode b .regions) i .kinds ≡ f .kinds
+  unfolding fieldsOf
+  kinds-is = sym (ap (λ (x : Fields). x .kinds) e)
+
 module _ (b places : List ℕ) (laid : Laid b places) where
   abbrev rs : List Region
   rs = decode b .regions

@@ -2,8 +2,7 @@
 use mathlib.Core.Path.{_≡_, refl, sym, _∙_}
 use mathlib.Core.Logic.{_⊎_, inl, inr, _≢_, _↔_}
 use mathlib.Core.List.{List, [], _∷_, append-nil, List·Memᴰ as Mem, List·Memᴰ·not-nil as not-nil, List·Memᴰ·cases-cons as cases-cons}
-use mathlib.Core.List.{List·Memᴰ·append-cases as append-cases}
-use Prim.Native.Nat.{ℕ, zero, suc, _+_, _-_, _≤_, _<_}
+use Prim.Native.Nat.{ℕ, suc, _+_, _-_, _≤_, _<_}
 use native.Mathlib.Decide.{ℕ-discrete, decLt}
 use native.Mathlib.Omega.{arith}
 use lib.ListN.{length}
@@ -20,7 +19,7 @@ use Rattle.tree_layout.proofs.Formed.{decode-formed, at-mem}
 use Rattle.tree_leaf.specs.Leaf.{firstList}
 use Rattle.tree.specs.Shape.{shaped, treeRefusal}
 use Rattle.tree_leaf.specs.Leaf.{yardsIn}
-use Rattle.tree.specs.Yards.{endOf, starts, hops, childrenOf, gather, regionsReached, ownYards, leafYardsFrom, yardsBelow, treeYards, sumFrom, oneLeaf}
+use Rattle.tree.specs.Yards.{endOf, starts, hops, childrenOf, gather, regionsReached, ownYards, yardsBelow, treeYards, sumFrom, oneLeaf}
 use Rattle.tree.specs.Yards.{oneInner}
 use Rattle.tree.specs.Yards.{leaves, inners}
 use Rattle.tree.specs.Facts.{Preorder}
@@ -30,6 +29,7 @@ use Rattle.tree.proofs.Forest.{Forest, none, leaf, wrap, join, end-is, 
 use Rattle.tree.proofs.ForestLaws.{Sane, span, sum, span-split, span-none, span-leaf, span-inner, own-leaf, own-inner, visit, child, parent, adopted}
 use Rattle.tree.proofs.ForestLaws.{sub, leaf-ok, leaf-order, yard-count, yard-range, yard-once, leaf-count, inner-count}
 use Rattle.tree.proofs.Shaping.{inner-forest, EndsMeet, root-end, root-forest, root-yards, ends-meet, ranges-of, shape-facts, facts-shaped}
+use Rattle.tree.proofs.Members.{yard-from}
 use Rattle.tree.proofs.Reaching.{Nested, reached-all, level-high, level-low}
 
 -- ---- what the layout gives
@@ -94,17 +94,6 @@ module _ (rs : List Region) (sane : Sane rs) where
   gathered (join {n = n} {i = i} {m = m} {e = e} a b c z g k) =
       let w : yardsBelow rs i ≡ span rs i m = below-span i ∙ rw z refl in
       rw (w, z, gathered k) (sym (span-split rs i m e (omega (arith, rise rs g)) (omega (arith, rise rs k))))
-
-  -- a yard of some regions is one of their own yards
-  yard-from : (n i y : ℕ) → Mem y (leafYardsFrom rs n i) → (j : ℕ) × (i ≤ j) × (j < i + n) × Mem y (ownYards (regionAt rs j))
-  unfolding leafYardsFrom
-  yard-from zero i y k = absurd (not-nil k)
-  yard-from (suc n) i y k = go (append-cases (ownYards (regionAt rs i)) k) (λ j. yard-from n (suc i) y j)
-    where
-      go : Mem y (ownYards (regionAt rs i)) ⊎ Mem y (leafYardsFrom rs n (suc i)) → (Mem y (leafYardsFrom rs n (suc i))
-          → (j : ℕ) × (suc i ≤ j) × (j < suc i + n) × Mem y (ownYards (regionAt rs j))) → (j : ℕ) × (i ≤ j) × (j < i + suc n) × Mem y (ownYards (regionAt rs j))
-      go (inl j) rec = (i, omega arith, omega arith, j)
-      go (inr j) rec = let x = rec j in (x .0, omega (arith, x .1), omega (arith, x .2), x .3)
 
 -- ---- a shaped tree
 
@@ -187,7 +176,7 @@ module _ (t : Tree) (sane : Sane (t .regions)) (there : 1 ≤ length (t .regions
 
   leaf-where : (y : ℕ) → Mem y (treeYards t) → (j : ℕ) × LeafOf rs y j
   unfolding treeYards
-  leaf-where y k = let x = yard-from rs sane (length rs) 0 y k in go x (ℕ-discrete (regionAt rs (x .0) .children) 0)
+  leaf-where y k = let x = yard-from rs (length rs) 0 y k in go x (ℕ-discrete (regionAt rs (x .0) .children) 0)
     where
       go : (x : (j : ℕ) × (0 ≤ j) × (j < 0 + length rs) × Mem y (ownYards (regionAt rs j))) → Dec (regionAt rs (x .0) .children ≡ 0) → (j : ℕ) × LeafOf rs y j
       go x (yes c) =

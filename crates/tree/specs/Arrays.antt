@@ -28,4 +28,5 @@ fieldsOf b i = record {
   after = regionAt (decode b .regions) i .after;
   children = regionAt (decode b .regions) i .children;
   yards = regionAt (decode b .regions) i .yards;
+  kinds = regionAt (decode b .regions) i .kinds;
 }

@@ -5,8 +5,8 @@ use Prim.Native.Nat.{ℕ, zero, suc, _+_, _-_}
 use lib.ListN.{length}
 use lib.Dec.{eqb, ltb}
 use Rattle.book.specs.Choose.{choose}
-use Rattle.tree_layout.specs.Values.{Region, Tree, regionAt}
-use Rattle.tree_leaf.specs.Leaf.{yardsIn, firstList}
+use Rattle.tree_layout.specs.Values.{Element, Region, Tree, regionAt}
+use Rattle.tree_leaf.specs.Leaf.{yardsIn, names, firstList}
 use Rattle.tree.specs.declared.shape.End.{End}
 use Rattle.tree.specs.declared.shape.End.the-variants.{At, Broken}
 use Rattle.tree.specs.Shape.{subtree, levels}
@@ -78,6 +78,29 @@ yardsBelow rs i = leafYardsFrom rs (endOf rs i - i) i
 -- all of the tree's yards
 unfoldable pub treeYards : Tree → List ℕ
 treeYards t = leafYardsFrom (t .regions) (length (t .regions)) 0
+
+-- ---- kinds
+
+-- the byte of yard y in a list, or 0 if the list does not name it
+unfoldable pub kindsIn : List Element → ℕ → ℕ
+kindsIn [] y = 0
+kindsIn (e ∷ es) y = choose (eqb (e .yard) y) (e .kinds) (kindsIn es y)
+
+-- a leaf's first list; none of an inner region
+unfoldable pub ownList : Region → List Element
+ownList r = choose (eqb (r .children) 0) (firstList (r .marks)) []
+
+-- "its byte in its leaf's first list": yard y's, of the leaves among n regions from number i on
+unfoldable pub kindsFrom : List Region → ℕ → ℕ → ℕ → ℕ
+kindsFrom rs zero i y = 0
+kindsFrom rs (suc n) i y =
+    choose (names (ownList (regionAt rs i)) y) (kindsIn (ownList (regionAt rs i)) y) (kindsFrom rs n (suc i) y)
+
+-- yard y's, of the whole tree; 0 if it is no yard of it
+unfoldable pub kindsOf : Tree → ℕ → ℕ
+kindsOf t y = kindsFrom (t .regions) (length (t .regions)) 0 y
+
+-- ---- counts
 
 -- the sum of a number for each of n regions from number i on
 unfoldable pub sumFrom : List Region → (Region → ℕ) → ℕ → ℕ → ℕ

@@ -1,3 +1,4 @@
+pub mod KindBytes
 pub mod Sizes
 pub mod Parts
 pub mod Back

@@ -16,7 +16,7 @@ use Rattle.tree_layout.proofs.Places.{records-filled, filled-records}
 pub layout-facts : (b : List ℕ) → treeLayoutRefusal b ≡ 0 → TreeLayout b
 unfolding treeLayoutRefusal placeOf decode
 layout-facts b e =
-    let p1 = first-none (openRefusal b 7) _ e in
+    let p1 = first-none (openRefusal b 2 7) _ e in
     let p2 = passed (between 1 1024 (junctionCount b)) 3 _ (p1 .1) (omega arith) in
     let p3 = passed (between 1 511 (regionCount b)) 3 _ (p2 .1) (omega arith) in
     let p4 = passed (between 1 256 (treeYardCount b)) 3 _ (p3 .1) (omega arith) in
@@ -24,7 +24,7 @@ layout-facts b e =
     let p6 = passed (recordsOk b (landmarkCount b) (regionCount b) 12) 4 _ (p5 .1) (omega arith) in
     let p7 = passed (valuesOk (decode b)) 5 0 (p6 .1) (omega arith) in
     record {
-      opens = opens b 7 (p1 .0);
+      opens = opens b 2 7 (p1 .0);
       junctions = between-both 1 1024 (junctionCount b) (p2 .0);
       regions = between-both 1 511 (regionCount b) (p3 .0);
       yards = between-both 1 256 (treeYardCount b) (p4 .0);
@@ -36,7 +36,7 @@ layout-facts b e =
 pub facts-layout : (b : List ℕ) → TreeLayout b → treeLayoutRefusal b ≡ 0
 unfolding treeLayoutRefusal placeOf decode
 facts-layout b l =
-    first-later (openRefusal b 7) _ (open-zero b 7 (l .opens))
+    first-later (openRefusal b 2 7) _ (open-zero b 2 7 (l .opens))
     ∙ (passes (between 1 1024 (junctionCount b)) 3 _ (both-between 1 1024 (junctionCount b) (l .junctions))
     ∙ (passes (between 1 511 (regionCount b)) 3 _ (both-between 1 511 (regionCount b) (l .regions))
     ∙ (passes (between 1 256 (treeYardCount b)) 3 _ (both-between 1 256 (treeYardCount b) (l .yards))

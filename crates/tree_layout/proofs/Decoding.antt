@@ -4,27 +4,31 @@ use mathlib.Core.List.{List, [], _∷_}
 use Prim.Native.Nat.{ℕ, suc, _+_, _*_}
 use lib.ListN.{take, drop}
 use Rattle.book.specs.Bytes.{u8At, u16At, u32At}
+use Rattle.book.specs.Open.{version}
+use Rattle.kinds.specs.Kinds.{kindAt}
+use Rattle.tree_layout.specs.Sizes.{fieldsSize, elementSize, listSize, leafMarkSize}
 use Rattle.tree_layout.specs.Values.{leafMark, innerMark}
 use Rattle.tree_layout.specs.Decode.{elementAt, readList, listPart, readLists, readSpans, readMarks, readRegion, readRegions, markSize, recordSize}
 use Rattle.tree_layout.specs.Decode.{sizeAt, junctionCount, regionCount, treeYardCount, landmarkCount, placeFrom, placeOf, decode}
 
 -- ---- a list
 
-pub element-is : (p : List ℕ) (at : ℕ) → elementAt p at ≡ record { distance = u32At p at; yard = u16At p (at + 4) }
+pub element-is : (v : ℕ) (p : List ℕ) (at : ℕ)
+    → elementAt v p at ≡ record { distance = u32At p at; yard = u16At p (at + 4); kinds = kindAt v p (at + 6) }
 unfolding elementAt
-element-is p at = refl
+element-is v p at = refl
 
-pub read-list-none : (p : List ℕ) (at : ℕ) → readList p 0 at ≡ []
+pub read-list-none : (v : ℕ) (p : List ℕ) (at : ℕ) → readList v p 0 at ≡ []
 unfolding readList
-read-list-none p at = refl
+read-list-none v p at = refl
 
-pub read-list-next : (p : List ℕ) (n at : ℕ) → readList p (suc n) at ≡ elementAt p at ∷ readList p n (at + 6)
+pub read-list-next : (v : ℕ) (p : List ℕ) (n at : ℕ) → readList v p (suc n) at ≡ elementAt v p at ∷ readList v p n (at + elementSize v)
 unfolding readList
-read-list-next p n at = refl
+read-list-next v p n at = refl
 
-pub list-part-is : (b : List ℕ) (n at : ℕ) → listPart b n at ≡ take (6 * n) (drop at b)
+pub list-part-is : (v : ℕ) (b : List ℕ) (n at : ℕ) → listPart v b n at ≡ take (listSize v n) (drop at b)
 unfolding listPart
-list-part-is b n at = refl
+list-part-is v b n at = refl
 
 -- ---- landmarks
 
@@ -33,7 +37,8 @@ unfolding readLists
 read-lists-none b yards at = refl
 
 pub read-lists-next : (b : List ℕ) (yards k at : ℕ)
-    → readLists b yards (suc k) at ≡ leafMark (u16At b at) (readList (listPart b yards (at + 2)) yards 0) ∷ readLists b yards k (at + (2 + 6 * yards))
+    → readLists b yards (suc k) at ≡ leafMark (u16At b at) (readList (version b) (listPart (version b) b yards (at + 2)) yards 0)
+    ∷ readLists b yards k (at + leafMarkSize (version b) yards)
 unfolding readLists
 read-lists-next b yards k at = refl
 
@@ -47,11 +52,11 @@ read-spans-next b k at = refl
 
 -- ---- regions
 
-pub record-size : (m children yards : ℕ) → recordSize m children yards ≡ 7 + m * markSize children yards
+pub record-size : (v m children yards : ℕ) → recordSize v m children yards ≡ fieldsSize v + m * markSize v children yards
 unfolding recordSize
-record-size m children yards = refl
+record-size v m children yards = refl
 
-pub size-of : (b : List ℕ) (m at : ℕ) → sizeAt b m at ≡ recordSize m (u8At b (at + 4)) (u16At b (at + 5))
+pub size-of : (b : List ℕ) (m at : ℕ) → sizeAt b m at ≡ recordSize (version b) m (u8At b (at + 4)) (u16At b (at + 5))
 unfolding sizeAt
 size-of b m at = refl
 
@@ -61,7 +66,8 @@ pub read-region : (b : List ℕ) (m at : ℕ)
       after = u16At b (at + 2);
       children = u8At b (at + 4);
       yards = u16At b (at + 5);
-      marks = readMarks b m (u8At b (at + 4)) (u16At b (at + 5)) (at + 7);
+      kinds = kindAt (version b) b (at + 7);
+      marks = readMarks b m (u8At b (at + 4)) (u16At b (at + 5)) (at + fieldsSize (version b));
     }
 unfolding readRegion
 read-region b m at = refl
@@ -93,6 +99,7 @@ unfolding landmarkCount
 count-landmarks b = refl
 
 pub decode-is : (b : List ℕ) → decode b ≡ record {
+  version = version b;
   junctions = junctionCount b;
   yards = treeYardCount b;
   landmarks = landmarkCount b;

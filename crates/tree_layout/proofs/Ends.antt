@@ -1,11 +1,13 @@
 -- The fields of a landmark, and the first and last distance of a list as it is read. Assumes nothing.
 use mathlib.Core.Path.{_≡_, refl}
 use mathlib.Core.List.{List, [], _∷_}
-use Prim.Native.Nat.{ℕ, zero, suc, _+_, _*_}
+use Prim.Native.Nat.{ℕ, zero, suc, _+_}
 use native.Mathlib.Omega.{arith}
 use Rattle.book.specs.Bytes.{u32At}
+use Rattle.tree_layout.specs.Sizes.{elementSize, listSize}
 use Rattle.tree_layout.specs.Values.{Element, firstDistance, lastFrom, leafMark, innerMark}
 use Rattle.tree_layout.specs.Decode.{elementAt, readList}
+use Rattle.tree_layout.proofs.Sizes.{list-zero, list-more}
 
 pub leaf-is : (place : ℕ) (list : List Element)
     → leafMark place list ≡ record { place = place; least = firstDistance list; greatest = lastFrom 0 list; list = list }
@@ -21,12 +23,14 @@ unfolding firstDistance
 first-more e es = refl
 
 -- the first of n + 1 pairs from a place on
-pub first-read : (p : List ℕ) (n at : ℕ) → firstDistance (readList p (suc n) at) ≡ u32At p at
+pub first-read : (v : ℕ) (p : List ℕ) (n at : ℕ) → firstDistance (readList v p (suc n) at) ≡ u32At p at
 unfolding firstDistance readList elementAt
-first-read p n at = refl
+first-read v p n at = refl
 
 -- the last of them
-pub last-read : (p : List ℕ) (n x at : ℕ) → lastFrom x (readList p (suc n) at) ≡ u32At p (at + 6 * n)
+pub last-read : (v : ℕ) (p : List ℕ) (n x at : ℕ) → lastFrom x (readList v p (suc n) at) ≡ u32At p (at + listSize v n)
 unfolding lastFrom readList elementAt
-last-read p zero x at = let e : at ≡ at + 6 * 0 = omega arith in rw (← e) refl
-last-read p (suc n) x at = let e : (at + 6) + 6 * n ≡ at + 6 * suc n = omega arith in rw (← e) (last-read p n (u32At p at) (at + 6))
+last-read v p zero x at = let e : at ≡ at + listSize v 0 = omega (arith, list-zero v) in rw (← e) refl
+last-read v p (suc n) x at =
+    let e : (at + elementSize v) + listSize v n ≡ at + listSize v (suc n) = omega (arith, list-more v n) in
+    rw (← e) (last-read v p n (u32At p at) (at + elementSize v))

@@ -17,7 +17,7 @@ module _ (b : List ℕ) where
   pub tree-layout-tests : FirstFailing (treeLayoutTests b) (treeLayoutRefusal b)
   unfolding treeLayoutRefusal placeOf decode
   tree-layout-tests =
-      first-join (openTests b 7) _ (openRefusal b 7) _ tt (open-tests b 7) (λ _.
+      first-join (openTests b 2 7) _ (openRefusal b 2 7) _ tt (open-tests b 2 7) (λ _.
       first-test (between 1 1024 (junctionCount b)) 3 _ _ (between-both 1 1024 (junctionCount b)) (both-between 1 1024 (junctionCount b)) (λ _.
       first-test (between 1 511 (regionCount b)) 3 _ _ (between-both 1 511 (regionCount b)) (both-between 1 511 (regionCount b)) (λ _.
       first-test (between 1 256 (treeYardCount b)) 3 _ _ (between-both 1 256 (treeYardCount b)) (both-between 1 256 (treeYardCount b)) (λ _.

@@ -6,7 +6,9 @@ use Prim.Native.Nat.{ℕ, zero, suc, _+_, _≤_, _<_}
 use native.Mathlib.Omega.{arith}
 use lib.ListN.{length}
 use Rattle.book.specs.Bytes.{u8At, u16At, u32At, Bytes}
+use Rattle.book.specs.Open.{version}
 use Rattle.book.proofs.Laws.{u32-small}
+use Rattle.tree_layout.specs.Sizes.{fieldsSize}
 use Rattle.tree_layout.specs.Values.{Element, Mark, Region, leafMark, innerMark, firstDistance, noRegion, regionAt}
 use Rattle.tree_layout.specs.Decode.{readSpans, readRegion, decode, regionCount, landmarkCount, placeOf}
 use Rattle.tree_layout.proofs.Formed.{marks-spans}
@@ -30,7 +32,7 @@ least-small b h j s c k m =
     let at : ℕ = placeOf b j in
     let n : 0 < u8At b (at + 4) = rw e at c in
     let i : Mem k (readRegion b (landmarkCount b) at .marks) = rw e at m in
-    spans-small b h (landmarkCount b) (at + 7) k (rw (marks-spans b (landmarkCount b) (u8At b (at + 4)) (u16At b (at + 5)) (at + 7) n) at i)
+    spans-small b h (landmarkCount b) (at + fieldsSize (version b)) k (rw (marks-spans b (landmarkCount b) (u8At b (at + 4)) (u16At b (at + 5)) (at + fieldsSize (version b)) n) at i)
 
 -- a list that isn't empty has its first distance
 pub first-of : (es : List Element) → es ≢ [] → (e : Element) × Mem e es × (firstDistance es ≡ e .distance)

@@ -1,21 +1,43 @@
 -- The test of a landmark and of a region, from the fields that the reader finds. Assumes nothing.
 use mathlib.Core.Path.{_≡_, sym, ap, _∙_}
+use mathlib.Core.Logic.{_⊎_, inl, inr}
 use mathlib.Core.Bool.{Bool, true, false}
 use mathlib.Core.List.{List}
 use Prim.Native.Nat.{ℕ, _+_, _*_, _-_, _≤_, _<_}
 use native.Mathlib.Omega.{arith}
 use borrow.Author.Tests.{lt-ltb, le-ltb, le-leb, lt-leb, eq-eqb, ne-eqb}
-use lib.ListN.{take, drop}
-use lib.Dec.{leb, eqb}
+use lib.ListN.{length}
+use lib.Dec.{T, leb, eqb}
 use Rattle.book.specs.Choose.{choose}
 use Rattle.book.specs.Bytes.{u8At, u16At, u32At}
-use Rattle.book.proofs.Choosing.{choose-yes, choose-no, true-T, false-T}
-use Rattle.tree_layout.specs.Values.{Mark, Region, leafMark, innerMark}
-use Rattle.tree_layout.specs.Decode.{readList, listPart, readLists, readSpans, readMarks, readRegion}
-use Rattle.tree_layout.specs.Refusal.{all, listOk, markOk, childrenOk, regionOk}
+use Rattle.book.specs.Open.{version}
+use Rattle.kinds.specs.Kinds.{kindAt}
+use Rattle.tree_layout.specs.Sizes.{fieldsSize, leafMarkSize}
+use Rattle.book.proofs.Choosing.{choose-yes, choose-no, true-T, false-T, lt-or-ge}
+use Rattle.tree_layout.specs.Values.{Element, Mark, Region, leafMark, innerMark}
+use Rattle.tree_layout.specs.Decode.{readList, listPart, readLists, readSpans, readMarks, readRegion, sizeAt}
+use Rattle.tree_layout.specs.Refusal.{all, elementOk, listOk, markOk, childrenOk, regionOk}
 use Rattle.tree_layout.specs.Reading.{bounded}
-use Rattle.tree_layout.proofs.Reading.{list-part}
+use Rattle.tree_layout.specs.code.Accessors.{fieldsAt}
+use Rattle.tree_layout.specs.declared.Fields.{Fields}
+use Rattle.tree_layout.proofs.Places.{mark-size-leaf, mark-size-inner, size-at}
 use Rattle.tree_layout.proofs.Turns.{all-same}
+
+-- ---- an element
+
+pub element-far : (e : Element) → 67042305 < e .distance → elementOk e ≡ false
+unfolding elementOk
+element-far e h = simp lt-leb
+
+-- within the limit, the test is whether there is a kind
+pub element-near : (e : Element) (ok : Bool) → e .distance ≤ 67042305 → (T ok → 1 ≤ e .kinds) → (1 ≤ e .kinds → T ok) → ok ≡ elementOk e
+unfolding elementOk
+element-near e true h f g = let k = f tt in simp le-leb
+element-near e false h f g = let k : e .kinds < 1 = fewer (lt-or-ge (e .kinds) 1) in simp (le-leb, lt-leb)
+  where
+    fewer : (e .kinds < 1) ⊎ (1 ≤ e .kinds) → e .kinds < 1
+    fewer (inl l) = l
+    fewer (inr l) = absurd (g l)
 
 -- ---- a landmark
 
@@ -37,21 +59,21 @@ module _ (r : Region) (k : Mark) (place : ℕ) (e : place ≡ k .place) where
 
 -- the landmark of a leaf
 module _ (b : List ℕ) (at first end yards place : ℕ) (e : place ≡ u16At b at) where
-  pub leaf-low : place < first → markOk (bounded first end 0) (leafMark (u16At b at) (readList (listPart b yards (at + 2)) yards 0)) ≡ false
+  pub leaf-low : place < first → markOk (bounded first end 0) (leafMark (u16At b at) (readList (version b) (listPart (version b) b yards (at + 2)) yards 0)) ≡ false
   unfolding leafMark
   leaf-low h = mark-low _ _ place e h
 
-  pub leaf-high : first ≤ place → end ≤ place → markOk (bounded first end 0) (leafMark (u16At b at) (readList (listPart b yards (at + 2)) yards 0)) ≡ false
+  pub leaf-high : first ≤ place → end ≤ place → markOk (bounded first end 0) (leafMark (u16At b at) (readList (version b) (listPart (version b) b yards (at + 2)) yards 0)) ≡ false
   unfolding leafMark
   leaf-high h l = mark-high _ _ place e h l
 
-  -- the list that is handed on is the book's part from `a` to `z`
-  pub leaf-list : first ≤ place → place < end → (a z : ℕ) → a ≡ at + 2 → z ≡ a + 6 * yards
-      → (ok : Bool) → ok ≡ listOk (readList (take (z - a) (drop a b)) yards 0)
-      → ok ≡ markOk (bounded first end 0) (leafMark (u16At b at) (readList (listPart b yards (at + 2)) yards 0))
+  -- the list that is handed on is the book's part of so many elements
+  pub leaf-list : first ≤ place → place < end → (v : ℕ) (p : List ℕ) → v ≡ version b → p ≡ listPart (version b) b yards (at + 2)
+      → (ok : Bool) → ok ≡ listOk (readList v p yards 0)
+      → ok ≡ markOk (bounded first end 0) (leafMark (u16At b at) (readList (version b) (listPart (version b) b yards (at + 2)) yards 0))
   unfolding leafMark
-  leaf-list h l a z ea ez ok f =
-      let g : ok ≡ listOk (readList (listPart b yards (at + 2)) yards 0) = rw (← ea, ← list-part b yards a z ez) f in
+  leaf-list h l v p ev ep ok f =
+      let g : ok ≡ listOk (readList (version b) (listPart (version b) b yards (at + 2)) yards 0) = rw (← ep, ← ev) f in
       g ∙ sym (mark-in (bounded first end 0) _ place e h l ∙ choose-yes (eqb 0 0) _ _ tt)
 
 -- the landmark of an inner region
@@ -97,46 +119,94 @@ module _ (j : ℕ) (r : Region) where
         unfolding regionOk
         no-yards y = simp (lt-ltb, le-leb, c, lt-leb)
 
-        marks-decide : 1 ≤ r .yards → regionOk j r ≡ all (markOk r) (r .marks)
-        unfolding regionOk
-        marks-decide y = simp (lt-ltb, le-leb, c)
+        module _ (y : 1 ≤ r .yards) where
+          no-kinds : r .kinds < 1 → regionOk j r ≡ false
+          unfolding regionOk
+          no-kinds k = simp (lt-ltb, le-leb, c, lt-leb)
+
+          marks-decide : 1 ≤ r .kinds → regionOk j r ≡ all (markOk r) (r .marks)
+          unfolding regionOk
+          marks-decide k = simp (lt-ltb, le-leb, c)
 
 -- the region at a place, with its fields as the reader finds them
-module _ (b : List ℕ) (m at j first end children yards : ℕ)
-    (e1 : first ≡ u16At b at) (e2 : end ≡ u16At b (at + 2)) (e3 : children ≡ u8At b (at + 4)) (e4 : yards ≡ u16At b (at + 5)) where
-  pub region-empty : end ≤ first → regionOk j (readRegion b m at) ≡ false
+module _ (b : List ℕ) (m at j : ℕ) (f : Fields) (e : f ≡ fieldsAt b at) where
+  e1 : f .first .number ≡ u16At b at
+  e1 = ap (λ (x : Fields). x .first .number) e
+
+  e2 : f .after ≡ u16At b (at + 2)
+  e2 = ap (λ (x : Fields). x .after) e
+
+  e3 : f .children ≡ u8At b (at + 4)
+  e3 = ap (λ (x : Fields). x .children) e
+
+  e4 : f .yards ≡ u16At b (at + 5)
+  e4 = ap (λ (x : Fields). x .yards) e
+
+  e5 : f .kinds ≡ kindAt (version b) b (at + 7)
+  e5 = ap (λ (x : Fields). x .kinds) e
+
+  pub region-empty : f .after ≤ f .first .number → regionOk j (readRegion b m at) ≡ false
   unfolding readRegion
-  region-empty h = empty _ _ (omega arith)
+  region-empty h = empty _ _ (omega (arith, e1, e2))
 
-  module _ (h : first < end) where
-    pub region-past : j < end → regionOk j (readRegion b m at) ≡ false
+  module _ (h : f .first .number < f .after) where
+    pub region-past : j < f .after → regionOk j (readRegion b m at) ≡ false
     unfolding readRegion
-    region-past l = past _ _ (omega arith) (omega arith)
+    region-past l = past _ _ (omega (arith, e1, e2)) (omega (arith, e2))
 
-    module _ (l : end ≤ j) where
-      pub region-children : childrenOk children ≡ false → regionOk j (readRegion b m at) ≡ false
+    module _ (l : f .after ≤ j) where
+      pub region-children : childrenOk (f .children) ≡ false → regionOk j (readRegion b m at) ≡ false
       unfolding readRegion
-      region-children c = other-children _ _ (omega arith) (omega arith) (rw (← e3) c)
+      region-children c = other-children _ _ (omega (arith, e1, e2)) (omega (arith, e2)) (rw (← e3) c)
 
-      module _ (c : childrenOk children ≡ true) where
-        pub region-none : yards < 1 → regionOk j (readRegion b m at) ≡ false
+      module _ (c : childrenOk (f .children) ≡ true) where
+        pub region-none : f .yards < 1 → regionOk j (readRegion b m at) ≡ false
         unfolding readRegion
-        region-none y = no-yards _ _ (omega arith) (omega arith) (rw (← e3) c) (omega arith)
+        region-none y = no-yards _ _ (omega (arith, e1, e2)) (omega (arith, e2)) (rw (← e3) c) (omega (arith, e4))
 
-        marks : 1 ≤ yards → regionOk j (readRegion b m at) ≡ all (markOk (readRegion b m at)) (readMarks b m children yards (at + 7))
-        unfolding readRegion
-        marks y = rw (e3, e4) (marks-decide j (readRegion b m at) (omega arith) (omega arith) (rw (← e3) c) (omega arith))
+        module _ (y : 1 ≤ f .yards) where
+          pub region-kindless : f .kinds < 1 → regionOk j (readRegion b m at) ≡ false
+          unfolding readRegion
+          region-kindless k = no-kinds _ _ (omega (arith, e1, e2)) (omega (arith, e2)) (rw (← e3) c) (omega (arith, e4)) (omega (arith, e5))
 
-        pub region-leaf : 1 ≤ yards → children ≡ 0 → regionOk j (readRegion b m at) ≡ all (markOk (bounded first end 0)) (readLists b yards m (at + 7))
-        unfolding readRegion readMarks
-        region-leaf y z =
-            marks y
-            ∙ ap (λ (x : List Mark). all (markOk (readRegion b m at)) x) (choose-yes (eqb children 0) _ _ (true-T (eq-eqb _ _ z)))
-            ∙ all-same _ _ _ (mark-as _ _ (sym e1) (sym e2) (eq-eqb _ _ (sym e3 ∙ z)))
+          module _ (k : 1 ≤ f .kinds) where
+            marks : regionOk j (readRegion b m at) ≡ all (markOk (readRegion b m at)) (readMarks b m (f .children) (f .yards) (at + fieldsSize (version b)))
+            unfolding readRegion
+            marks =
+                rw (e3, e4) (marks-decide j (readRegion b m at) (omega (arith, e1, e2)) (omega (arith, e2)) (rw (← e3) c) (omega (arith, e4)) (omega (arith, e5)))
 
-        pub region-inner : 1 ≤ yards → (children ≡ 0 → ⊥) → regionOk j (readRegion b m at) ≡ all (markOk (bounded first end 1)) (readSpans b m (at + 7))
-        unfolding readRegion readMarks
-        region-inner y z =
-            marks y
-            ∙ ap (λ (x : List Mark). all (markOk (readRegion b m at)) x) (choose-no (eqb children 0) _ _ (false-T (ne-eqb _ _ z)))
-            ∙ all-same _ _ _ (mark-as _ _ (sym e1) (sym e2) (ne-eqb _ _ (λ q. z (e3 ∙ q))))
+            pub region-leaf : f .children ≡ 0
+                → regionOk j (readRegion b m at) ≡ all (markOk (bounded (f .first .number) (f .after) 0)) (readLists b (f .yards) m (at + fieldsSize (version b)))
+            unfolding readRegion readMarks
+            region-leaf z =
+                marks
+                ∙ ap (λ (x : List Mark). all (markOk (readRegion b m at)) x) (choose-yes (eqb (f .children) 0) _ _ (true-T (eq-eqb _ _ z)))
+                ∙ all-same _ _ _ (mark-as _ _ (sym e1) (sym e2) (eq-eqb _ _ (sym e3 ∙ z)))
+
+            pub region-inner : (f .children ≡ 0 → ⊥)
+                → regionOk j (readRegion b m at) ≡ all (markOk (bounded (f .first .number) (f .after) 1)) (readSpans b m (at + fieldsSize (version b)))
+            unfolding readRegion readMarks
+            region-inner z =
+                marks
+                ∙ ap (λ (x : List Mark). all (markOk (readRegion b m at)) x) (choose-no (eqb (f .children) 0) _ _ (false-T (ne-eqb _ _ z)))
+                ∙ all-same _ _ _ (mark-as _ _ (sym e1) (sym e2) (ne-eqb _ _ (λ q. z (e3 ∙ q))))
+
+-- a record that lies in the book has room for its landmarks
+module _ (b : List ℕ) (m at : ℕ) (f : Fields) (e : f ≡ fieldsAt b at) where
+  pub leaf-room : f .children ≡ 0 → at + sizeAt b m at ≤ length b → (at + fieldsSize (version b)) + m * leafMarkSize (version b) (f .yards) ≤ length b
+  leaf-room z h =
+      let s = mark-size-leaf (version b) (f .children) (f .yards) z in
+      let t : sizeAt b m at ≡ fieldsSize (version b) + m * leafMarkSize (version b) (f .yards) =
+      rw (← s, children-is, yards-is) (size-at b m at) in
+      omega (arith, h, t)
+    where
+      children-is : f .children ≡ u8At b (at + 4)
+      children-is = ap (λ (x : Fields). x .children) e
+
+      yards-is : f .yards ≡ u16At b (at + 5)
+      yards-is = ap (λ (x : Fields). x .yards) e
+
+  pub inner-room : (f .children ≡ 0 → ⊥) → at + sizeAt b m at ≤ length b → (at + fieldsSize (version b)) + m * 10 ≤ length b
+  inner-room z h =
+      let s = mark-size-inner (version b) (u8At b (at + 4)) (u16At b (at + 5)) (omega (arith, z, ap (λ (x : Fields). x .children) e)) in
+      omega (arith, h, size-at b m at, ap (λ (x : ℕ). m * x) s)

@@ -2,15 +2,19 @@
 use mathlib.Core.Path.{_≡_, refl}
 use mathlib.Core.Bool.{Bool, true, _&&_}
 use mathlib.Core.List.{List, [], _∷_}
-use Prim.Native.Nat.{ℕ, suc, _+_, _-_, _*_, _≤_, _<_}
+use Prim.Native.Nat.{ℕ, suc, _+_, _-_, _≤_, _<_}
 use native.Mathlib.Omega.{arith}
 use lib.ListN.{take, drop}
 use Rattle.book.specs.Bytes.{u8At, u16At}
+use Rattle.book.specs.Open.{version}
+use Rattle.kinds.specs.Kinds.{kindAt}
+use Rattle.tree_layout.specs.Sizes.{fieldsSize, elementSize, listSize, leafMarkSize}
 use Rattle.tree_layout.specs.Values.{Element, leafMark, innerMark}
 use Rattle.tree_layout.specs.Decode.{elementAt, readList, listPart, readLists, readRegion, junctionCount, regionCount, treeYardCount, landmarkCount}
 use Rattle.tree_layout.specs.Refusal.{all}
 use Rattle.tree_layout.specs.Reading.{layoutCase, layoutNumber, headerOf}
 use Rattle.tree_layout.specs.declared.TreeBook.the-variants.{Refused}
+use Rattle.tree_layout.proofs.Sizes.{list-next}
 use Rattle.tree_layout.proofs.Formed.{marks-lists}
 
 -- ---- a test over a list, one member at a time
@@ -25,23 +29,29 @@ all-next f x xs = refl
 
 -- ---- pairs
 
-pub element-yard : (p : List ℕ) (at : ℕ) → elementAt p at .yard ≡ u16At p (at + 4)
+pub element-yard : (v : ℕ) (p : List ℕ) (at : ℕ) → elementAt v p at .yard ≡ u16At p (at + 4)
 unfolding elementAt
-element-yard p at = refl
+element-yard v p at = refl
 
 -- n - k pairs from a place on are the pair there and the others after it
-pub list-turn : (p : List ℕ) (n k at : ℕ) → k < n → readList p (n - k) at ≡ elementAt p at ∷ readList p (n - (k + 1)) (at + 6)
+pub list-turn : (v : ℕ) (p : List ℕ) (n k at : ℕ) → k < n
+    → readList v p (n - k) at ≡ elementAt v p at ∷ readList v p (n - (k + 1)) (at + elementSize v)
 unfolding readList
-list-turn p n k at h = let s : n - k ≡ suc (n - (k + 1)) = omega arith in rw s refl
+list-turn v p n k at h = let s : n - k ≡ suc (n - (k + 1)) = omega arith in rw s refl
 
-pub list-none : (p : List ℕ) (n k at : ℕ) → n ≤ k → readList p (n - k) at ≡ []
+-- element number k of a list, and the later ones
+pub list-on : (v : ℕ) (p : List ℕ) (n k : ℕ) → k < n
+    → readList v p (n - k) (listSize v k) ≡ elementAt v p (listSize v k) ∷ readList v p (n - (k + 1)) (listSize v (k + 1))
+list-on v p n k h = rw (list-next v k) (list-turn v p n k (listSize v k) h)
+
+pub list-none : (v : ℕ) (p : List ℕ) (n k at : ℕ) → n ≤ k → readList v p (n - k) at ≡ []
 unfolding readList
-list-none p n k at h = let s : n - k ≡ 0 = omega arith in rw s refl
+list-none v p n k at h = let s : n - k ≡ 0 = omega arith in rw s refl
 
 -- the part of the book from a up to e that has n pairs
-pub list-part : (b : List ℕ) (n a e : ℕ) → e ≡ a + 6 * n → take (e - a) (drop a b) ≡ listPart b n a
+pub list-part : (v : ℕ) (b : List ℕ) (n a e : ℕ) → e ≡ a + listSize v n → take (e - a) (drop a b) ≡ listPart v b n a
 unfolding listPart
-list-part b n a e h = let s : e - a ≡ 6 * n = omega arith in rw s refl
+list-part v b n a e h = let s : e - a ≡ listSize v n = omega arith in rw s refl
 
 -- ---- a leaf's landmarks
 
@@ -66,8 +76,9 @@ unfolding innerMark
 inner-greatest place least greatest = refl
 
 pub lists-turn : (b : List ℕ) (yards m k at : ℕ) → k < m
-    → readLists b yards (m - k) at ≡ leafMark (u16At b at) (readList (listPart b yards (at + 2)) yards 0) ∷ readLists b yards (m - (k + 1)) (at + (2 + 6 *
-    yards))
+    → readLists b yards (m - k) at
+    ≡ leafMark (u16At b at) (readList (version b) (listPart (version b) b yards (at + 2)) yards 0)
+    ∷ readLists b yards (m - (k + 1)) (at + leafMarkSize (version b) yards)
 unfolding readLists
 lists-turn b yards m k at h = let s : m - k ≡ suc (m - (k + 1)) = omega arith in rw s refl
 
@@ -94,9 +105,13 @@ module _ (b : List ℕ) (m at : ℕ) where
   unfolding readRegion
   region-yards = refl
 
-  pub region-lists : u8At b (at + 4) ≡ 0 → readRegion b m at .marks ≡ readLists b (u16At b (at + 5)) m (at + 7)
+  pub region-kinds : readRegion b m at .kinds ≡ kindAt (version b) b (at + 7)
   unfolding readRegion
-  region-lists h = marks-lists b m (u8At b (at + 4)) (u16At b (at + 5)) (at + 7) h
+  region-kinds = refl
+
+  pub region-lists : u8At b (at + 4) ≡ 0 → readRegion b m at .marks ≡ readLists b (u16At b (at + 5)) m (at + fieldsSize (version b))
+  unfolding readRegion
+  region-lists h = marks-lists b m (u8At b (at + 4)) (u16At b (at + 5)) (at + fieldsSize (version b)) h
 
 -- ---- the header's fields
 
@@ -122,6 +137,10 @@ module _ (b : List ℕ) where
 pub refused-answer : (why : ℕ) → layoutNumber (Refused why) ≡ why
 unfolding layoutCase layoutNumber
 refused-answer why = refl
+
+pub header-version : (b : List ℕ) → headerOf b .version ≡ version b
+unfolding headerOf
+header-version b = refl
 
 pub header-junctions : (b : List ℕ) → headerOf b .junctions ≡ junctionCount b
 unfolding headerOf

@@ -4,12 +4,13 @@ use mathlib.Core.List.{List}
 use Prim.Native.Nat.{ℕ, zero, suc, _+_, _*_, _-_, _≤_, _<_}
 use native.Mathlib.Nat.{suc-mul, mul-le-mul-right}
 use native.Mathlib.Omega.{arith}
-use lib.ListN.{length, getD, take, drop}
+use lib.ListN.{length, getD}
 use Rattle.book.specs.Bytes.{u8At, u16At, u32At}
-use Rattle.tree_layout.specs.Values.{noMark, leafMark, innerMark, firstDistance, lastFrom}
+use Rattle.book.specs.Open.{version}
+use Rattle.tree_layout.specs.Sizes.{fieldsSize, listSize, leafMarkSize}
+use Rattle.tree_layout.specs.Values.{Element, noMark, leafMark, innerMark, firstDistance, lastFrom}
 use Rattle.tree_layout.specs.Decode.{markSize, sizeAt, readList, listPart, landmarkCount}
 use Rattle.tree_layout.proofs.Places.{mark-size-leaf, mark-size-inner, size-at, size-least}
-use Rattle.tree_layout.proofs.Reading.{list-part}
 use Rattle.tree_layout.proofs.Ends.{leaf-is, inner-is, first-read, last-read}
 use Rattle.tree_layout.proofs.MarkPlaces.{region-marks, leaf-mark-at, inner-mark-at}
 use Rattle.tree_layout.specs.declared.Landmark.{Landmark}
@@ -18,40 +19,40 @@ use Rattle.tree_layout.specs.code.Marks.{markPlace, marksAt, landmarkOf,
 -- ---- a landmark's bytes
 
 module _ (b : List ℕ) (at children yards : ℕ) (e : children ≡ u8At b (at + 4)) where
-  pub size-inner : (children ≡ 0 → ⊥) → 10 ≡ markSize (u8At b (at + 4)) (u16At b (at + 5))
-  size-inner h = sym (mark-size-inner (u8At b (at + 4)) (u16At b (at + 5)) (omega arith))
+  pub size-inner : (children ≡ 0 → ⊥) → 10 ≡ markSize (version b) (u8At b (at + 4)) (u16At b (at + 5))
+  size-inner h = sym (mark-size-inner (version b) (u8At b (at + 4)) (u16At b (at + 5)) (omega arith))
 
-  pub size-leaf : yards ≡ u16At b (at + 5) → children ≡ 0 → 2 + 6 * yards ≡ markSize (u8At b (at + 4)) (u16At b (at + 5))
-  size-leaf f h = rw f (sym (mark-size-leaf (u8At b (at + 4)) (u16At b (at + 5)) (sym e ∙ h)))
+  pub size-leaf : yards ≡ u16At b (at + 5) → children ≡ 0 → leafMarkSize (version b) yards ≡ markSize (version b) (u8At b (at + 4)) (u16At b (at + 5))
+  size-leaf f h = rw f (sym (mark-size-leaf (version b) (u8At b (at + 4)) (u16At b (at + 5)) (sym e ∙ h)))
 
 -- ---- where it stands
 
 module _ (b : List ℕ) (at : ℕ) (r : RecordAt b at) where
-  -- the record's first seven bytes lie in the book
-  pub fields-inside : at + 7 ≤ length b
+  -- the record's fields lie in the book
+  pub fields-inside : at + fieldsSize (version b) ≤ length b
   fields-inside = omega (arith, size-least b (landmarkCount b) at, r .inside)
 
   module _ (j : ℕ) (h : j < landmarkCount b) where
     -- and so does landmark j, of a size
-    pub mark-inside : (size : ℕ) → size ≡ markSize (u8At b (at + 4)) (u16At b (at + 5)) → ((at + 7) + j * size) + size ≤ length b
+    pub mark-inside : (size : ℕ) → size ≡ markSize (version b) (u8At b (at + 4)) (u16At b (at + 5)) → ((at + fieldsSize (version b)) + j * size) + size ≤ length b
     mark-inside size e =
-        let s : sizeAt b (landmarkCount b) at ≡ 7 + landmarkCount b * size = rw e (size-at b (landmarkCount b) at) in
+        let s : sizeAt b (landmarkCount b) at ≡ fieldsSize (version b) + landmarkCount b * size = rw e (size-at b (landmarkCount b) at) in
         let m : suc j * size ≤ landmarkCount b * size = mul-le-mul-right size h in
         omega (arith, suc-mul j size, r .inside)
 
-    pub place-is : (size : ℕ) → size ≡ markSize (u8At b (at + 4)) (u16At b (at + 5)) → (at + 7) + j * size ≡ markPlace b at j
+    pub place-is : (size : ℕ) → size ≡ markSize (version b) (u8At b (at + 4)) (u16At b (at + 5)) → (at + fieldsSize (version b)) + j * size ≡ markPlace b at j
     unfolding markPlace
     place-is size e = rw e refl
 
     module _ (p : ℕ) (e : p ≡ markPlace b at j) where
-      place : p ≡ (at + 7) + j * markSize (u8At b (at + 4)) (u16At b (at + 5))
+      place : p ≡ (at + fieldsSize (version b)) + j * markSize (version b) (u8At b (at + 4)) (u16At b (at + 5))
       unfolding markPlace
       place = e
 
       -- an inner region's landmark lies in the book
       pub span-inside : (children : ℕ) → children ≡ u8At b (at + 4) → (children ≡ 0 → ⊥) → p + 10 ≤ length b
       span-inside children f z =
-          omega (arith, place, mark-inside (markSize (u8At b (at + 4)) (u16At b (at + 5))) refl, size-inner b at children 0 f z)
+          omega (arith, place, mark-inside (markSize (version b) (u8At b (at + 4)) (u16At b (at + 5))) refl, size-inner b at children 0 f z)
 
       pub span-is : (children : ℕ) → children ≡ u8At b (at + 4) → (children ≡ 0 → ⊥) → (l : Landmark)
           → l ≡ landmarkOf (innerMark (u16At b p) (u32At b (p + 2)) (u32At b (p + 6))) → l ≡ landmarkOf (getD (marksAt b at) j noMark)
@@ -60,14 +61,14 @@ module _ (b : List ℕ) (at : ℕ) (r : RecordAt b at) where
 
       -- a leaf's
       module _ (children yards : ℕ) (f : children ≡ u8At b (at + 4)) (z : children ≡ 0) (y : yards ≡ u16At b (at + 5)) where
-        pub list-inside : p + (2 + 6 * yards) ≤ length b
-        list-inside = omega (arith, place, mark-inside (markSize (u8At b (at + 4)) (u16At b (at + 5))) refl, size-leaf b at children yards f y z)
+        pub list-inside : p + leafMarkSize (version b) yards ≤ length b
+        list-inside = omega (arith, place, mark-inside (markSize (version b) (u8At b (at + 4)) (u16At b (at + 5))) refl, size-leaf b at children yards f y z)
 
-        pub list-is : (a n u : ℕ) (l : Landmark) → a ≡ p + 2 → n ≡ a + 6 * yards → u ≡ u16At b p
-            → l ≡ landmarkOf (leafMark u (readList (take (n - a) (drop a b)) yards 0)) → l ≡ landmarkOf (getD (marksAt b at) j noMark)
+        pub list-is : (u : ℕ) (q : List ℕ) (v : ℕ) (l : Landmark) → u ≡ u16At b p → q ≡ listPart (version b) b yards (p + 2) → v ≡ version b
+            → l ≡ landmarkOf (leafMark u (readList v q yards 0)) → l ≡ landmarkOf (getD (marksAt b at) j noMark)
         unfolding marksAt
-        list-is a n u l ea en eu g =
-            let k : l ≡ landmarkOf (leafMark (u16At b p) (readList (listPart b yards (p + 2)) yards 0)) = rw (← eu, ← ea, ← list-part b yards a n en)
+        list-is u q v l eu eq ev g =
+            let k : l ≡ landmarkOf (leafMark (u16At b p) (readList (version b) (listPart (version b) b yards (p + 2)) yards 0)) = rw (← eu, ← eq, ← ev)
             g in
             k ∙ ap landmarkOf (rw y (sym (leaf-mark-at b (landmarkCount b) at j p noMark h place (sym f ∙ z))))
 
@@ -80,16 +81,17 @@ same-landmark : (u a z a′ z′ : ℕ) → a ≡ a′ → z ≡ z′ → landma
 same-landmark u a z a′ z′ e f = rw (e, f) refl
 
 -- of a list of n pairs
-pub list-ends : (p : List ℕ) (u n a z : ℕ) → 1 ≤ n → a ≡ u32At p 0 → z ≡ u32At p (6 * (n - 1)) → (l : Landmark)
-    → l ≡ record { place = record { number = u }; least = a; greatest = z } → l ≡ landmarkOf (leafMark u (readList p n 0))
+pub list-ends : (v : ℕ) (p : List ℕ) (u n a z : ℕ) → 1 ≤ n → a ≡ u32At p 0 → z ≡ u32At p (listSize v (n - 1)) → (l : Landmark)
+    → l ≡ record { place = record { number = u }; least = a; greatest = z } → l ≡ landmarkOf (leafMark u (readList v p n 0))
 unfolding landmarkOf landmark
-list-ends p u zero a z h e f l g = absurd (omega arith)
-list-ends p u (suc n) a z h e f l g =
+list-ends v p u zero a z h e f l g = absurd (omega arith)
+list-ends v p u (suc n) a z h e f l g =
     let s : suc n - 1 ≡ n = omega arith in
-    let t : 0 + 6 * n ≡ 6 * n = omega arith in
-    let first : a ≡ firstDistance (readList p (suc n) 0) = e ∙ sym (first-read p n 0) in
-    let last : z ≡ lastFrom 0 (readList p (suc n) 0) = rw s at f ∙ sym (rw t at (last-read p n 0 0)) in
-    g ∙ rw (leaf-is u (readList p (suc n) 0)) (same-landmark u a z (firstDistance (readList p (suc n) 0)) (lastFrom 0 (readList p (suc n) 0)) first last)
+    let t : 0 + listSize v n ≡ listSize v n = omega arith in
+    let es : List Element = readList v p (suc n) 0 in
+    let first : a ≡ firstDistance es = e ∙ sym (first-read v p n 0) in
+    let last : z ≡ lastFrom 0 es = rw s at f ∙ sym (rw t at (last-read v p n 0 0)) in
+    g ∙ rw (leaf-is u es) (same-landmark u a z (firstDistance es) (lastFrom 0 es) first last)
 
 -- of a span
 pub span-ends : (b : List ℕ) (at u a z : ℕ) → u ≡ u16At b at → a ≡ u32At b (at + 2) → z ≡ u32At b (at + 6) → (l : Landmark)

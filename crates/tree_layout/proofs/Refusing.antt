@@ -16,12 +16,12 @@ use Rattle.tree_layout.specs.declared.Header.{Header}
 use Rattle.tree_layout.specs.declared.TreeBook.the-variants.{Laid, Refused}
 
 -- a book that does not open
-pub unopened : (b : List ℕ) (why : ℕ) → openRefusal b 7 ≡ why → 1 ≤ why → treeLayoutRefusal b ≡ why
+pub unopened : (b : List ℕ) (why : ℕ) → openRefusal b 2 7 ≡ why → 1 ≤ why → treeLayoutRefusal b ≡ why
 unfolding treeLayoutRefusal
 unopened b why e h = first-earlier _ _ (omega arith) ∙ e
 
 -- the tests after the opening
-module _ (b : List ℕ) (o : openRefusal b 7 ≡ 0) where
+module _ (b : List ℕ) (o : openRefusal b 2 7 ≡ 0) where
   opened : treeLayoutRefusal b
       ≡ refuse (between 1 1024 (junctionCount b)) 3
       (refuse (between 1 511 (regionCount b)) 3
@@ -153,8 +153,5 @@ case-is (suc n) h = refl
 pub answers-refused : (b : List ℕ) (why : ℕ) → why ≡ treeLayoutRefusal b → (why ≡ 0 → ⊥) → Refused why ≡ treeBook (treeLayoutRefusal b) (headerOf b)
 answers-refused b why e h = rw (← e) (sym (answer-refused why (headerOf b) (omega arith)))
 
-pub answers-laid : (b : List ℕ) (junctions regions yards landmarks : ℕ) → treeLayoutRefusal b ≡ 0
-    → junctions ≡ u16At b 5 → regions ≡ u16At b 7 → yards ≡ u16At b 9 → landmarks ≡ u8At b 11
-    → Laid (record { junctions = junctions; regions = regions; yards = yards; landmarks = landmarks }) ≡ treeBook (treeLayoutRefusal b) (headerOf b)
-unfolding headerOf junctionCount regionCount treeYardCount landmarkCount
-answers-laid b junctions regions yards landmarks e p q r s = rw (p, q, r, s) (sym (answer-laid (treeLayoutRefusal b) (headerOf b) e))
+pub answers-laid : (b : List ℕ) (h : Header) → treeLayoutRefusal b ≡ 0 → h ≡ headerOf b → Laid h ≡ treeBook (treeLayoutRefusal b) (headerOf b)
+answers-laid b h e f = rw f (sym (answer-laid (treeLayoutRefusal b) (headerOf b) e))

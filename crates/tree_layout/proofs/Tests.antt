@@ -11,7 +11,7 @@ use Rattle.book.specs.Choose.{choose}
 use Rattle.book.proofs.Choosing.{choose-case, choose-yes, choose-no, and-left, and-right, and-both}
 use Rattle.book.proofs.Lists.{or-left, or-right, or-cases, eq→eqb, ne→neqb, neqb→ne}
 use Rattle.tree_layout.specs.Values.{Element, Mark, Region, Tree}
-use Rattle.tree_layout.specs.Refusal.{between, all, near, comes, risesFrom, listRises, listOk, markOk, childrenOk, regionOk, valuesOk}
+use Rattle.tree_layout.specs.Refusal.{between, all, elementOk, comes, risesFrom, listRises, listOk, markOk, childrenOk, regionOk, valuesOk}
 use Rattle.tree_layout.specs.Facts.{Before, RisingFrom, Rising, RegionValues}
 
 -- ---- a test over a list
@@ -86,15 +86,17 @@ rising-rises (e ∷ es) r = rising-from e es r
 record MarkValues (r : Region) (m : Mark) : Type 0 where
   pub placed : (r .first ≤ m .place) × (m .place < r .after)
   pub near-all : r .children ≡ 0 → (e : Element) → Mem e (m .list) → e .distance ≤ 67042305
+  pub kinded-all : r .children ≡ 0 → (e : Element) → Mem e (m .list) → 1 ≤ e .kinds
   pub rising : r .children ≡ 0 → Rising (m .list)
   pub span : 0 < r .children → m .least ≤ m .greatest
 
 mark-values : (r : Region) (m : Mark) → T (markOk r m) → MarkValues r m
-unfolding markOk listOk near
+unfolding markOk listOk elementOk
 mark-values r m t = record {
   placed = (leb→le (r .first) (m .place) (and-left (leb (r .first) (m .place)) _ t), ltb→lt (m .place) (r .after) (and-left (ltb (m .place) (r .after)) _ t1));
-  near-all = λ c e k. leb→le (e .distance) 67042305 (all-mem near (m .list) (and-left (all near (m .list)) _ (list c)) e k);
-  rising = λ c. rises-rising (m .list) (and-right (all near (m .list)) _ (list c));
+  near-all = λ c e k. leb→le (e .distance) 67042305 (and-left (leb (e .distance) 67042305) _ (each c e k));
+  kinded-all = λ c e k. leb→le 1 (e .kinds) (and-right (leb (e .distance) 67042305) _ (each c e k));
+  rising = λ c. rises-rising (m .list) (and-right (all elementOk (m .list)) _ (list c));
   span = λ h. leb→le (m .least) (m .greatest) (rw (choose-no (eqb (r .children) 0) (listOk (m .list)) (leb (m .least) (m .greatest)) (ne→neqb (r .children) 0
       (omega arith))) at t2);
 }
@@ -105,19 +107,25 @@ mark-values r m t = record {
     t2 : T (choose (eqb (r .children) 0) (listOk (m .list)) (leb (m .least) (m .greatest)))
     t2 = and-right (ltb (m .place) (r .after)) _ t1
 
-    list : r .children ≡ 0 → T (all near (m .list) && listRises (m .list))
+    list : r .children ≡ 0 → T (all elementOk (m .list) && listRises (m .list))
     list c = rw (choose-yes (eqb (r .children) 0) (listOk (m .list)) (leb (m .least) (m .greatest)) (eq→eqb (r .children) 0 c)) at t2
 
+    each : r .children ≡ 0 → (e : Element) → Mem e (m .list) → T (leb (e .distance) 67042305 && leb 1 (e .kinds))
+    each c e k = all-mem elementOk (m .list) (and-left (all elementOk (m .list)) _ (list c)) e k
+
 values-mark : (r : Region) (m : Mark) → MarkValues r m → T (markOk r m)
-unfolding markOk listOk near
+unfolding markOk listOk elementOk
 values-mark r m v =
     and-both (leb (r .first) (m .place)) _ (le→leb (r .first) (m .place) (v .placed .0))
     (and-both (ltb (m .place) (r .after)) _ (lt→ltb (m .place) (r .after) (v .placed .1))
     (choose-case (λ (b : Bool). T b) (eqb (r .children) 0)
     (λ t. let c = eqb→eq (r .children) 0 t in
-    and-both (all near (m .list)) (listRises (m .list)) (all-intro near (m .list) (λ e k. le→leb (e .distance) 67042305 (v .near-all c e k))) (rising-rises (m
-    .list) (v .rising c)))
+    and-both (all elementOk (m .list)) (listRises (m .list)) (all-intro elementOk (m .list) (λ e k. each c e k)) (rising-rises (m .list) (v .rising c)))
     (λ t. le→leb (m .least) (m .greatest) (v .span (omega (arith, neqb→ne (r .children) 0 t))))))
+  where
+    each : r .children ≡ 0 → (e : Element) → Mem e (m .list) → T (leb (e .distance) 67042305 && leb 1 (e .kinds))
+    each c e k =
+        and-both (leb (e .distance) 67042305) (leb 1 (e .kinds)) (le→leb (e .distance) 67042305 (v .near-all c e k)) (le→leb 1 (e .kinds) (v .kinded-all c e k))
 
 -- ---- a region
 
@@ -144,20 +152,25 @@ region-values j r t = record {
   placed = λ m k. marks m k .placed;
   near = λ c m k. marks m k .near-all c;
   rising = λ c m k. marks m k .rising c;
+  kinds = leb→le 1 (r .kinds) (and-left (leb 1 (r .kinds)) _ t4);
+  kinded = λ c m k. marks m k .kinded-all c;
   span = λ h m k. marks m k .span h;
 }
   where
-    t1 : T (leb (r .after) j && (childrenOk (r .children) && (leb 1 (r .yards) && all (markOk r) (r .marks))))
+    t1 : T (leb (r .after) j && (childrenOk (r .children) && (leb 1 (r .yards) && (leb 1 (r .kinds) && all (markOk r) (r .marks)))))
     t1 = and-right (ltb (r .first) (r .after)) _ t
 
-    t2 : T (childrenOk (r .children) && (leb 1 (r .yards) && all (markOk r) (r .marks)))
+    t2 : T (childrenOk (r .children) && (leb 1 (r .yards) && (leb 1 (r .kinds) && all (markOk r) (r .marks))))
     t2 = and-right (leb (r .after) j) _ t1
 
-    t3 : T (leb 1 (r .yards) && all (markOk r) (r .marks))
+    t3 : T (leb 1 (r .yards) && (leb 1 (r .kinds) && all (markOk r) (r .marks)))
     t3 = and-right (childrenOk (r .children)) _ t2
 
+    t4 : T (leb 1 (r .kinds) && all (markOk r) (r .marks))
+    t4 = and-right (leb 1 (r .yards)) _ t3
+
     marks : (m : Mark) → Mem m (r .marks) → MarkValues r m
-    marks m k = mark-values r m (all-mem (markOk r) (r .marks) (and-right (leb 1 (r .yards)) _ t3) m k)
+    marks m k = mark-values r m (all-mem (markOk r) (r .marks) (and-right (leb 1 (r .kinds)) _ t4) m k)
 
 pub values-region : (j : ℕ) (r : Region) → RegionValues j r → T (regionOk j r)
 unfolding regionOk
@@ -166,12 +179,14 @@ values-region j r v =
     (and-both (leb (r .after) j) _ (le→leb (r .after) j (v .within))
     (and-both (childrenOk (r .children)) _ (of-kind (r .children) (v .kind))
     (and-both (leb 1 (r .yards)) _ (le→leb 1 (r .yards) (v .some))
+    (and-both (leb 1 (r .kinds)) _ (le→leb 1 (r .kinds) (v .kinds))
     (all-intro (markOk r) (r .marks) (λ m k. values-mark r m (record {
       placed = v .placed m k;
       near-all = λ c. v .near c m k;
+      kinded-all = λ c. v .kinded c m k;
       rising = λ c. v .rising c m k;
       span = λ h. v .span h m k;
-    }))))))
+    })))))))
 
 -- ---- test 5
 

@@ -1,5 +1,5 @@
 -- Each test of a tree book, one turn of a loop at a time: with k of n turns done, n - k are left. Assumes nothing.
-use mathlib.Core.Path.{_≡_, refl, _∙_}
+use mathlib.Core.Path.{_≡_, refl}
 use mathlib.Core.Bool.{Bool, true, false, _&&_}
 use mathlib.Core.List.{List, [], _∷_}
 use Prim.Native.Nat.{ℕ, suc, _+_, _*_, _-_, _≤_, _<_}
@@ -9,32 +9,35 @@ use borrow.Author.Tests.{le-leb, lt-leb}
 use lib.ListN.{length}
 use lib.Dec.{T, leb, eqb, leb→le}
 use Rattle.book.specs.Bytes.{u16At, u32At}
+use Rattle.book.specs.Open.{version}
+use Rattle.tree_layout.specs.Sizes.{fieldsSize, listSize, leafMarkSize}
 use Rattle.book.proofs.Choosing.{and-left, and-right, true-T, T-true}
 use Rattle.tree_layout.specs.Values.{Element, Mark, Region, leafMark, innerMark}
 use Rattle.tree_layout.specs.Decode.{elementAt, readList, listPart, readLists, readSpans, readRegion, readRegions, sizeAt}
-use Rattle.tree_layout.specs.Refusal.{all, recordsOk, near, comes, risesFrom, listRises, listOk}
+use Rattle.tree_layout.specs.Refusal.{all, recordsOk, elementOk, comes, risesFrom, listRises, listOk}
 use Rattle.tree_layout.specs.Reading.{element}
-use Rattle.tree_layout.proofs.Reading.{all-none, list-turn, list-none, lists-turn, lists-none}
+use Rattle.tree_layout.proofs.Reading.{all-none, list-on, list-none, lists-turn, lists-none}
+use Rattle.tree_layout.proofs.Sizes.{list-zero}
 
 -- ---- test 4
 
 module _ (b : List ℕ) (m n k at : ℕ) where
-  -- fewer than a record's first seven bytes are left
-  pub records-short : k < n → length b < at + 7 → recordsOk b m (n - k) at ≡ false
+  -- fewer bytes than a record's fields have are left
+  pub records-short : k < n → length b < at + fieldsSize (version b) → recordsOk b m (n - k) at ≡ false
   unfolding recordsOk
   records-short h p =
       let s : n - k ≡ suc (n - (k + 1)) = omega arith in
       simp (s, lt-leb)
 
   -- the record runs past the end
-  pub records-cut : (size : ℕ) → size ≡ sizeAt b m at → k < n → at + 7 ≤ length b → length b < at + size → recordsOk b m (n - k) at ≡ false
+  pub records-cut : (size : ℕ) → size ≡ sizeAt b m at → k < n → at + fieldsSize (version b) ≤ length b → length b < at + size → recordsOk b m (n - k) at ≡ false
   unfolding recordsOk
   records-cut size e h p q =
       let s : n - k ≡ suc (n - (k + 1)) = omega arith in
       simp (s, ← e, le-leb, lt-leb)
 
   -- the record is whole: the later ones decide
-  pub records-next : (size : ℕ) → size ≡ sizeAt b m at → k < n → at + 7 ≤ length b → at + size ≤ length b
+  pub records-next : (size : ℕ) → size ≡ sizeAt b m at → k < n → at + fieldsSize (version b) ≤ length b → at + size ≤ length b
       → recordsOk b m (n - (k + 1)) (at + size) ≡ recordsOk b m (n - k) at
   unfolding recordsOk
   records-next size e h p q =
@@ -69,47 +72,52 @@ and-false : (a : Bool) → (a && false) ≡ false
 and-false true = refl
 and-false false = refl
 
--- what is left of a list's test after its element e
-unfoldable pub listRest : Element → List Element → Bool
-listRest e es = all near es && risesFrom e es
+-- what is left of a list's test after an element of this distance and yard
+unfoldable pub listRest : ℕ → ℕ → List Element → Bool
+listRest d y es = all elementOk es && risesFrom (element d y 0) es
 
-module _ (p : List ℕ) (n : ℕ) (h : 1 ≤ n) (d y : ℕ) (e : d ≡ u32At p 0) (f : y ≡ u16At p 4) where
-  pub list-far : 67042305 < d → listOk (readList p n 0) ≡ false
-  unfolding listOk readList all near elementAt
-  list-far l =
-      let s : n ≡ suc (n - 1) = omega arith in
-      rw s (simp (← e, lt-leb))
+-- the order looks at distances and yards alone
+rises-as : (e : Element) (es : List Element) → risesFrom (element (e .distance) (e .yard) 0) es ≡ risesFrom e es
+unfolding risesFrom comes
+rises-as e [] = refl
+rises-as e (g ∷ gs) = refl
 
-  pub list-start : d ≤ 67042305 → listRest (element d y) (readList p (n - 1) (6 * 1)) ≡ listOk (readList p n 0)
-  unfolding listRest listOk listRises readList all near elementAt
-  list-start l =
-      let s : n ≡ suc (n - 1) = omega arith in
-      let t : suc (n - 1) - 1 ≡ n - 1 = omega arith in
-      rw s (simp (t, ← e, ← f, le-leb))
+module _ (v : ℕ) (p : List ℕ) (n : ℕ) (h : 1 ≤ n) (x : Element) (e : x ≡ elementAt v p (listSize v 0)) where
+  first : readList v p n 0 ≡ x ∷ readList v p (n - 1) (listSize v 1)
+  first =
+      let s : n - 0 ≡ n = omega arith in
+      let z = list-zero v in
+      let t : readList v p (n - 0) (listSize v 0) ≡ x ∷ readList v p (n - 1) (listSize v 1) = rw e (list-on v p n 0 (omega arith)) in
+      rw (s, z) at t
 
-module _ (p : List ℕ) (n k d y distance yard : ℕ) (h : k < n) (e : distance ≡ u32At p (6 * k)) (f : yard ≡ u16At p (6 * k + 4)) where
-  split : readList p (n - k) (6 * k) ≡ element distance yard ∷ readList p (n - (k + 1)) (6 * (k + 1))
-  unfolding elementAt
-  split =
-      let t : 6 * (k + 1) ≡ 6 * k + 6 = omega arith in
-      list-turn p n k (6 * k) h ∙ simp (t, ← e, ← f)
+  pub list-bad : elementOk x ≡ false → listOk (readList v p n 0) ≡ false
+  unfolding listOk all
+  list-bad o = rw first (simp o)
 
-  pub list-limit : 67042305 < distance → listRest (element d y) (readList p (n - k) (6 * k)) ≡ false
-  unfolding listRest all near
-  list-limit l = rw split (simp lt-leb)
+  pub list-start : elementOk x ≡ true → listRest (x .distance) (x .yard) (readList v p (n - 1) (listSize v 1)) ≡ listOk (readList v p n 0)
+  unfolding listRest listOk listRises all
+  list-start o = rw first (simp (o, rises-as x))
 
-  pub list-order : comes (element d y) (element distance yard) ≡ false → listRest (element d y) (readList p (n - k) (6 * k)) ≡ false
+module _ (v : ℕ) (p : List ℕ) (n k d y : ℕ) (h : k < n) (x : Element) (e : x ≡ elementAt v p (listSize v k)) where
+  split : readList v p (n - k) (listSize v k) ≡ x ∷ readList v p (n - (k + 1)) (listSize v (k + 1))
+  split = rw e (list-on v p n k h)
+
+  pub list-limit : elementOk x ≡ false → listRest d y (readList v p (n - k) (listSize v k)) ≡ false
+  unfolding listRest all
+  list-limit o = rw split (simp o)
+
+  pub list-order : comes (element d y 0) x ≡ false → listRest d y (readList v p (n - k) (listSize v k)) ≡ false
   unfolding listRest risesFrom
   list-order c = rw split (simp (c, and-false))
 
-  pub list-next : distance ≤ 67042305 → comes (element d y) (element distance yard) ≡ true
-      → listRest (element distance yard) (readList p (n - (k + 1)) (6 * (k + 1))) ≡ listRest (element d y) (readList p (n - k) (6 * k))
-  unfolding listRest all near risesFrom
-  list-next l c = rw split (simp (c, le-leb))
+  pub list-next : elementOk x ≡ true → comes (element d y 0) x ≡ true
+      → listRest (x .distance) (x .yard) (readList v p (n - (k + 1)) (listSize v (k + 1))) ≡ listRest d y (readList v p (n - k) (listSize v k))
+  unfolding listRest all risesFrom
+  list-next o c = rw split (simp (o, c, rises-as x))
 
-pub list-end : (p : List ℕ) (n k : ℕ) (e : Element) → n ≤ k → listRest e (readList p (n - k) (6 * k)) ≡ true
+pub list-end : (v : ℕ) (p : List ℕ) (n k d y : ℕ) → n ≤ k → listRest d y (readList v p (n - k) (listSize v k)) ≡ true
 unfolding listRest all risesFrom
-list-end p n k e h = rw (list-none p n k (6 * k) h) refl
+list-end v p n k d y h = rw (list-none v p n k (listSize v k) h) refl
 
 -- ---- a leaf's landmarks
 
@@ -121,11 +129,11 @@ room n k at s len h l =
     (omega (arith, suc-mul (n - (k + 1)) s), omega (arith, suc-mul (n - (k + 1)) s))
 
 module _ (f : Mark → Bool) (b : List ℕ) (yards m k at : ℕ) where
-  pub lists-next : k < m → f (leafMark (u16At b at) (readList (listPart b yards (at + 2)) yards 0)) ≡ true
-      → all f (readLists b yards (m - (k + 1)) (at + (2 + 6 * yards))) ≡ all f (readLists b yards (m - k) at)
+  pub lists-next : k < m → f (leafMark (u16At b at) (readList (version b) (listPart (version b) b yards (at + 2)) yards 0)) ≡ true
+      → all f (readLists b yards (m - (k + 1)) (at + leafMarkSize (version b) yards)) ≡ all f (readLists b yards (m - k) at)
   lists-next h e = rw (lists-turn b yards m k at h) (all-on f _ _ e)
 
-  pub lists-stop : k < m → f (leafMark (u16At b at) (readList (listPart b yards (at + 2)) yards 0)) ≡ false
+  pub lists-stop : k < m → f (leafMark (u16At b at) (readList (version b) (listPart (version b) b yards (at + 2)) yards 0)) ≡ false
       → all f (readLists b yards (m - k) at) ≡ false
   lists-stop h e = rw (lists-turn b yards m k at h) (all-off f _ _ e)
 
@@ -179,18 +187,18 @@ module _ (f : Region → Bool) (b : List ℕ) (m n k at : ℕ) where
 
 -- what test 4 says of the record at a place, and of the later ones
 module _ (b : List ℕ) (m n k at : ℕ) (h : k < n) (t : recordsOk b m (n - k) at ≡ true) where
-  whole : T (leb (at + 7) (length b) && (leb (at + sizeAt b m at) (length b) && recordsOk b m (n - (k + 1)) (at + sizeAt b m at)))
+  whole : T (leb (at + fieldsSize (version b)) (length b) && (leb (at + sizeAt b m at) (length b) && recordsOk b m (n - (k + 1)) (at + sizeAt b m at)))
   unfolding recordsOk
   whole =
       let s : n - k ≡ suc (n - (k + 1)) = omega arith in
       true-T (rw s at t)
 
-  pub record-fields : at + 7 ≤ length b
-  record-fields = leb→le _ _ (and-left (leb (at + 7) (length b)) _ whole)
+  pub record-fields : at + fieldsSize (version b) ≤ length b
+  record-fields = leb→le _ _ (and-left (leb (at + fieldsSize (version b)) (length b)) _ whole)
 
   pub record-whole : at + sizeAt b m at ≤ length b
-  record-whole = leb→le _ _ (and-left (leb (at + sizeAt b m at) (length b)) _ (and-right (leb (at + 7) (length b)) _ whole))
+  record-whole = leb→le _ _ (and-left (leb (at + sizeAt b m at) (length b)) _ (and-right (leb (at + fieldsSize (version b)) (length b)) _ whole))
 
   pub records-later : (size : ℕ) → size ≡ sizeAt b m at → recordsOk b m (n - (k + 1)) (at + size) ≡ true
   records-later size e =
-      rw e (T-true _ (and-right (leb (at + sizeAt b m at) (length b)) _ (and-right (leb (at + 7) (length b)) _ whole)))
+      rw e (T-true _ (and-right (leb (at + sizeAt b m at) (length b)) _ (and-right (leb (at + fieldsSize (version b)) (length b)) _ whole)))

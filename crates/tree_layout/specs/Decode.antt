@@ -5,24 +5,26 @@ use lib.ListN.{take, drop}
 use lib.Dec.{eqb}
 use Rattle.book.specs.Choose.{choose}
 use Rattle.book.specs.Bytes.{u8At, u16At, u32At}
+use Rattle.book.specs.Open.{version}
+use Rattle.kinds.specs.Kinds.{kindAt}
 use Rattle.tree_layout.specs.Values.{Element, Mark, Region, Tree, leafMark, innerMark}
-use Rattle.tree_layout.specs.Sizes.{headerSize, fieldsSize, junctionSize, elementSize, leafMarkSize}
+use Rattle.tree_layout.specs.Sizes.{headerSize, fieldsSize, junctionSize, elementSize, listSize, leafMarkSize}
 use Rattle.tree_layout.specs.Sizes.{innerMarkSize}
 
--- ---- a list
+-- ---- a list of a version v book
 
--- the pair at a place: "distance u32, yard u16"
-unfoldable pub elementAt : List ℕ → ℕ → Element
-elementAt p at = record { distance = u32At p at; yard = u16At p (at + 4) }
+-- the element at a place: "distance u32, yard u16", and "a yard's kind byte after each of its list entries"
+unfoldable pub elementAt : (v : ℕ) → List ℕ → ℕ → Element
+elementAt v p at = record { distance = u32At p at; yard = u16At p (at + 4); kinds = kindAt v p (at + 6) }
 
--- n pairs from a place on
-unfoldable pub readList : List ℕ → ℕ → ℕ → List Element
-readList p zero at = []
-readList p (suc n) at = elementAt p at ∷ readList p n (at + elementSize)
+-- n elements from a place on
+unfoldable pub readList : (v : ℕ) → List ℕ → ℕ → ℕ → List Element
+readList v p zero at = []
+readList v p (suc n) at = elementAt v p at ∷ readList v p n (at + elementSize v)
 
--- "A leaf's list is read as a part of the book that starts where its record puts it": the part of n pairs
-unfoldable pub listPart : List ℕ → ℕ → ℕ → List ℕ
-listPart b n at = take (elementSize * n) (drop at b)
+-- "A leaf's list is read as a part of the book that starts where its record puts it": the part of n elements
+unfoldable pub listPart : (v : ℕ) → List ℕ → ℕ → ℕ → List ℕ
+listPart v b n at = take (listSize v n) (drop at b)
 
 -- ---- landmarks
 
@@ -30,8 +32,8 @@ listPart b n at = take (elementSize * n) (drop at b)
 unfoldable pub readLists : List ℕ → ℕ → ℕ → ℕ → List Mark
 readLists b yards zero at = []
 readLists b yards (suc k) at =
-    leafMark (u16At b at) (readList (listPart b yards (at + junctionSize)) yards 0)
-    ∷ readLists b yards k (at + leafMarkSize yards)
+    leafMark (u16At b at) (readList (version b) (listPart (version b) b yards (at + junctionSize)) yards 0)
+    ∷ readLists b yards k (at + leafMarkSize (version b) yards)
 
 -- k landmarks of an inner region: "in an inner region, least and greatest distance to its yards, u32 each"
 unfoldable pub readSpans : List ℕ → ℕ → ℕ → List Mark
@@ -46,25 +48,26 @@ readMarks b m children yards at = choose (eqb children 0) (readLists b yards m a
 -- ---- regions
 
 -- the bytes of one landmark
-unfoldable pub markSize : ℕ → ℕ → ℕ
-markSize children yards = choose (eqb children 0) (leafMarkSize yards) innerMarkSize
+unfoldable pub markSize : (v children yards : ℕ) → ℕ
+markSize v children yards = choose (eqb children 0) (leafMarkSize v yards) innerMarkSize
 
 -- the bytes of a region's record with m landmarks
-unfoldable pub recordSize : ℕ → ℕ → ℕ → ℕ
-recordSize m children yards = fieldsSize + m * markSize children yards
+unfoldable pub recordSize : (v m children yards : ℕ) → ℕ
+recordSize v m children yards = fieldsSize v + m * markSize v children yards
 
 -- the bytes of the record at a place, by its own fields
 unfoldable pub sizeAt : List ℕ → ℕ → ℕ → ℕ
-sizeAt b m at = recordSize m (u8At b (at + 4)) (u16At b (at + 5))
+sizeAt b m at = recordSize (version b) m (u8At b (at + 4)) (u16At b (at + 5))
 
--- the region whose record is at a place
+-- the region whose record is at a place: "a region's byte after its yard count"
 unfoldable pub readRegion : List ℕ → ℕ → ℕ → Region
 readRegion b m at = record {
   first = u16At b at;
   after = u16At b (at + 2);
   children = u8At b (at + 4);
   yards = u16At b (at + 5);
-  marks = readMarks b m (u8At b (at + 4)) (u16At b (at + 5)) (at + fieldsSize);
+  kinds = kindAt (version b) b (at + 7);
+  marks = readMarks b m (u8At b (at + 4)) (u16At b (at + 5)) (at + fieldsSize (version b));
 }
 
 -- n regions from a place on: "then regions in preorder"
@@ -99,6 +102,7 @@ placeOf b i = placeFrom b (landmarkCount b) i headerSize
 -- the tree that a book holds
 unfoldable pub decode : List ℕ → Tree
 decode b = record {
+  version = version b;
   junctions = junctionCount b;
   yards = treeYardCount b;
   landmarks = landmarkCount b;

@@ -7,6 +7,7 @@ use Prim.Native.Nat.{ℕ, _≤_, _<_}
 use lib.ListN.{length}
 use Rattle.book.specs.Open.{Opens}
 use Rattle.tree_layout.specs.Values.{Element, Mark, Region}
+use Rattle.tree_layout.specs.Sizes.{latestTree}
 use Rattle.tree_layout.specs.Decode.{decode, junctionCount, regionCount, treeYardCount, landmarkCount, placeOf}
 
 -- the order of a leaf's list: "by distance and then yard"
@@ -37,13 +38,16 @@ pub record RegionValues (junctions : ℕ) (r : Region) : Type 0 where
   pub near : r .children ≡ 0 → (m : Mark) → Mem m (r .marks) → (e : Element) → Mem e (m .list) → e .distance ≤ 67042305
   -- "rising strictly by distance and then yard"
   pub rising : r .children ≡ 0 → (m : Mark) → Mem m (r .marks) → Rising (m .list)
+  -- "A kind byte of 0 in a tree is refused by 5."
+  pub kinds : 1 ≤ r .kinds
+  pub kinded : r .children ≡ 0 → (m : Mark) → Mem m (r .marks) → (e : Element) → Mem e (m .list) → 1 ≤ e .kinds
   -- "in an inner region, .. least not above greatest"
   pub span : 0 < r .children → (m : Mark) → Mem m (r .marks) → m .least ≤ m .greatest
 
 -- a tree book's layout, limits and order
 pub record TreeLayout (b : List ℕ) : Type 0 where
-  -- a count of the bytes after it, the version 1, and a header of seven bytes
-  pub opens : Opens b 7
+  -- a count of the bytes after it, the version 1 or 2, and a header of seven bytes
+  pub opens : Opens b latestTree 7
   -- "junctions u16 (1 to 1,024), regions u16 (1 to 511), yards u16 (1 to 256), landmarks per region m u8 (1 to 4)"
   pub junctions : (1 ≤ junctionCount b) × (junctionCount b ≤ 1024)
   pub regions : (1 ≤ regionCount b) × (regionCount b ≤ 511)

@@ -5,8 +5,9 @@ use Prim.Native.Nat.{ℕ, zero, suc, _+_}
 use lib.ListN.{length}
 use lib.Dec.{ltb, leb, eqb}
 use Rattle.book.specs.Choose.{choose, refuse, firstOf}
-use Rattle.book.specs.Open.{openRefusal}
+use Rattle.book.specs.Open.{version, openRefusal}
 use Rattle.tree_layout.specs.Values.{Element, Mark, Region, Tree}
+use Rattle.tree_layout.specs.Sizes.{latestTree, headerSize, fieldsSize}
 use Rattle.tree_layout.specs.Decode.{sizeAt, decode, junctionCount, regionCount, treeYardCount, landmarkCount}
 
 -- low ≤ x ≤ high
@@ -23,14 +24,14 @@ all f (x ∷ xs) = f x && all f xs
 -- "A record is incomplete, or bytes follow the last one.": of n records from a place on
 unfoldable pub recordsOk : List ℕ → ℕ → ℕ → ℕ → Bool
 recordsOk b m zero at = eqb at (length b)
-recordsOk b m (suc n) at = leb (at + 7) (length b) && (leb (at + sizeAt b m at) (length b)
+recordsOk b m (suc n) at = leb (at + fieldsSize (version b)) (length b) && (leb (at + sizeAt b m at) (length b)
     && recordsOk b m n (at + sizeAt b m at))
 
 -- ---- test 5
 
--- "Stored distances are at most 67,042,305, which is 1,023 × 65,535."
-unfoldable pub near : Element → Bool
-near e = leb (e .distance) 67042305
+-- "Stored distances are at most 67,042,305, which is 1,023 × 65,535."; "A kind byte of 0 in a tree is refused by 5."
+unfoldable pub elementOk : Element → Bool
+elementOk e = leb (e .distance) 67042305 && leb 1 (e .kinds)
 
 -- the order of a list, "by distance and then yard": e comes before g
 unfoldable pub comes : Element → Element → Bool
@@ -45,9 +46,9 @@ unfoldable pub listRises : List Element → Bool
 listRises [] = true
 listRises (e ∷ es) = risesFrom e es
 
--- a leaf's list: its distances are within their limit, and it rises
+-- a leaf's list: its values are in their ranges, and it rises
 unfoldable pub listOk : List Element → Bool
-listOk es = all near es && listRises es
+listOk es = all elementOk es && listRises es
 
 -- "Landmarks lie in their range"; a leaf's lists rise; in an inner region "least not above greatest"
 unfoldable pub markOk : Region → Mark → Bool
@@ -58,10 +59,11 @@ markOk r m = leb (r .first) (m .place) && (ltb (m .place) (r .after)
 unfoldable pub childrenOk : ℕ → Bool
 childrenOk c = eqb c 0 || between 2 4 c
 
--- "A range isn't empty and ends at or below the junction count"; children; "yards u16 (at least 1)"; then the landmarks
+-- "A range isn't empty and ends at or below the junction count"; children; "yards u16 (at least 1)"; a kind; then the
+-- landmarks
 unfoldable pub regionOk : ℕ → Region → Bool
 regionOk junctions r = ltb (r .first) (r .after) && (leb (r .after) junctions && (childrenOk (r .children)
-    && (leb 1 (r .yards) && all (markOk r) (r .marks))))
+    && (leb 1 (r .yards) && (leb 1 (r .kinds) && all (markOk r) (r .marks)))))
 
 -- "A record's value is outside its range or order."
 unfoldable pub valuesOk : Tree → Bool
@@ -72,12 +74,12 @@ valuesOk t = all (regionOk (t .junctions)) (t .regions)
 unfoldable pub treeLayoutRefusal : List ℕ → ℕ
 treeLayoutRefusal b =
     -- 1, 2, and 3: "The header is incomplete": seven bytes after the version
-    firstOf (openRefusal b 7)
+    firstOf (openRefusal b latestTree 7)
     -- 3: "a junction, .. yard, region or landmark count is outside its limits"
     (refuse (between 1 1024 (junctionCount b)) 3
     (refuse (between 1 511 (regionCount b)) 3
     (refuse (between 1 256 (treeYardCount b)) 3
     (refuse (between 1 4 (landmarkCount b)) 3
     -- 4, over the whole book before 5 looks at any value
-    (refuse (recordsOk b (landmarkCount b) (regionCount b) 12) 4
+    (refuse (recordsOk b (landmarkCount b) (regionCount b) headerSize) 4
     (refuse (valuesOk (decode b)) 5 0))))))

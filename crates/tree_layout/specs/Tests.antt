@@ -5,13 +5,14 @@ use Prim.Native.Nat.{ℕ, _≤_}
 use lib.ListN.{length}
 use Rattle.book.specs.Tests.{Test, test, openTests}
 use Rattle.tree_layout.specs.Values.{Region}
+use Rattle.tree_layout.specs.Sizes.{latestTree}
 use Rattle.tree_layout.specs.Decode.{decode, junctionCount, regionCount, treeYardCount, landmarkCount, placeOf}
 use Rattle.tree_layout.specs.Facts.{RegionValues}
 
 abbrev pub treeLayoutTests : List ℕ → List Test
 treeLayoutTests b =
     -- 1, 2, and 3: "The header is incomplete": seven bytes after the version
-    openTests b 7
+    openTests b latestTree 7
     -- 3: "a junction, .. yard, region or landmark count is outside its limits": junctions 1 to 1,024, regions 1 to 511,
     -- yards 1 to 256, landmarks 1 to 4
     ++ test 3 ((1 ≤ junctionCount b) × (junctionCount b ≤ 1024))

@@ -3,10 +3,12 @@ use mathlib.Core.List.{List, [], _∷_}
 use Prim.Native.Nat.{ℕ}
 use lib.ListN.{getD}
 
--- an element of a leaf's list: "one pair (distance u32, yard u16) per yard"
+-- an element of a leaf's list: "one pair (distance u32, yard u16) per yard"; "a yard's kind byte after each of its list
+-- entries"
 pub record Element : Type 0 where
   pub distance : ℕ
   pub yard : ℕ
+  pub kinds : ℕ
 
 -- a landmark of a region: its junction, the least and the greatest distance to the region's yards ("in a leaf, its
 -- list's first and last"), and a leaf's list
@@ -16,16 +18,20 @@ pub record Mark : Type 0 where
   pub greatest : ℕ
   pub list : List Element
 
--- "A region: first junction u16, junction after the last u16, children u8 .., yards u16 ..; then per landmark .."
+-- "A region: first junction u16, junction after the last u16, children u8 .., yards u16 ..; then per landmark .."; "a
+-- region's byte after its yard count"
 pub record Region : Type 0 where
   pub first : ℕ
   pub after : ℕ
   pub children : ℕ
   pub yards : ℕ
+  pub kinds : ℕ
   pub marks : List Mark
 
--- "Tree book: junctions u16 .., regions u16 .., yards u16 .., landmarks per region m u8 ..; then regions in preorder."
+-- "Tree book: junctions u16 .., regions u16 .., yards u16 .., landmarks per region m u8 ..; then regions in preorder.",
+-- of a version
 pub record Tree : Type 0 where
+  pub version : ℕ
   pub junctions : ℕ
   pub yards : ℕ
   pub landmarks : ℕ
@@ -55,7 +61,7 @@ noMark = record { place = 0; least = 0; greatest = 0; list = [] }
 
 -- what stands for a region of no number
 unfoldable pub noRegion : Region
-noRegion = record { first = 0; after = 0; children = 0; yards = 0; marks = [] }
+noRegion = record { first = 0; after = 0; children = 0; yards = 0; kinds = 0; marks = [] }
 
 -- region number i: "A *region* is a node of the tree, numbered from 0 in preorder."
 unfoldable pub regionAt : List Region → ℕ → Region

@@ -6,23 +6,29 @@ use book::Junction;
 use book::Opened;
 ghost use mathlib.Core.Path.{_≡_};
 ghost use mathlib.Core.Bool.{true};
-ghost use Prim.Native.Nat.{_+_, _*_, _≤_, _<_};
+ghost use Prim.Native.Nat.{ℕ, _+_, _*_, _≤_};
 ghost use lib.ListN.{length};
 ghost use Rattle.book.specs.Bytes.{u16At, u32At};
+ghost use Rattle.book.specs.Open.{version};
 ghost use Rattle.tree_layout.specs.Values.{leafMark, innerMark};
+ghost use Rattle.tree_layout.specs.Sizes.{headerSize, fieldsSize, junctionSize, listSize, leafMarkSize, innerMarkSize};
 ghost use Rattle.tree_layout.specs.Decode.{readList, listPart, readLists, readSpans};
 ghost use Rattle.tree_layout.specs.Decode.{readRegion, readRegions, sizeAt};
-ghost use Rattle.tree_layout.specs.Refusal.{between, all, recordsOk, comes, listOk};
+ghost use Rattle.tree_layout.specs.Refusal.{between, all, recordsOk, elementOk, comes, listOk};
 ghost use Rattle.tree_layout.specs.Refusal.{markOk, childrenOk, regionOk, treeLayoutRefusal};
 ghost use Rattle.tree_layout.specs.Reading.{element, bounded, headerOf, treeBook, layoutNumber};
+
+// The latest version of a tree book.
+pub const LATEST: u8 = 2;
 
 // A tree region's number: a node of the tree, counted from 0 in preorder. Never a junction's number.
 pub struct Region {
     pub number: u16,
 }
 
-// What a tree book's header counts.
+// A tree book's version, and what its header counts.
 pub struct Header {
+    pub version: u8,
     pub junctions: u16,
     pub regions: u16,
     pub yards: u16,
@@ -37,6 +43,7 @@ pub struct Fields {
     pub after: u16,
     pub children: u8,
     pub yards: u16,
+    pub kinds: u8,
 }
 
 // The least and the greatest distance from a landmark to its region's yards.
@@ -45,10 +52,11 @@ pub struct Span {
     pub greatest: u32,
 }
 
-// An element of a leaf's list: a yard and its distance from the landmark.
+// An element of a leaf's list: a yard, its distance from the landmark, and its kinds.
 pub struct Listed {
     pub distance: u32,
     pub yard: Junction,
+    pub kinds: u8,
 }
 
 // A region's landmark: its junction, and the least and the greatest distance from it to the region's yards.
@@ -86,27 +94,23 @@ fn within(low: u16, high: u16, x: u16) -> bool
 
 // The bytes of the record at a place, by its own fields.
 pub fn size_at(b: &[u8], m: usize, at: usize) -> usize
-    requires { ⌜ (m ≤ 4) × (at + 7 ≤ length (now b)) ⌝ }
+    requires { ⌜ (m ≤ 4) × (headerSize ≤ length (now b)) × (at + fieldsSize (version (now b)) ≤ length (now b)) ⌝ }
     ensures { λ r. ⌜ r ≡ sizeAt (now (b .entry)) m at ⌝ }
 {
-    let children = book::u8_at(b, at + 4);
-    let yards = book::u16_at(b, at + 5) as usize;
-    if children != 0 {
-        return 7 + m * 10;
-    }
-    7 + m * (2 + 6 * yards)
+    records::fields_size(book::version(b)) + m * landmarks::mark_size(b, at)
 }
 
 // Test 4: whether n records of m landmarks each, from byte 12 on, take up the book to its end.
 fn records_ok(b: &[u8], m: usize, n: usize) -> bool
-    requires { ⌜ (m ≤ 4) × (12 ≤ length (now b)) ⌝ }
-    ensures { λ r. ⌜ r ≡ recordsOk (now (b .entry)) m n 12 ⌝ }
+    requires { ⌜ (m ≤ 4) × (headerSize ≤ length (now b)) ⌝ }
+    ensures { λ r. ⌜ r ≡ recordsOk (now (b .entry)) m n headerSize ⌝ }
 {
     let len = b.len();
-    let mut at: usize = 12;
+    let fields = records::fields_size(book::version(b));
+    let mut at = records::FIRST_RECORD;
     let mut k: usize = 0;
     while k < n {
-        if len - at < 7 {
+        if len - at < fields {
             return false;
         }
         let size = size_at(b, m, at);
@@ -121,7 +125,7 @@ fn records_ok(b: &[u8], m: usize, n: usize) -> bool
 
 // Whether the pair (distance, yard) comes after the pair (d, y).
 fn after(d: u32, y: Junction, distance: u32, yard: Junction) -> bool
-    ensures { λ r. ⌜ r ≡ comes (element d (y .number)) (element distance (yard .number)) ⌝ }
+    ensures { λ r. ⌜ ((j k : ℕ) → r ≡ comes (element d (y .number) j) (element distance (yard .number) k)) ⌝ }
 {
     if d < distance {
         return true;
@@ -132,32 +136,38 @@ fn after(d: u32, y: Junction, distance: u32, yard: Junction) -> bool
     y.number < yard.number
 }
 
-// Whether n pairs' distances are within their limit, and the pairs rise.
-fn list_ok(p: &[u8], n: usize) -> bool
-    requires { ⌜ (1 ≤ n) × (6 * n ≤ length (now p)) ⌝ }
-    ensures { λ r. ⌜ r ≡ listOk (readList (now (p .entry)) n 0) ⌝ }
+// Whether an element's distance is within its limit, and its yard has a kind.
+fn element_ok(e: Listed) -> bool
+    ensures { λ r. ⌜ r ≡ elementOk (element (e .distance) (e .yard .number) (e .kinds)) ⌝ }
 {
-    let mut d = book::u32_at(p, 0);
-    let mut y = Junction {
-        number: book::u16_at(p, 4),
-    };
-    if 67042305 < d {
+    if 67042305 < e.distance {
         return false;
     }
+    1 <= e.kinds
+}
+
+// Whether the values of n elements are in their ranges, and the elements rise.
+fn list_ok(p: &[u8], v: u8, n: usize) -> bool
+    requires { ⌜ (1 ≤ n) × (n ≤ 65535) × (listSize v n ≤ length (now p)) ⌝ }
+    ensures { λ r. ⌜ r ≡ listOk (readList v (now (p .entry)) n 0) ⌝ }
+{
+    let first = records::element(p, v, 0);
+    if !element_ok(first) {
+        return false;
+    }
+    let mut d = first.distance;
+    let mut y = first.yard;
     let mut k: usize = 1;
     while k < n {
-        let distance = book::u32_at(p, 6 * k);
-        let yard = Junction {
-            number: book::u16_at(p, 6 * k + 4),
-        };
-        if 67042305 < distance {
+        let e = records::element(p, v, k);
+        if !element_ok(e) {
             return false;
         }
-        if !after(d, y, distance, yard) {
+        if !after(d, y, e.distance, e.yard) {
             return false;
         }
-        d = distance;
-        y = yard;
+        d = e.distance;
+        y = e.yard;
         k += 1;
     }
     true
@@ -165,9 +175,11 @@ fn list_ok(p: &[u8], n: usize) -> bool
 
 // Whether the landmark at a place is good for a leaf with this range and so many yards.
 fn leaf_mark_ok(b: &[u8], at: usize, first: u16, end: u16, yards: usize) -> bool
-    requires { ⌜ (1 ≤ yards) × (at + (2 + 6 * yards) ≤ length (now b)) ⌝ }
-    ensures { λ r. ⌜ r ≡ markOk (bounded first end 0)
-        (leafMark (u16At (now (b .entry)) at) (readList (listPart (now (b .entry)) yards (at + 2)) yards 0)) ⌝ }
+    requires { ⌜ (1 ≤ yards) × (yards ≤ 65535) × (headerSize ≤ length (now b))
+        × (at + leafMarkSize (version (now b)) yards ≤ length (now b)) ⌝ }
+    ensures { λ r. ⌜ r ≡ markOk (bounded first end 0) (leafMark (u16At (now (b .entry)) at)
+        (readList (version (now (b .entry)))
+        (listPart (version (now (b .entry))) (now (b .entry)) yards (at + junctionSize)) yards 0)) ⌝ }
 {
     let place = book::u16_at(b, at);
     if place < first {
@@ -176,14 +188,12 @@ fn leaf_mark_ok(b: &[u8], at: usize, first: u16, end: u16, yards: usize) -> bool
     if end <= place {
         return false;
     }
-    let a = at + 2;
-    let e = a + 6 * yards;
-    list_ok(&b[a..e], yards)
+    list_ok(records::list(b, at, yards), book::version(b), yards)
 }
 
 // Whether the landmark at a place is good for an inner region with this range.
 fn inner_mark_ok(b: &[u8], at: usize, first: u16, end: u16) -> bool
-    requires { ⌜ at + 10 ≤ length (now b) ⌝ }
+    requires { ⌜ at + innerMarkSize ≤ length (now b) ⌝ }
     ensures { λ r. ⌜ r ≡ markOk (bounded first end 1)
         (innerMark (u16At (now (b .entry)) at) (u32At (now (b .entry)) (at + 2)) (u32At (now (b .entry)) (at + 6))) ⌝ }
 {
@@ -199,7 +209,8 @@ fn inner_mark_ok(b: &[u8], at: usize, first: u16, end: u16) -> bool
 
 // Whether m landmarks from a place on are good for a leaf with this range and so many yards.
 fn lists_ok(b: &[u8], start: usize, m: usize, first: u16, end: u16, yards: usize) -> bool
-    requires { ⌜ (1 ≤ yards) × (start + m * (2 + 6 * yards) ≤ length (now b)) ⌝ }
+    requires { ⌜ (1 ≤ yards) × (yards ≤ 65535) × (headerSize ≤ length (now b))
+        × (start + m * leafMarkSize (version (now b)) yards ≤ length (now b)) ⌝ }
     ensures { λ r. ⌜ r ≡ all (markOk (bounded first end 0)) (readLists (now (b .entry)) yards m start) ⌝ }
 {
     let mut at = start;
@@ -208,7 +219,7 @@ fn lists_ok(b: &[u8], start: usize, m: usize, first: u16, end: u16, yards: usize
         if !leaf_mark_ok(b, at, first, end, yards) {
             return false;
         }
-        at += 2 + 6 * yards;
+        at += records::leaf_mark(book::version(b), yards);
         k += 1;
     }
     true
@@ -216,7 +227,7 @@ fn lists_ok(b: &[u8], start: usize, m: usize, first: u16, end: u16, yards: usize
 
 // Whether m landmarks from a place on are good for an inner region with this range.
 fn spans_ok(b: &[u8], start: usize, m: usize, first: u16, end: u16) -> bool
-    requires { ⌜ start + m * 10 ≤ length (now b) ⌝ }
+    requires { ⌜ start + m * innerMarkSize ≤ length (now b) ⌝ }
     ensures { λ r. ⌜ r ≡ all (markOk (bounded first end 1)) (readSpans (now (b .entry)) m start) ⌝ }
 {
     let mut at = start;
@@ -225,7 +236,7 @@ fn spans_ok(b: &[u8], start: usize, m: usize, first: u16, end: u16) -> bool
         if !inner_mark_ok(b, at, first, end) {
             return false;
         }
-        at += 10;
+        at += records::INNER_MARK;
         k += 1;
     }
     true
@@ -246,37 +257,39 @@ fn children_ok(children: u8) -> bool
 
 // Whether the values of the record at a place are in their ranges and order.
 fn region_ok(b: &[u8], m: usize, at: usize, junctions: u16) -> bool
-    requires { ⌜ at + sizeAt (now b) m at ≤ length (now b) ⌝ }
+    requires { ⌜ (headerSize ≤ length (now b)) × (at + sizeAt (now b) m at ≤ length (now b)) ⌝ }
     ensures { λ r. ⌜ r ≡ regionOk junctions (readRegion (now (b .entry)) m at) ⌝ }
 {
-    let first = book::u16_at(b, at);
-    let end = book::u16_at(b, at + 2);
-    let children = book::u8_at(b, at + 4);
-    let yards = book::u16_at(b, at + 5) as usize;
-    if end <= first {
+    let f = records::fields(b, at);
+    let first = f.first.number;
+    if f.after <= first {
         return false;
     }
-    if junctions < end {
+    if junctions < f.after {
         return false;
     }
-    if !children_ok(children) {
+    if !children_ok(f.children) {
         return false;
     }
-    if yards < 1 {
+    if f.yards < 1 {
         return false;
     }
-    if children == 0 {
-        return lists_ok(b, at + 7, m, first, end, yards);
+    if f.kinds < 1 {
+        return false;
     }
-    spans_ok(b, at + 7, m, first, end)
+    let start = records::marks_at(book::version(b), at);
+    if f.children == 0 {
+        return lists_ok(b, start, m, first, f.after, f.yards as usize);
+    }
+    spans_ok(b, start, m, first, f.after)
 }
 
 // Test 5: whether the values of n records from byte 12 on are in their ranges and order.
 fn values_ok(b: &[u8], m: usize, n: usize, junctions: u16) -> bool
-    requires { ⌜ (m ≤ 4) × (recordsOk (now b) m n 12 ≡ true) ⌝ }
-    ensures { λ r. ⌜ r ≡ all (regionOk junctions) (readRegions (now (b .entry)) m n 12) ⌝ }
+    requires { ⌜ (m ≤ 4) × (headerSize ≤ length (now b)) × (recordsOk (now b) m n headerSize ≡ true) ⌝ }
+    ensures { λ r. ⌜ r ≡ all (regionOk junctions) (readRegions (now (b .entry)) m n headerSize) ⌝ }
 {
-    let mut at: usize = 12;
+    let mut at = records::FIRST_RECORD;
     let mut k: usize = 0;
     while k < n {
         if !region_ok(b, m, at, junctions) {
@@ -292,7 +305,7 @@ fn values_ok(b: &[u8], m: usize, n: usize, junctions: u16) -> bool
 pub fn layout(b: &[u8]) -> u8
     ensures { λ r. ⌜ r ≡ treeLayoutRefusal (now (b .entry)) ⌝ }
 {
-    let o = book::open(b, 7);
+    let o = book::open(b, LATEST, 7);
     let Opened::Body = o else {
         return book::number(o);
     };
@@ -330,10 +343,5 @@ pub fn read(b: &[u8]) -> TreeBook
     if why != 0 {
         return TreeBook::Refused(why);
     }
-    TreeBook::Laid(Header {
-        junctions: book::u16_at(b, 5),
-        regions: book::u16_at(b, 7),
-        yards: book::u16_at(b, 9),
-        landmarks: book::u8_at(b, 11),
-    })
+    TreeBook::Laid(records::header(b))
 }

@@ -2,7 +2,7 @@
 use mathlib.Core.Path.{_≡_, refl, sym, ap, _∙_}
 use mathlib.Core.Bool.{Bool, true, false, not, _&&_, _||_}
 use mathlib.Core.List.{List, [], _∷_}
-use Prim.Native.Nat.{ℕ, zero, suc, _+_, _-_, _*_, _≤_, _<_}
+use Prim.Native.Nat.{ℕ, zero, suc, _+_, _-_, _≤_, _<_}
 use native.Mathlib.Nat.{sub-zero}
 use native.Mathlib.Decide.{ℕ-discrete}
 use native.Mathlib.Omega.{arith}
@@ -10,12 +10,15 @@ use borrow.Author.Tests.{eq-eqb, ne-eqb}
 use lib.ListN.{length, getD, set, replicate, length-set, length-replicate}
 use lib.Seq.{getD-set-same, getD-set-other}
 use lib.Dec.{T, leb, eqb, ltb→lt}
+use Rattle.book.specs.Open.{version}
 use Rattle.book.proofs.Choosing.{and-left, and-right, true-T, T-true}
+use Rattle.tree_layout.specs.Sizes.{elementSize, listSize, leafMarkSize}
 use Rattle.tree_layout.specs.Values.{Element}
 use Rattle.tree_layout.specs.Decode.{elementAt, readList, listPart, readLists}
 use Rattle.tree_layout.specs.Refusal.{all}
 use Rattle.tree_layout.proofs.Accessing.{part-length}
-use Rattle.tree_layout.proofs.Reading.{all-none, all-next, list-turn, list-none}
+use Rattle.tree_layout.proofs.Reading.{all-none, all-next, list-turn, list-on, list-none}
+use Rattle.tree_layout.proofs.Sizes.{list-zero, list-more}
 use Rattle.tree_leaf.specs.Leaf.{names, once, inRange, namedBy, firstList, sameYards, agreeing}
 use Rattle.tree_leaf.specs.code.Members.{membersOf, isMember, fits}
 use Rattle.tree_leaf.proofs.Listing.{once-stop, once-next, range-low, range-high, range-next, same-to, same-from, first-list, agree-stop, agree-end}
@@ -49,24 +52,29 @@ beyond (x ∷ xs) (suc i) h = beyond xs i (omega arith)
 
 -- ---- whether a members has a list's yards, with pair number k and the n - (k + 1) pairs after it
 
-module _ (members : List Bool) (p : List ℕ) (n k v : ℕ) (h : k < n) (e : v ≡ elementAt p (6 * k) .yard) where
-  in-here : all (isMember members) (readList p (n - k) (6 * k)) ≡ (getD members v false && all (isMember members) (readList p (n - (k + 1)) (6 * (k + 1))))
+module _ (members : List Bool) (v : ℕ) (p : List ℕ) (n k y : ℕ) (h : k < n) (e : y ≡ elementAt v p (listSize v k) .yard) where
+  in-here : all (isMember members) (readList v p (n - k) (listSize v k)) ≡ (getD members y false && all (isMember members) (readList v p (n - (k + 1)) (listSize v (k + 1))))
   unfolding isMember
   in-here =
-      let s : 6 * (k + 1) ≡ 6 * k + 6 = omega arith in
-      rw (list-turn p n k (6 * k) h, s) (all-next (isMember members) (elementAt p (6 * k)) (readList p (n - (k + 1)) (6 * k + 6)) ∙ rw e refl)
+      rw (list-on v p n k h) (all-next (isMember members) (elementAt v p (listSize v k)) (readList v p (n - (k + 1)) (listSize v (k + 1))) ∙ rw e refl)
 
-  pub in-beyond : length members ≤ v → all (isMember members) (readList p (n - k) (6 * k)) ≡ false
-  in-beyond l = in-here ∙ rw (beyond members v l) refl
+  pub in-beyond : length members ≤ y → all (isMember members) (readList v p (n - k) (listSize v k)) ≡ false
+  in-beyond l = in-here ∙ rw (beyond members y l) refl
 
-  pub in-absent : getD members v false ≡ false → all (isMember members) (readList p (n - k) (6 * k)) ≡ false
+  pub in-absent : getD members y false ≡ false → all (isMember members) (readList v p (n - k) (listSize v k)) ≡ false
   in-absent t = in-here ∙ rw t refl
 
-  pub in-next : getD members v false ≡ true
-      → all (isMember members) (readList p (n - (k + 1)) (6 * (k + 1))) ≡ all (isMember members) (readList p (n - k) (6 * k))
+  pub in-next : getD members y false ≡ true
+      → all (isMember members) (readList v p (n - (k + 1)) (listSize v (k + 1))) ≡ all (isMember members) (readList v p (n - k) (listSize v k))
   in-next t = sym (in-here ∙ rw t refl)
 
 -- ---- a list's own test, from its last pair on
+
+-- a pair ends where the next one stands
+list-before : (v k : ℕ) → 1 ≤ k → listSize v (k - 1) + elementSize v ≡ listSize v k
+list-before v k h =
+    let s : suc (k - 1) ≡ k = omega arith in
+    sym (list-more v (k - 1)) ∙ ap (listSize v) s
 
 and-no : (a b : Bool) → b ≡ false → (a && b) ≡ false
 and-no true b e = e
@@ -82,78 +90,80 @@ fails-on low high e es f = rw (all-next (inRange low high) e es) (go (not (names
     go true false c d q = refl
     go false b c d q = refl
 
-module _ (p : List ℕ) (n low high : ℕ) where
-  pub fails-all : (k : ℕ) → k ≤ n → fits low high (readList p (n - k) (6 * k)) ≡ false → fits low high (readList p n 0) ≡ false
-  fails-all zero h f = simp sub-zero at f
+module _ (v : ℕ) (p : List ℕ) (n low high : ℕ) where
+  pub fails-all : (k : ℕ) → k ≤ n → fits low high (readList v p (n - k) (listSize v k)) ≡ false → fits low high (readList v p n 0) ≡ false
+  fails-all zero h f =
+      let z = list-zero v in
+      simp (sub-zero, z) at f
   fails-all (suc k) h f =
       fails-all k (omega arith)
-      (rw (list-turn p n k (6 * k) (omega arith)) (fails-on low high (elementAt p (6 * k)) (readList p (n - (k + 1)) (6 * k + 6)) (later f)))
+      (rw (list-turn v p n k (listSize v k) (omega arith)) (fails-on low high (elementAt v p (listSize v k)) (readList v p (n - (k + 1)) (listSize v k + elementSize v)) (later f)))
     where
-      later : fits low high (readList p (n - suc k) (6 * suc k)) ≡ false → fits low high (readList p (n - (k + 1)) (6 * k + 6)) ≡ false
+      later : fits low high (readList v p (n - suc k) (listSize v (suc k))) ≡ false → fits low high (readList v p (n - (k + 1)) (listSize v k + elementSize v)) ≡ false
       later g =
           let a : n - suc k ≡ n - (k + 1) = omega arith in
-          let b : 6 * suc k ≡ 6 * k + 6 = omega arith in
+          let b : listSize v (suc k) ≡ listSize v k + elementSize v = list-more v k in
           rw (← a, ← b) g
 
   -- no pair is done
   pub none-done : (k : ℕ) (members : List Bool) → k ≡ n → members ≡ replicate 1024 false
-      → (members ≡ membersOf (readList p (n - k) (6 * k))) × (fits low high (readList p (n - k) (6 * k)) ≡ true)
+      → (members ≡ membersOf (readList v p (n - k) (listSize v k))) × (fits low high (readList v p (n - k) (listSize v k)) ≡ true)
   unfolding membersOf fits once
-  none-done k members e f = rw (list-none p n k (6 * k) (omega arith)) (f, all-none (inRange low high))
+  none-done k members e f = rw (list-none v p n k (listSize v k) (omega arith)) (f, all-none (inRange low high))
 
   -- all are
   pub all-done : (k : ℕ) (members : List Bool) → k ≡ 0
-      → (members ≡ membersOf (readList p (n - k) (6 * k))) × (fits low high (readList p (n - k) (6 * k)) ≡ true)
-      → (true ≡ fits low high (readList p n 0)) × (_≡_ {A = Bool} true true → members ≡ membersOf (readList p n 0))
+      → (members ≡ membersOf (readList v p (n - k) (listSize v k))) × (fits low high (readList v p (n - k) (listSize v k)) ≡ true)
+      → (true ≡ fits low high (readList v p n 0)) × (_≡_ {A = Bool} true true → members ≡ membersOf (readList v p n 0))
   all-done k members e d =
-      let q : readList p (n - k) (6 * k) ≡ readList p n 0 = rw e (simp sub-zero) in
+      let q : readList v p (n - k) (listSize v k) ≡ readList v p n 0 = rw e (simp (sub-zero, list-zero v)) in
       (sym (rw (← q) (d .1)), λ z. rw (← q) (d .0))
 
   -- a failure, as the loop answers it
-  pub failed : (members : List Bool) → fits low high (readList p n 0) ≡ false → (false ≡ fits low high (readList p n 0)) × (false ≡ true
-      → members ≡ membersOf (readList p n 0))
-  failed members f = (sym f, λ z. let y : _≡_ {A = ℕ} 0 1 = cc in absurd (omega arith))
+  pub failed : (members : List Bool) → fits low high (readList v p n 0) ≡ false → (false ≡ fits low high (readList v p n 0)) × (false ≡ true
+      → members ≡ membersOf (readList v p n 0))
+  failed members f = (sym f, λ z. let x : _≡_ {A = ℕ} 0 1 = cc in absurd (omega arith))
 
   -- the pair before the k of which those after are done
-  module _ (k v : ℕ) (z : 1 ≤ k) (h : k ≤ n) (e : v ≡ elementAt p (6 * (k - 1)) .yard) where
+  module _ (k y : ℕ) (z : 1 ≤ k) (h : k ≤ n) (e : y ≡ elementAt v p (listSize v (k - 1)) .yard) where
     earlier : k - 1 < n
     earlier = omega arith
 
-    rest-is : readList p (n - (k - 1 + 1)) (6 * (k - 1) + 6) ≡ readList p (n - k) (6 * k)
+    rest-is : readList v p (n - (k - 1 + 1)) (listSize v (k - 1) + elementSize v) ≡ readList v p (n - k) (listSize v k)
     rest-is =
         let a : n - (k - 1 + 1) ≡ n - k = omega arith in
-        let b : 6 * (k - 1) + 6 ≡ 6 * k = omega arith in
+        let b : listSize v (k - 1) + elementSize v ≡ listSize v k = list-before v k z in
         rw (a, b) refl
 
-    whole-fails : fits low high (readList p (n - (k - 1)) (6 * (k - 1))) ≡ false → fits low high (readList p n 0) ≡ false
+    whole-fails : fits low high (readList v p (n - (k - 1)) (listSize v (k - 1))) ≡ false → fits low high (readList v p n 0) ≡ false
     whole-fails f = fails-all (k - 1) (omega arith) f
 
-    pub fails-low : v < low → fits low high (readList p n 0) ≡ false
+    pub fails-low : y < low → fits low high (readList v p n 0) ≡ false
     unfolding fits
-    fails-low q = whole-fails (and-no (once (readList p (n - (k - 1)) (6 * (k - 1)))) _ (range-low p n (k - 1) (6 * (k - 1)) low high v earlier e q))
+    fails-low q = whole-fails (and-no (once (readList v p (n - (k - 1)) (listSize v (k - 1)))) _ (range-low v p n (k - 1) (listSize v (k - 1)) low high y earlier e q))
 
-    pub fails-high : low ≤ v → high ≤ v → fits low high (readList p n 0) ≡ false
+    pub fails-high : low ≤ y → high ≤ y → fits low high (readList v p n 0) ≡ false
     unfolding fits
-    fails-high q s = whole-fails (and-no (once (readList p (n - (k - 1)) (6 * (k - 1)))) _ (range-high p n (k - 1) (6 * (k - 1)) low high v earlier e q s))
+    fails-high q s = whole-fails (and-no (once (readList v p (n - (k - 1)) (listSize v (k - 1)))) _ (range-high v p n (k - 1) (listSize v (k - 1)) low high y earlier e q s))
 
-    module _ (members : List Bool) (d : (members ≡ membersOf (readList p (n - k) (6 * k)))
-        × (fits low high (readList p (n - k) (6 * k)) ≡ true)) (w : v < 1024) where
-      named : getD members v false ≡ names (readList p (n - (k - 1 + 1)) (6 * (k - 1) + 6)) v
-      named = rw (d .0, rest-is) (members-names (readList p (n - k) (6 * k)) v w)
+    module _ (members : List Bool) (d : (members ≡ membersOf (readList v p (n - k) (listSize v k)))
+        × (fits low high (readList v p (n - k) (listSize v k)) ≡ true)) (w : y < 1024) where
+      named : getD members y false ≡ names (readList v p (n - (k - 1 + 1)) (listSize v (k - 1) + elementSize v)) y
+      named = rw (d .0, rest-is) (members-names (readList v p (n - k) (listSize v k)) y w)
 
-      pub fails-twice : getD members v false ≡ true → fits low high (readList p n 0) ≡ false
+      pub fails-twice : getD members y false ≡ true → fits low high (readList v p n 0) ≡ false
       unfolding fits
-      fails-twice t = whole-fails (rw (once-stop p n (k - 1) (6 * (k - 1)) v (n - (k - 1 + 1)) earlier e refl (sym named ∙ t)) refl)
+      fails-twice t = whole-fails (rw (once-stop v p n (k - 1) (listSize v (k - 1)) y (n - (k - 1 + 1)) earlier e refl (sym named ∙ t)) refl)
 
-      pub one-more : getD members v false ≡ false → low ≤ v → v < high
-          → (set members v true ≡ membersOf (readList p (n - (k - 1)) (6 * (k - 1)))) × (fits low high (readList p (n - (k - 1)) (6 * (k - 1))) ≡ true)
+      pub one-more : getD members y false ≡ false → low ≤ y → y < high
+          → (set members y true ≡ membersOf (readList v p (n - (k - 1)) (listSize v (k - 1)))) × (fits low high (readList v p (n - (k - 1)) (listSize v (k - 1))) ≡ true)
       unfolding fits membersOf
       one-more t q s = (
-        rw (list-turn p n (k - 1) (6 * (k - 1)) earlier, ← e, rest-is, d .0) refl,
+        rw (list-turn v p n (k - 1) (listSize v (k - 1)) earlier, ← e, rest-is, d .0) refl,
         rw (
-          sym (once-next p n (k - 1) (6 * (k - 1)) v (n - (k - 1 + 1)) earlier e refl (sym named
+          sym (once-next v p n (k - 1) (listSize v (k - 1)) y (n - (k - 1 + 1)) earlier e refl (sym named
               ∙ t)),
-          sym (range-next p n (k - 1) (6 * (k - 1)) low high v earlier e q s),
+          sym (range-next v p n (k - 1) (listSize v (k - 1)) low high y earlier e q s),
           rest-is,
         ) (d .1),
       )
@@ -219,28 +229,27 @@ module _ (low high : ℕ) (ref es : List Element) (h : high ≤ 1024) (f : fits 
 -- ---- the first of a leaf's lists
 
 -- its test, and what it leaves
-module _ (b : List ℕ) (n m start low high : ℕ) (some : 0 < m) (r : Bool) (named : List Bool) (p : List ℕ) (part : p ≡ listPart b n (start + 2))
-    (t : r ≡ fits low high (readList p n 0)) (w : r ≡ true → named ≡ membersOf (readList p n 0)) where
+module _ (b : List ℕ) (n m start low high : ℕ) (some : 0 < m) (r : Bool) (named : List Bool) (v : ℕ) (p : List ℕ) (edition : v ≡ version b)
+    (part : p ≡ listPart (version b) b n (start + 2)) (t : r ≡ fits low high (readList v p n 0)) (w : r ≡ true → named ≡ membersOf (readList v p n 0)) where
   pub first-fails : r ≡ false → agreeing low high (firstList (readLists b n m start)) (readLists b n m start) ≡ false
   first-fails q =
-      let g : fits low high (readList (listPart b n (start + 2)) n 0) ≡ false = rw (← part) (sym t ∙ q) in
+      let g : fits low high (readList (version b) (listPart (version b) b n (start + 2)) n 0) ≡ false = rw (← part, ← edition) (sym t ∙ q) in
       let z : m - 0 ≡ m = omega arith in
-      rw (← z) (agree-stop b n m 0 start low high (firstList (readLists b n (m - 0) start)) (readList (listPart b n (start + 2)) n 0) (rw z (first-list b n m
-      start some)) some (list-fails low high (readList (listPart b n (start + 2)) n 0) (readList (listPart b n (start + 2)) n 0) g))
+      rw (← z) (agree-stop b n m 0 start low high (firstList (readLists b n (m - 0) start)) (readList (version b) (listPart (version b) b n (start + 2)) n 0) (rw z (first-list b n m start some)) some (list-fails low high (readList (version b) (listPart (version b) b n (start + 2)) n 0) (readList (version b) (listPart (version b) b n (start + 2)) n 0) g))
 
-  pub first-fits : r ≡ true → (fits low high (readList (listPart b n (start + 2)) n 0) ≡ true) × (named ≡ membersOf (readList (listPart b n (start + 2)) n 0))
-  first-fits q = (rw (← part) (sym t ∙ q), rw (← part) (w q))
+  pub first-fits : r ≡ true → (fits low high (readList (version b) (listPart (version b) b n (start + 2)) n 0) ≡ true) × (named ≡ membersOf (readList (version b) (listPart (version b) b n (start + 2)) n 0))
+  first-fits q = (rw (← part, ← edition) (sym t ∙ q), rw (← part, ← edition) (w q))
 
 -- what is known of a list as a part of its own
-module _ (b : List ℕ) (n start : ℕ) (p : List ℕ) (part : p ≡ listPart b n (start + 2)) where
-  pub part-room : start + (2 + 6 * n) ≤ length b → 6 * n ≤ length p
-  part-room h = omega (arith, ap length part, part-length b n start h)
+module _ (b : List ℕ) (n start v : ℕ) (p : List ℕ) (edition : v ≡ version b) (part : p ≡ listPart (version b) b n (start + 2)) where
+  pub part-room : start + leafMarkSize (version b) n ≤ length b → listSize v n ≤ length p
+  part-room h = rw edition (omega (arith, ap length part, part-length (version b) b n start h))
 
-  pub part-fits : (low high : ℕ) → fits low high (readList (listPart b n (start + 2)) n 0) ≡ true → fits low high (readList p n 0) ≡ true
-  part-fits low high f = rw part f
+  pub part-fits : (low high : ℕ) → fits low high (readList (version b) (listPart (version b) b n (start + 2)) n 0) ≡ true → fits low high (readList v p n 0) ≡ true
+  part-fits low high f = rw (edition, part) f
 
-  pub part-members : (named : List Bool) → named ≡ membersOf (readList (listPart b n (start + 2)) n 0) → named ≡ membersOf (readList p n 0)
-  part-members named e = rw part e
+  pub part-members : (named : List Bool) → named ≡ membersOf (readList (version b) (listPart (version b) b n (start + 2)) n 0) → named ≡ membersOf (readList v p n 0)
+  part-members named e = rw (edition, part) e
 
 -- no list
 pub none-agree : (b : List ℕ) (n m start low high : ℕ) → m ≡ 0 → agreeing low high (firstList (readLists b n m start)) (readLists b n m start) ≡ true

@@ -1,7 +1,9 @@
+pub mod Places
 pub mod Rising
 pub mod Refusing
 pub mod Listing
 pub mod YardLayout
+pub mod Tables
 pub mod Answering
 pub mod Examples
 pub mod Turns

@@ -10,7 +10,7 @@ use lib.ListN.{length, getD}
 use lib.Dec.{T, leb, ltb, leb→le, le→leb, ltb→lt, lt→ltb}
 use Rattle.book.specs.Lists.{Distinct}
 use Rattle.book.proofs.Choosing.{and-left, and-right, and-both}
-use Rattle.yard.specs.Yards.{yardAt, yardsFrom, yardsRise, inside}
+use Rattle.yard.specs.Yards.{yardAt, yardsFrom, yardKind, yardsRise, kindsSet, inside}
 
 pub from-length : (b : List ℕ) (n i : ℕ) → length (yardsFrom b n i) ≡ n
 unfolding yardsFrom
@@ -104,3 +104,27 @@ pub all-inside : (n : ℕ) (ys : List ℕ) → ((i : ℕ) → i < length ys → 
 unfolding inside
 all-inside n [] f = tt
 all-inside n (y ∷ ys) f = and-both (ltb y n) _ (lt→ltb y n (f 0 (omega arith))) (all-inside n ys (λ i h. f (suc i) (omega arith)))
+
+-- kinds "not 0", of n yards from number i on
+pub kinds-facts : (b : List ℕ) (n i : ℕ) → T (kindsSet b n i) → (k : ℕ) → k < n → 1 ≤ yardKind b (i + k)
+unfolding kindsSet
+kinds-facts b zero i t k h = absurd (omega arith)
+kinds-facts b (suc n) i t zero h =
+    let z : i + 0 ≡ i = omega arith in
+    rw z (leb→le 1 (yardKind b i) (and-left (leb 1 (yardKind b i)) (kindsSet b n (suc i)) t))
+kinds-facts b (suc n) i t (suc k) h =
+    let z : i + suc k ≡ suc i + k = omega arith in
+    rw z (kinds-facts b n (suc i) (and-right (leb 1 (yardKind b i)) _ t) k (omega arith))
+
+pub facts-kinds : (b : List ℕ) (n i : ℕ) → ((k : ℕ) → k < n → 1 ≤ yardKind b (i + k)) → T (kindsSet b n i)
+unfolding kindsSet
+facts-kinds b zero i f = tt
+facts-kinds b (suc n) i f =
+    let z : i + 0 ≡ i = omega arith in
+    and-both (leb 1 (yardKind b i)) _ (le→leb 1 (yardKind b i) (rw z at (f 0 (omega arith))))
+    (facts-kinds b n (suc i) (λ k h. later k (f (suc k) (omega (arith, h)))))
+  where
+    later : (k : ℕ) → 1 ≤ yardKind b (i + suc k) → 1 ≤ yardKind b (suc i + k)
+    later k h =
+        let z : i + suc k ≡ suc i + k = omega arith in
+        rw z at h

@@ -1,8 +1,8 @@
 -- Which facts lead to which answer of `yardRefusal`. Assumes nothing.
 use mathlib.Core.Path.{_≡_, _∙_}
-use mathlib.Core.Bool.{true, false}
+use mathlib.Core.Bool.{true, false, _&&_}
 use mathlib.Core.List.{List}
-use Prim.Native.Nat.{ℕ, _+_, _*_, _≤_, _<_}
+use Prim.Native.Nat.{ℕ, _≤_, _<_}
 use native.Mathlib.Omega.{arith}
 use borrow.Author.Tests.{le-leb, lt-leb, eq-eqb, ne-eqb}
 use lib.ListN.{length}
@@ -11,14 +11,14 @@ use Rattle.book.specs.Choose.{refuse}
 use Rattle.book.specs.Bytes.{u16At}
 use Rattle.book.specs.Open.{openRefusal}
 use Rattle.book.proofs.Choosing.{passes, fails, true-T, false-T, first-earlier, first-later}
-use Rattle.yard.specs.Yards.{yardCount, yardsFrom, yardsOf, yardsRise, yardBodyRefusal, yardRefusal}
+use Rattle.yard.specs.Yards.{yardCount, yardPlace, yardsFrom, yardsOf, yardsRise, kindsSet, yardBodyRefusal, yardRefusal}
 
 -- a book that does not open
-pub unopened : (b : List ℕ) (why : ℕ) → openRefusal b 2 ≡ why → 1 ≤ why → yardRefusal b ≡ why
+pub unopened : (b : List ℕ) (why : ℕ) → openRefusal b 2 2 ≡ why → 1 ≤ why → yardRefusal b ≡ why
 unfolding yardRefusal
 unopened b why e h = first-earlier _ _ (omega arith) ∙ e
 
-module _ (b : List ℕ) (o : openRefusal b 2 ≡ 0) (count : ℕ) (e : count ≡ u16At b 5) where
+module _ (b : List ℕ) (o : openRefusal b 2 2 ≡ 0) (count : ℕ) (e : count ≡ u16At b 5) where
   body : yardRefusal b ≡ yardBodyRefusal b
   unfolding yardRefusal
   body = first-later _ _ o
@@ -36,7 +36,7 @@ module _ (b : List ℕ) (o : openRefusal b 2 ≡ 0) (count : ℕ) (e : count ≡
         ∙ fails _ _ _ (false-T (lt-leb (u16At b 5) 256 (omega arith)))
 
     module _ (q : count ≤ 256) where
-      rest : yardRefusal b ≡ refuse (eqb (length b) (7 + 2 * count)) 4 (refuse (yardsRise 0 (yardsFrom b count 0)) 5 0)
+      rest : yardRefusal b ≡ refuse (eqb (length b) (yardPlace b count)) 4 (refuse (yardsRise 0 (yardsFrom b count 0) && kindsSet b count 0) 5 0)
       unfolding yardBodyRefusal yardCount yardsOf
       rest =
           rw e
@@ -44,11 +44,15 @@ module _ (b : List ℕ) (o : openRefusal b 2 ≡ 0) (count : ℕ) (e : count ≡
           ∙ passes _ _ _ (true-T (le-leb 1 (u16At b 5) (omega arith)))
           ∙ passes _ _ _ (true-T (le-leb (u16At b 5) 256 (omega arith))))
 
-      pub unsized : (length b ≡ 7 + 2 * count → ⊥) → yardRefusal b ≡ 4
+      pub unsized : (length b ≡ yardPlace b count → ⊥) → yardRefusal b ≡ 4
       unsized r = rest ∙ fails _ _ _ (false-T (ne-eqb _ _ r))
 
-      pub unordered : length b ≡ 7 + 2 * count → yardsRise 0 (yardsFrom b count 0) ≡ false → yardRefusal b ≡ 5
-      unordered r t = rest ∙ passes _ _ _ (true-T (eq-eqb _ _ r)) ∙ fails _ _ _ (false-T t)
+      module _ (r : length b ≡ yardPlace b count) where
+        pub unordered : yardsRise 0 (yardsFrom b count 0) ≡ false → yardRefusal b ≡ 5
+        unordered t = rest ∙ passes _ _ _ (true-T (eq-eqb _ _ r)) ∙ fails _ _ _ (rw t tt)
 
-      pub sound : length b ≡ 7 + 2 * count → yardsRise 0 (yardsFrom b count 0) ≡ true → yardRefusal b ≡ 0
-      sound r t = rest ∙ passes _ _ _ (true-T (eq-eqb _ _ r)) ∙ passes _ _ _ (true-T t)
+        pub unkinded : yardsRise 0 (yardsFrom b count 0) ≡ true → kindsSet b count 0 ≡ false → yardRefusal b ≡ 5
+        unkinded t k = rest ∙ passes _ _ _ (true-T (eq-eqb _ _ r)) ∙ fails _ _ _ (rw (t, k) tt)
+
+        pub sound : yardsRise 0 (yardsFrom b count 0) ≡ true → kindsSet b count 0 ≡ true → yardRefusal b ≡ 0
+        sound t k = rest ∙ passes _ _ _ (true-T (eq-eqb _ _ r)) ∙ passes _ _ _ (rw (t, k) tt)

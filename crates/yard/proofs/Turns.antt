@@ -1,23 +1,18 @@
 -- The yards of a book, one at a time, and those between two numbers. Assumes nothing.
 use mathlib.Core.Path.{_≡_, refl, ap, _∙_}
 use mathlib.Core.List.{List, [], _∷_}
-use Prim.Native.Nat.{ℕ, zero, suc, _+_, _-_, _*_, _≤_}
+use Prim.Native.Nat.{ℕ, zero, suc, _+_, _-_, _≤_}
 use native.Mathlib.Omega.{arith}
 use lib.ListN.{take, drop}
 use lib.Seq.{slice}
-use Rattle.book.specs.Bytes.{u16At}
 use Rattle.yard.specs.Yards.{yardCount, yardAt, yardsFrom, yardsOf}
-
-pub yard-is : (b : List ℕ) (i : ℕ) → yardAt b i ≡ u16At b (7 + 2 * i)
-unfolding yardAt
-yard-is b i = refl
 
 pub yards-none : (b : List ℕ) (i : ℕ) → yardsFrom b 0 i ≡ []
 unfolding yardsFrom
 yards-none b i = refl
 
-pub yards-next : (b : List ℕ) (n i : ℕ) → yardsFrom b (suc n) i ≡ u16At b (7 + 2 * i) ∷ yardsFrom b n (suc i)
-unfolding yardsFrom yardAt
+pub yards-next : (b : List ℕ) (n i : ℕ) → yardsFrom b (suc n) i ≡ yardAt b i ∷ yardsFrom b n (suc i)
+unfolding yardsFrom
 yards-next b n i = refl
 
 pub yards-all : (b : List ℕ) → yardsOf b ≡ yardsFrom b (yardCount b) 0

@@ -1,9 +1,9 @@
 -- What a yard book that passes is, and what its refusals say: the theorems of the yard book. Assumes nothing.
 use mathlib.Core.Path.{_≡_, refl, sym, _∙_}
 use mathlib.Core.Logic.{_⊎_, inl, inr, _↔_}
-use mathlib.Core.Bool.{not}
+use mathlib.Core.Bool.{not, _&&_}
 use mathlib.Core.List.{List}
-use Prim.Native.Nat.{ℕ, _+_, _*_, _-_, _≤_, _<_}
+use Prim.Native.Nat.{ℕ, _+_, _-_, _≤_, _<_}
 use native.Mathlib.Nat.{eq-zero-or-pos}
 use native.Mathlib.Omega.{arith}
 use borrow.Author.Tests.{le-leb, eq-eqb}
@@ -11,11 +11,14 @@ use lib.ListN.{length, getD}
 use lib.Dec.{T, not-T, leb→le, eqb→eq, not-T}
 use Rattle.book.specs.Bytes.{u16At}
 use Rattle.book.specs.Lists.{Distinct}
-use Rattle.book.proofs.Choosing.{lt-or-ge, passes, fails, passed, true-T, refuse-case, first-earlier, first-later, first-none, first-case}
+use Rattle.book.specs.Open.{version}
+use Rattle.kinds.specs.Kinds.{kindSize, kindAt}
+use Rattle.book.proofs.Choosing.{and-left, and-right, and-both, lt-or-ge, passes, fails, passed, true-T, refuse-case, first-earlier, first-later, first-none, first-case}
 use Rattle.book.proofs.Opening.{opens, open-zero, open-most}
-use Rattle.yard.specs.Yards.{yardCount, yardAt, yardsOf, yardsRise, inside, yardBodyRefusal, yardRefusal, yardRefusalIn, YardLayout, RisingYards}
+use Rattle.yard.specs.Yards.{yardCount, yardPlace, yardAt, yardKind, yardsOf, yardsRise, kindsSet, inside, yardBodyRefusal, yardRefusal, yardRefusalIn, YardLayout, RisingYards}
 use Rattle.yard.specs.Tests.{YardValues}
-use Rattle.yard.proofs.Listing.{from-length, from-at, Rises, rises-facts, facts-rises, rises-distinct, inside-all, all-inside}
+use Rattle.yard.proofs.Places.{place-room}
+use Rattle.yard.proofs.Listing.{from-length, from-at, Rises, rises-facts, facts-rises, rises-distinct, inside-all, all-inside, kinds-facts, facts-kinds}
 
 -- the list of a book's yards has as many as it counts, each where the book has it
 pub yards-length : (b : List ℕ) → length (yardsOf b) ≡ yardCount b
@@ -28,17 +31,24 @@ yards-at b i h =
     let z : 0 + i ≡ i = omega arith in
     rw z at (from-at b (yardCount b) 0 i h)
 
--- test 5 holds exactly if the yards are below 1,024 and rise
-pub rise-values : (b : List ℕ) → T (yardsRise 0 (yardsOf b)) → YardValues b
+-- test 5 holds exactly if the yards are below 1,024 and rise, and have kinds
+pub rise-values : (b : List ℕ) → T (yardsRise 0 (yardsOf b) && kindsSet b (yardCount b) 0) → YardValues b
 rise-values b t =
-    let r = rises-facts 0 (yardsOf b) t in
+    let r = rises-facts 0 (yardsOf b) (and-left (yardsRise 0 (yardsOf b)) (kindsSet b (yardCount b) 0) t) in
+    let s = kinds-facts b (yardCount b) 0 (and-right (yardsRise 0 (yardsOf b)) (kindsSet b (yardCount b) 0) t) in
     record {
+      kinds = λ i h. first i (s i h);
       below = λ i h. omega (arith, yards-at b i h, r .below i (omega (arith, yards-length b)));
       rising = λ i h. omega (arith, yards-at b i (omega arith), yards-at b (i + 1) h, r .rising i (i + 1) (omega arith) (omega (arith, yards-length b)));
     }
+  where
+    first : (i : ℕ) → 1 ≤ yardKind b (0 + i) → 1 ≤ yardKind b i
+    first i h =
+        let z : 0 + i ≡ i = omega arith in
+        rw z at h
 
-pub values-rise : (b : List ℕ) → YardValues b → T (yardsRise 0 (yardsOf b))
-values-rise b v =
+rising-from : (b : List ℕ) → YardValues b → T (yardsRise 0 (yardsOf b))
+rising-from b v =
     facts-rises 0 (yardsOf b) (λ h. omega arith)
     (λ i h. omega (arith, yards-at b i (omega (arith, yards-length b)), v .below i (omega (arith, yards-length b))))
     (λ i h. omega (
@@ -47,6 +57,15 @@ values-rise b v =
       yards-at b (i + 1) (omega (arith, yards-length b)),
       v .rising i (omega (arith, yards-length b)),
     ))
+
+pub values-rise : (b : List ℕ) → YardValues b → T (yardsRise 0 (yardsOf b) && kindsSet b (yardCount b) 0)
+values-rise b v =
+    and-both (yardsRise 0 (yardsOf b)) (kindsSet b (yardCount b) 0) (rising-from b v) (facts-kinds b (yardCount b) 0 (λ k h. first k (v .kinds k h)))
+  where
+    first : (i : ℕ) → 1 ≤ yardKind b i → 1 ≤ yardKind b (0 + i)
+    first i h =
+        let z : 0 + i ≡ i = omega arith in
+        rw z h
 
 -- test 8 holds exactly if each yard is a junction
 pub inside-yards : (b : List ℕ) (n : ℕ) → T (inside n (yardsOf b)) → (i : ℕ) → i < yardCount b → yardAt b i < n
@@ -60,8 +79,8 @@ yards-within b n f =
 record Body (b : List ℕ) : Type 0 where
   pub least : 1 ≤ yardCount b
   pub most : yardCount b ≤ 256
-  pub sized : length b ≡ 7 + 2 * yardCount b
-  pub rise : T (yardsRise 0 (yardsOf b))
+  pub sized : length b ≡ yardPlace b (yardCount b)
+  pub values : T (yardsRise 0 (yardsOf b) && kindsSet b (yardCount b) 0)
 
 body-facts : (b : List ℕ) → yardBodyRefusal b ≡ 0 → Body b
 unfolding yardBodyRefusal
@@ -70,7 +89,7 @@ body-facts b e =
     let q = passed _ _ _ (p .1) (omega arith) in
     let r = passed _ _ _ (q .1) (omega arith) in
     let s = passed _ _ _ (r .1) (omega arith) in
-    record { least = leb→le _ _ (p .0); most = leb→le _ _ (q .0); sized = eqb→eq _ _ (r .0); rise = s .0 }
+    record { least = leb→le _ _ (p .0); most = leb→le _ _ (q .0); sized = eqb→eq _ _ (r .0); values = s .0 }
 
 facts-body : (b : List ℕ) → Body b → yardBodyRefusal b ≡ 0
 unfolding yardBodyRefusal
@@ -78,7 +97,10 @@ facts-body b f =
     passes _ _ _ (true-T (le-leb _ _ (f .least)))
     ∙ passes _ _ _ (true-T (le-leb _ _ (f .most)))
     ∙ passes _ _ _ (true-T (eq-eqb _ _ (f .sized)))
-    ∙ passes _ _ _ (f .rise)
+    ∙ passes _ _ _ (f .values)
+
+body-rises : (b : List ℕ) → Body b → T (yardsRise 0 (yardsOf b))
+body-rises b f = and-left (yardsRise 0 (yardsOf b)) (kindsSet b (yardCount b) 0) (f .values)
 
 -- the count that the header has
 pub read-count : (b : List ℕ) → u16At b 5 ≡ yardCount b
@@ -90,7 +112,7 @@ pub rising-yards : (b : List ℕ) → yardRefusal b ≡ 0 → RisingYards b (yar
 unfolding yardRefusal
 rising-yards b e =
     let f = body-facts b (first-none _ _ e .1) in
-    let r = rises-facts 0 (yardsOf b) (f .rise) in
+    let r = rises-facts 0 (yardsOf b) (body-rises b f) in
     record {
       counted = yards-length b;
       each = λ i h. yards-at b i (omega (arith, yards-length b));
@@ -108,33 +130,34 @@ rising-yards b e =
 -- each yard stands once in the list
 pub distinct-yards : (b : List ℕ) → yardRefusal b ≡ 0 → Distinct (yardsOf b)
 unfolding yardRefusal
-distinct-yards b e = rises-distinct 0 (yardsOf b) (body-facts b (first-none _ _ e .1) .rise)
+distinct-yards b e = rises-distinct 0 (yardsOf b) (body-rises b (body-facts b (first-none _ _ e .1)))
 
 -- a book that no test turns back is laid out as 01 says
 pub layout : (b : List ℕ) → yardRefusal b ≡ 0 → YardLayout b
 unfolding yardRefusal
 layout b e =
     let f = body-facts b (first-none _ _ e .1) in
-    let v = rise-values b (f .rise) in
+    let v = rise-values b (f .values) in
     record {
-      opening = opens b 2 (first-none _ _ e .0);
+      opening = opens b 2 2 (first-none _ _ e .0);
       least = f .least;
       most = f .most;
       sized = f .sized;
       below = v .below;
       rising = v .rising;
+      kinds = v .kinds;
     }
 
 -- and a book that is so laid out is not turned back
 pub layout-zero : (b : List ℕ) → YardLayout b → yardRefusal b ≡ 0
 unfolding yardRefusal
 layout-zero b y =
-    first-later _ _ (open-zero b 2 (y .opening))
+    first-later _ _ (open-zero b 2 2 (y .opening))
     ∙ facts-body b (record {
       least = y .least;
       most = y .most;
       sized = y .sized;
-      rise = values-rise b (record { below = y .below; rising = y .rising });
+      values = values-rise b (record { below = y .below; rising = y .rising; kinds = y .kinds });
     })
 
 -- no test fails if and only if the book is laid out as 01 says
@@ -142,22 +165,34 @@ pub yard-layout : (b : List ℕ) → yardRefusal b ≡ 0 ↔ YardLayout b
 yard-layout b = (layout b, layout-zero b)
 
 -- where a passing book has yard number i
-pub yard-ends : (b : List ℕ) (i : ℕ) → yardRefusal b ≡ 0 → i < yardCount b → 7 + 2 * i + 2 ≤ length b
-yard-ends b i e h = omega (arith, layout b e .sized)
+pub yard-ends : (b : List ℕ) (i : ℕ) → yardRefusal b ≡ 0 → i < yardCount b → yardPlace b i + (2 + kindSize (version b)) ≤ length b
+yard-ends b i e h = omega (arith, layout b e .sized, place-room b i (yardCount b) h)
+
+-- a passing book has a version byte
+pub five : (b : List ℕ) → yardRefusal b ≡ 0 → 5 ≤ length b
+five b e = omega (arith, layout b e .opening .headed)
 
 -- it fits a u16's count
 pub count-small : (b : List ℕ) → yardRefusal b ≡ 0 → (1 ≤ yardCount b) × (yardCount b ≤ 256)
 count-small b e = (layout b e .least, layout b e .most)
 
-pub read-yard : (b : List ℕ) (i x : ℕ) → x ≡ u16At b (7 + 2 * i) → i < yardCount b → x ≡ getD (yardsOf b) i 0
+-- the bytes that code reads of yard number i
+pub read-yard-at : (b : List ℕ) (i p x : ℕ) → p ≡ yardPlace b i → x ≡ u16At b p → x ≡ yardAt b i
 unfolding yardAt
-read-yard b i x e h = e ∙ sym (yards-at b i h)
+read-yard-at b i p x e f = rw e at f
+
+pub read-kind-at : (b : List ℕ) (i v p x : ℕ) → v ≡ version b → p ≡ yardPlace b i → x ≡ kindAt v b (p + 2) → x ≡ yardKind b i
+unfolding yardKind
+read-kind-at b i v p x e f g = rw (e, f) at g
+
+pub read-yard : (b : List ℕ) (i p x : ℕ) → p ≡ yardPlace b i → x ≡ u16At b p → i < yardCount b → x ≡ getD (yardsOf b) i 0
+read-yard b i p x e f h = read-yard-at b i p x e f ∙ sym (yards-at b i h)
 
 -- the yard book's own tests are 1 to 5
 pub yard-most : (b : List ℕ) → yardRefusal b ≤ 5
 unfolding yardRefusal yardBodyRefusal
 yard-most b =
-    first-case (λ n. n ≤ 5) _ (λ _. omega (arith, open-most b 2)) (λ _.
+    first-case (λ n. n ≤ 5) _ (λ _. omega (arith, open-most b 2 2)) (λ _.
     refuse-case (λ n. n ≤ 5) _ (λ _. omega arith) (λ _.
     refuse-case (λ n. n ≤ 5) _ (λ _. omega arith) (λ _.
     refuse-case (λ n. n ≤ 5) _ (λ _. omega arith) (λ _.

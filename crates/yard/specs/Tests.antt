@@ -5,22 +5,24 @@ use mathlib.Core.List.{List, [], _∷_, _++_}
 use Prim.Native.Nat.{ℕ, _+_, _*_, _≤_, _<_}
 use lib.ListN.{length}
 use Rattle.book.specs.Tests.{Test, test, openTests}
-use Rattle.yard.specs.Yards.{yardCount, yardAt}
+use Rattle.yard.specs.Yards.{latestYards, yardCount, yardPlace, yardAt, yardKind}
 
--- "junctions u16, below 1,024, rising strictly"
+-- "junctions u16, below 1,024, rising strictly", and kinds "not 0"
 pub record YardValues (b : List ℕ) : Type 0 where
   pub below : (i : ℕ) → i < yardCount b → yardAt b i < 1024
   pub rising : (i : ℕ) → i + 1 < yardCount b → yardAt b i < yardAt b (i + 1)
+  pub kinds : (i : ℕ) → i < yardCount b → 1 ≤ yardKind b i
 
 abbrev pub yardTests : List ℕ → List Test
 yardTests b =
     -- 1, 2, and 3: "The header is incomplete": two bytes after the version
-    openTests b 2
+    openTests b latestYards 2
     -- 3: "a .. yard .. count is outside its limits": yards 1 to 256
     ++ test 3 (1 ≤ yardCount b)
     ∷ test 3 (yardCount b ≤ 256)
-    -- 4: "A record is incomplete, or bytes follow the last one.": two bytes for each yard, after the seven before them
-    ∷ test 4 (length b ≡ 7 + 2 * yardCount b)
+    -- 4: "A record is incomplete, or bytes follow the last one.": the yards, one after the other, take up the book to its
+    -- end
+    ∷ test 4 (length b ≡ yardPlace b (yardCount b))
     -- 5: "A record's value is outside its range or order."
     ∷ test 5 (YardValues b)
     ∷ []

@@ -2,10 +2,14 @@
 use book::Junction;
 use book::Opened;
 ghost use mathlib.Core.Path.{_≡_};
-ghost use Prim.Native.Nat.{_+_, _*_, _≤_, _<_};
-ghost use lib.ListN.{length, getD};
-ghost use Rattle.yard.specs.Yards.{yardCount, yardsFrom, yardsOf, yardsRise};
+ghost use Prim.Native.Nat.{_≤_, _<_};
+ghost use lib.ListN.{length, getD, replicate};
+ghost use Rattle.yard.specs.Yards.{yardCount, yardPlace, yardsFrom, yardsOf, yardKind, yardsRise};
+ghost use Rattle.yard.specs.Yards.{kindsSet, kindTable};
 ghost use Rattle.yard.specs.Yards.{yardRefusal, yardRefusalIn, yardBook, yardNumber};
+
+// The latest version of a yard book.
+pub const LATEST: u8 = 2;
 
 // What reading a yard book finds: how many yards it has, or the number of the test that turns it back.
 pub enum YardBook {
@@ -23,15 +27,23 @@ pub fn number(o: YardBook) -> u8
     }
 }
 
+// Where yard number i stands.
+fn place(b: &[u8], i: usize) -> usize
+    requires { ⌜ (5 ≤ length (now b)) × (i ≤ 65535) ⌝ }
+    ensures { λ r. ⌜ r ≡ yardPlace (now (b .entry)) i ⌝ }
+{
+    7 + i * (2 + kinds::size(book::version(b)))
+}
+
 // Whether each of the `count` yards is below 1,024 and above the one before.
 fn yards_rise(b: &[u8], count: usize) -> bool
-    requires { ⌜ 7 + 2 * count ≤ length (now b) ⌝ }
+    requires { ⌜ (5 ≤ length (now b)) × (count ≤ 65535) × (yardPlace (now b) count ≤ length (now b)) ⌝ }
     ensures { λ r. ⌜ r ≡ yardsRise 0 (yardsFrom (now (b .entry)) count 0) ⌝ }
 {
     let mut low: u16 = 0;
     let mut i: usize = 0;
     while i < count {
-        let y = book::u16_at(b, 7 + 2 * i);
+        let y = book::u16_at(b, place(b, i));
         if y < low {
             return false;
         }
@@ -44,11 +56,26 @@ fn yards_rise(b: &[u8], count: usize) -> bool
     true
 }
 
+// Whether each of the `count` yards has a kind.
+fn kinds_set(b: &[u8], count: usize) -> bool
+    requires { ⌜ (5 ≤ length (now b)) × (count ≤ 65535) × (yardPlace (now b) count ≤ length (now b)) ⌝ }
+    ensures { λ r. ⌜ r ≡ kindsSet (now (b .entry)) count 0 ⌝ }
+{
+    let mut i: usize = 0;
+    while i < count {
+        if kinds::at(book::version(b), b, place(b, i) + 2) == 0 {
+            return false;
+        }
+        i += 1;
+    }
+    true
+}
+
 // The number of the first test that turns the book back, or 0.
 fn refusal(b: &[u8]) -> u8
     ensures { λ r. ⌜ r ≡ yardRefusal (now (b .entry)) ⌝ }
 {
-    let o = book::open(b, 2);
+    let o = book::open(b, LATEST, 2);
     let Opened::Body = o else {
         return book::number(o);
     };
@@ -59,10 +86,13 @@ fn refusal(b: &[u8]) -> u8
     if 256 < count {
         return 3;
     }
-    if b.len() != 7 + 2 * count {
+    if b.len() != place(b, count) {
         return 4;
     }
     if !yards_rise(b, count) {
+        return 5;
+    }
+    if !kinds_set(b, count) {
         return 5;
     }
     0
@@ -93,7 +123,29 @@ pub fn yard_at(b: &[u8], i: usize) -> Junction
     ensures { λ r. ⌜ r .number ≡ getD (yardsOf (now (b .entry))) i 0 ⌝ }
 {
     Junction {
-        number: book::u16_at(b, 7 + 2 * i),
+        number: book::u16_at(b, place(b, i)),
+    }
+}
+
+// The kinds of yard number i of a book that is read.
+pub fn kinds_at(b: &[u8], i: usize) -> u8
+    requires { ⌜ (yardRefusal (now b) ≡ 0) × (i < yardCount (now b)) ⌝ }
+    ensures { λ r. ⌜ r ≡ yardKind (now (b .entry)) i ⌝ }
+{
+    kinds::at(book::version(b), b, place(b, i) + 2)
+}
+
+// Sets the kinds of a book's yards by junction, in a table of zeros.
+pub fn kind_table(b: &[u8], table: &mut [u8])
+    requires { ⌜ (yardRefusal (now b) ≡ 0) × (now table ≡ replicate 1024 0) ⌝ }
+    ensures { λ _. ⌜ now (table .exit) ≡ kindTable (now (b .entry)) ⌝ }
+{
+    let n = count(b) as usize;
+    let mut i: usize = 0;
+    while i < n {
+        let y = yard_at(b, i).number as usize;
+        table[y] = kinds_at(b, i);
+        i += 1;
     }
 }
 

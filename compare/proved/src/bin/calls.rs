@@ -1,5 +1,5 @@
-//! The command `calls`: how long the proved calls take beside the plain ones, on the grid district with 256 yards, and
-//! on full books of each kind; searches also beside the plain one with no ceiling ever, with the junctions that each
+//! The command `calls`: how long the proved calls take beside the plain ones, on the grid district with 256 yards, there
+//! also for yards of a wanted kind, and on full books of each kind; searches also beside the plain one with no ceiling ever, with the junctions that each
 //! measured yard's walk walks on from, and beside brute force, in Rust and, where LEMON is installed, with its Dijkstra
 //! in C++.
 #![forbid(unsafe_code)]
@@ -9,12 +9,12 @@ use std::path::Path;
 use std::process::Command;
 use std::time::Duration;
 
-use compare::build::AREA_BYTES;
+use compare::build::KINDS_AREA_BYTES;
 use compare::generate::{standard, Numbers};
 use compare::refusal::WORK_WORDS;
 use compare::search::state::State;
 use compare::search::{run, tested};
-use compare::{ask_by, query, road, yard, Asked, Found, Measuring};
+use compare::{ask_by, kinds, query, road, yard, Asked, Found, Measuring};
 use proved::turns::{shortest, Call};
 
 /// How long the calls of a row take turns.
@@ -34,6 +34,11 @@ const KS: [u8; 3] = [1, 10, 64];
 const DRIVE_CREWS: [usize; 2] = [2, 16];
 const WITHIN: [usize; 3] = [YARDS as usize / 100, YARDS as usize / 10, YARDS as usize];
 const AGGREGATES: [&str; 2] = ["sum", "maximum"];
+/// Of the searches for a kind of yard: the wanted bit, which one yard in eight has; k, and how many of those yards are
+/// within the drive.
+const WANTED_BIT: u8 = 1;
+const WANTED_K: u8 = 10;
+const WANTED_WITHIN: usize = YARDS as usize / 32;
 /// The ratio that is wanted of a check and a build, and of a search, each beside the plain one.
 const WANTED: f64 = 1.0;
 const WANTED_OF_SEARCHES: f64 = 0.8;
@@ -61,10 +66,24 @@ const COLUMNS: [(&str, &str, usize); 16] = [
     ("", "ratio", 5),
 ];
 
-/// The district's road and yard books.
+/// The district's road and yard books, and the kinds that its searches want.
 struct District {
     road: Vec<u8>,
     yard: Vec<u8>,
+    wanted: u8,
+}
+
+impl District {
+    /// A version 1 yard book of the wanted yards alone, for brute force.
+    fn wanted_yards(&self) -> Vec<u8> {
+        let book = yard::read(&self.yard, 1_024).expect("a sound book");
+        let wanted = book
+            .yards
+            .iter()
+            .filter(|yard| yard.kinds & self.wanted != 0);
+        let junctions: Vec<u16> = wanted.map(|yard| yard.junction).collect();
+        yard::write(&junctions)
+    }
 }
 
 /// What a search's row asks for.
@@ -92,7 +111,7 @@ impl Row {
     /// The drive that so many of the yards are within, with those that are as far as the last of them.
     fn within(district: &District, crews: usize, yards: usize, aggregate: usize) -> Self {
         let query = some_query(crews, 1, aggregate);
-        let books: [&[u8]; 3] = [&district.road, &district.yard, &query];
+        let books: [&[u8]; 3] = [&district.road, &district.wanted_yards(), &query];
         let ranked = ranked(Asked::Within(u32::MAX), books).expect("sound books");
         let seconds = ranked[yards - 1].0;
         Row {
@@ -128,6 +147,7 @@ fn main() {
         build_row(&district, leaf_limit);
     }
     search_rows(&district, peer.as_deref());
+    wanted_rows(peer.as_deref());
     full_rows(peer.as_deref());
 }
 
@@ -167,6 +187,25 @@ fn search_rows(district: &District, peer: Option<&str>) {
     }
 }
 
+/// The grid with a version 2 yard book: its check and build, and searches for a wanted bit that one yard in eight has.
+fn wanted_rows(peer: Option<&str>) {
+    println!("a wanted bit that one yard in eight has: grid, yard and tree books of version 2");
+    let district = district_of_kinds("grid");
+    println!("{HEADING}");
+    check_row(&district, LEAF_LIMIT);
+    build_row(&district, LEAF_LIMIT);
+    print_search_heading();
+    let tree = built(&district, LEAF_LIMIT);
+    for crews in DRIVE_CREWS {
+        for aggregate in 0..AGGREGATES.len() {
+            let first = Row::first_k(crews, WANTED_K, aggregate);
+            search_row(&district, &tree, &first, peer);
+            let drive = Row::within(&district, crews, WANTED_WITHIN, aggregate);
+            search_row(&district, &tree, &drive, peer);
+        }
+    }
+}
+
 /// Full books of each kind of district: 256 yards, every yard a leaf, 16 crews, and k 64 or all yards within the drive.
 fn full_rows(peer: Option<&str>) {
     for kind in standard::KINDS {
@@ -185,17 +224,27 @@ fn full_rows(peer: Option<&str>) {
     }
 }
 
-/// A district of a kind, with its yards.
+/// A district of a kind, with its yards; all are wanted.
 fn district(kind: &str) -> District {
     District {
         road: standard::road_book(kind, SEED).expect("the kind is known"),
         yard: standard::yard_book(YARDS, SEED).expect("a book may have so many"),
+        wanted: kinds::ALL,
+    }
+}
+
+/// The same with a version 2 yard book; one yard in eight is wanted.
+fn district_of_kinds(kind: &str) -> District {
+    District {
+        yard: standard::kinds_yard_book(YARDS, SEED).expect("a book may have so many"),
+        wanted: WANTED_BIT,
+        ..district(kind)
     }
 }
 
 /// The district's tree.
-fn built(District { road, yard }: &District, leaf_limit: u32) -> Vec<u8> {
-    let mut area = vec![0; AREA_BYTES];
+fn built(District { road, yard, .. }: &District, leaf_limit: u32) -> Vec<u8> {
+    let mut area = vec![0; KINDS_AREA_BYTES];
     let work = &mut [0; WORK_WORDS];
     let built = compare::build(road, yard, LANDMARKS, leaf_limit, work, &mut area);
     area.truncate(built.length as usize);
@@ -205,15 +254,18 @@ fn built(District { road, yard }: &District, leaf_limit: u32) -> Vec<u8> {
 /// A check of the district's tree.
 fn check_row(district: &District, leaf_limit: u32) {
     let tree = built(district, leaf_limit);
-    let District { road, yard } = district;
+    let District { road, yard, .. } = district;
     let ours: Call = &mut |work| proved::check(road, yard, &tree, work);
     let theirs: Call = &mut |work| compare::check(road, yard, &tree, work);
     row("check", leaf_limit, ours, theirs);
 }
 
 /// A build of the district's tree.
-fn build_row(District { road, yard }: &District, leaf_limit: u32) {
-    let (one, other) = (&mut vec![0; AREA_BYTES], &mut vec![0; AREA_BYTES]);
+fn build_row(District { road, yard, .. }: &District, leaf_limit: u32) {
+    let (one, other) = (
+        &mut vec![0; KINDS_AREA_BYTES],
+        &mut vec![0; KINDS_AREA_BYTES],
+    );
     let ours: Call =
         &mut |work| proved::build(road, yard, LANDMARKS, leaf_limit, work, one).refusal;
     let theirs: Call =
@@ -229,26 +281,28 @@ fn row(call: &str, leaf_limit: u32, ours: Call, theirs: Call) {
 }
 
 /// One search's row, also beside the plain search with no ceiling and brute force. All must give the same list.
-fn search_row(District { road, yard }: &District, tree: &[u8], row: &Row, peer: Option<&str>) {
-    let books: [&[u8]; 3] = [road, tree, &row.query];
-    let without_tree: [&[u8]; 3] = [road, yard, &row.query];
-    let by = |way, work: &mut [u32], list: &mut [u32]| ask_by(way, row.asked, books, work, list);
+fn search_row(district: &District, tree: &[u8], row: &Row, peer: Option<&str>) {
+    let (asked, wanted, yards) = (row.asked, district.wanted, district.wanted_yards());
+    let books: [&[u8]; 3] = [&district.road, tree, &row.query];
+    let without_tree: [&[u8]; 3] = [&district.road, &yards, &row.query];
+    let by =
+        |way, work: &mut [u32], list: &mut [u32]| ask_by(way, asked, wanted, books, work, list);
     let mut lists = [[0; 2 * YARDS as usize]; 4];
     let [one, other, third, fourth] = &mut lists;
-    let ours: Call = &mut |work| settled(proved::ask(row.asked, books, work, one));
+    let ours: Call = &mut |work| settled(proved::ask(asked, wanted, books, work, one));
     let theirs: Call = &mut |work| settled(by(Measuring::Walks, work, other));
     let whole: Call = &mut |work| settled(by(Measuring::WalksWithoutCeiling, work, third));
-    let brute: Call = &mut |_| brute_force(row.asked, without_tree, fourth);
+    let brute: Call = &mut |_| brute_force(asked, without_tree, fourth);
     let [best, plain, whole, brute] = shortest(SEARCH_TURNS, [ours, theirs, whole, brute]);
     assert!(lists.iter().all(|list| *list == lists[0]));
     let mut words = row.words();
     words.extend([milliseconds(best), milliseconds(plain), ratio(best, plain)]);
     words.extend([format!("{WANTED_OF_SEARCHES:.1}"), milliseconds(whole)]);
-    words.extend(walks(row.asked, books));
+    words.extend(walks(asked, wanted, books));
     words.extend([milliseconds(brute), ratio(best, brute)]);
     if let Some(peer) = peer {
         let list = &lists[0][..2 * row.listed];
-        let lemon = by_peer(Path::new(peer), row.asked, without_tree, list);
+        let lemon = by_peer(Path::new(peer), asked, without_tree, list);
         words.extend([milliseconds(lemon), ratio(best, lemon)]);
     }
     print_line(&words);
@@ -266,9 +320,10 @@ fn ratio(time: f64, other: f64) -> String {
 
 /// How many yards a search measures, and how many junctions each one's walk walks on from, on average, with the ceiling
 /// and without.
-fn walks(asked: Asked, books: [&[u8]; 3]) -> [String; 3] {
+fn walks(asked: Asked, wanted: u8, books: [&[u8]; 3]) -> [String; 3] {
     let last = |measuring| {
-        let search = tested(asked, books, WORK_WORDS, 2 * YARDS as usize).expect("sound books");
+        let results = 2 * YARDS as usize;
+        let search = tested(asked, wanted, books, WORK_WORDS, results).expect("sound books");
         run(&search.by(measuring)).state
     };
     let each = |state: &State| state.walked_on as f64 / state.measured.len() as f64;
@@ -344,7 +399,7 @@ fn brute_force(asked: Asked, books: [&[u8]; 3], results: &mut [u32]) -> u32 {
 /// The yards asked for of all, sorted; each crew's distances by Dijkstra.
 fn ranked(asked: Asked, [road, yard, query]: [&[u8]; 3]) -> Result<Vec<(u64, u16)>, u32> {
     let road = road::read(road)?;
-    let yards = yard::read(yard, road.junctions)?;
+    let yards = yard::read(yard, road.junctions)?.junctions();
     let query = query::read(query, road.junctions)?;
     let distances = |&crew: &u16| road.least_distances(crew);
     let rows: Vec<Vec<u32>> = query.crews.iter().map(distances).collect();

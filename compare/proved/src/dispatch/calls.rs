@@ -1,8 +1,8 @@
 //! The proved calls with full areas; a refusal is the error.
 
-use compare::build::AREA_BYTES;
+use compare::build::KINDS_AREA_BYTES;
 use compare::refusal::WORK_WORDS;
-use compare::{yard, Asked, Found};
+use compare::{kinds, yard, Asked, Found};
 
 /// The words of a result area for any list, `FINDER_WITHIN_WORDS` of the header.
 pub const RESULT_WORDS: usize = 512;
@@ -25,7 +25,7 @@ impl Searched {
 /// The tree that the proved build makes, after the proved check has passed it.
 pub fn build(road: &[u8], yard: &[u8], landmarks: u32, leaf: u32) -> Result<Vec<u8>, u32> {
     let mut work = vec![0; WORK_WORDS];
-    let mut tree = vec![0; AREA_BYTES];
+    let mut tree = vec![0; KINDS_AREA_BYTES];
     let built = crate::build(road, yard, landmarks, leaf, &mut work, &mut tree);
     accepted(built.refusal)?;
     tree.truncate(built.length as usize);
@@ -33,11 +33,11 @@ pub fn build(road: &[u8], yard: &[u8], landmarks: u32, leaf: u32) -> Result<Vec<
     Ok(tree)
 }
 
-/// The proved search of a road, a tree and a query book.
+/// The proved search of a road, a tree and a query book, for yards of any kind.
 pub fn search(asked: Asked, books: [&[u8]; 3]) -> Result<Searched, u32> {
     let mut work = vec![0; WORK_WORDS];
     let mut results = vec![0; RESULT_WORDS];
-    let found = crate::ask(asked, books, &mut work, &mut results);
+    let found = crate::ask(asked, kinds::ALL, books, &mut work, &mut results);
     accepted(found.refusal)?;
     let listed = results.chunks_exact(2).take(found.listed as usize);
     let list = listed.map(|words| (words[0] as u16, words[1])).collect();

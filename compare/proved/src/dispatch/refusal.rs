@@ -1,9 +1,10 @@
 //! A refusal in words: the number, the book, the record and the rule.
 
 use compare::book::{u16_at, u32_at};
+use compare::kinds;
 use compare::refusal::{DISAGREE, HEADER, LENGTH, RECORD, UNREACHED, VALUE, VERSION};
 use compare::road::{self, MOST_JUNCTIONS, MOST_ROADS};
-use compare::yard::MOST_YARDS;
+use compare::yard::{Yard, MOST_YARDS};
 
 use super::district::counted;
 
@@ -11,19 +12,20 @@ use super::district::counted;
 const FIELDS: usize = 5;
 
 /// The paper's rules by number, for a refusal that has no record to tell.
-const RULES: [&str; 12] = [
+const RULES: [&str; 13] = [
     "fewer than five bytes, or the length isn't the count of bytes after it",
-    "the version isn't 1",
+    "the version isn't 1, nor, in a yard or tree book, 2",
     "the header is incomplete, or a count is outside its limits",
     "a record is incomplete, or bytes follow the last one",
     "a record's value is outside its range or order",
     "some junction can't be reached from junction 0",
     "the tree's shape rules don't hold",
     "junction counts or yards disagree between books, or a yard isn't a junction of the road book",
-    "a stored distance, least or greatest isn't the true one",
+    "a stored distance, least, greatest or kind byte isn't the true one",
     "crews are none, more than 16, or at no junction of the road book",
     "k, the aggregate code, m or the leaf limit is outside its range",
     "a lent area is too short",
+    "no kind of yard is wanted",
 ];
 
 /// How it is told that some junctions, at least one, can't be reached.
@@ -32,7 +34,7 @@ pub type CutOff<'a> = &'a dyn Fn(&[u16]) -> String;
 /// A road book's refusal.
 pub fn of_road(number: u32, book: &[u8], cut_off: CutOff) -> String {
     let part = match number {
-        LENGTH | VERSION => opening(number, book),
+        LENGTH | VERSION => opening(number, book, "1"),
         HEADER => road_header(book),
         RECORD => records(book, 4, u16_at(book, FIELDS + 2), 6, "road"),
         VALUE => road_value(book),
@@ -45,9 +47,9 @@ pub fn of_road(number: u32, book: &[u8], cut_off: CutOff) -> String {
 /// A yard book's refusal beside a road book of so many junctions.
 pub fn of_yard(number: u32, book: &[u8], junctions: u16) -> String {
     let part = match number {
-        LENGTH | VERSION => opening(number, book),
+        LENGTH | VERSION => opening(number, book, "1 or 2"),
         HEADER => yard_header(book),
-        RECORD => records(book, 2, u16_at(book, FIELDS), 2, "yard"),
+        RECORD => records(book, 2, u16_at(book, FIELDS), yard_size(book), "yard"),
         VALUE => yard_value(book),
         DISAGREE => yard_elsewhere(book, junctions),
         _ => None,
@@ -69,8 +71,8 @@ fn worded(number: u32, book: &str, part: Option<String>) -> String {
     }
 }
 
-/// Tests 1 and 2.
-fn opening(number: u32, book: &[u8]) -> Option<String> {
+/// Tests 1 and 2, of a book that has these versions.
+fn opening(number: u32, book: &[u8], versions: &str) -> Option<String> {
     let length = book.len();
     Some(match number {
         LENGTH if length < FIELDS => {
@@ -81,7 +83,7 @@ fn opening(number: u32, book: &[u8]) -> Option<String> {
             u32_at(book, 0),
             length - 4
         ),
-        _ => format!(": the version is {}, expected 1", book[4]),
+        _ => format!(": the version is {}, expected {versions}", book[4]),
     })
 }
 
@@ -170,10 +172,18 @@ fn road_rule(
 /// Test 5 of a yard book: the first yard that breaks a rule.
 fn yard_value(book: &[u8]) -> Option<String> {
     let mut before = None;
-    for (place, yard) in yards(book).enumerate() {
+    for (
+        place,
+        Yard {
+            junction: yard,
+            kinds,
+        },
+    ) in yards(book).enumerate()
+    {
         let rule = match before {
             _ if yard >= MOST_JUNCTIONS => "expected a junction below 1024",
             Some(before) if yard <= before => "expected junctions to rise strictly",
+            _ if kinds == 0 => "expected kinds from 1 to 255, not 0",
             _ => {
                 before = Some(yard);
                 continue;
@@ -187,6 +197,7 @@ fn yard_value(book: &[u8]) -> Option<String> {
 /// Test 8 of a yard book: the first yard that isn't a junction.
 fn yard_elsewhere(book: &[u8], junctions: u16) -> Option<String> {
     let (place, yard) = yards(book)
+        .map(|yard| yard.junction)
         .enumerate()
         .find(|&(_, yard)| yard >= junctions)?;
     let rule = format!(
@@ -196,11 +207,19 @@ fn yard_elsewhere(book: &[u8], junctions: u16) -> Option<String> {
     Some(format!(", yard {} (junction {yard}): {rule}", place + 1))
 }
 
-/// A yard book's junctions.
-fn yards(book: &[u8]) -> impl Iterator<Item = u16> + '_ {
-    book[FIELDS + 2..]
-        .chunks_exact(2)
-        .map(|record| u16_at(record, 0))
+/// The bytes of a yard's record, by the book's version.
+fn yard_size(book: &[u8]) -> usize {
+    2 + kinds::size(book[4])
+}
+
+/// A yard book's yards.
+fn yards(book: &[u8]) -> impl Iterator<Item = Yard> + '_ {
+    let version = book[4];
+    let yard = move |record: &[u8]| Yard {
+        junction: u16_at(record, 0),
+        kinds: kinds::after(version, record, 2),
+    };
+    book[FIELDS + 2..].chunks_exact(yard_size(book)).map(yard)
 }
 
 /// Test 6: the junctions that can't be reached.

@@ -1,7 +1,7 @@
 //! Every damage of a road and a yard book is told with its book and its record.
 
-use compare::generate::damage::{roads, sound_road, yards, Damage, JUNCTIONS};
-use compare::{road, yard};
+use compare::generate::damage::{roads, sound_road, sound_yard, yards, Damage, JUNCTIONS};
+use compare::{kinds, road, yard};
 
 use super::calls;
 use super::text::text;
@@ -61,6 +61,9 @@ fn sound_books_are_told() {
         output.text
     );
     assert!(output.text.ends_with("\nyard 1\nyard 14\n"));
+    let output = text(&sound_road(), Some(&sound_yard(kinds::VERSION))).expect("sound books");
+    let lines = "\nyard 1 # kinds 1\nyard 2 # kinds 2\nyard 5 # kinds 5\nyard 6 # kinds 2\nyard 14 # kinds 4\n";
+    assert!(output.text.ends_with(lines), "{}", output.text);
     assert_eq!(calls::road_passes(&sound_road()), Ok(()));
     assert_eq!(
         road::read(&sound_road()).map(|book| book.junctions),

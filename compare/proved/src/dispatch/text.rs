@@ -2,7 +2,8 @@
 
 use std::fmt::Write;
 
-use compare::{road, yard};
+use compare::yard::{self, YardBook};
+use compare::{kinds, road};
 
 use super::calls;
 use super::district::counted;
@@ -26,12 +27,23 @@ pub fn text(road_book: &[u8], yard_book: Option<&[u8]>) -> Result<Output, Fault>
         let bad = |n| Fault::bad_input(refusal::of_yard(n, book, road.junctions));
         calls::build(road_book, book, 1, 256).map_err(bad)?;
         let yards = yard::read(book, road.junctions).map_err(differs)?;
-        yards
-            .iter()
-            .for_each(|yard| text.push_str(&format!("yard {yard}\n")));
-        heading.push_str(&format!(", {}", counted(yards.len(), "yard")));
+        heading.push_str(&format!(", {}", counted(yards.yards.len(), "yard")));
+        text.push_str(&yard_lines(&yards));
     }
     Ok(Output::text(format!("{heading}\n{text}")))
+}
+
+/// A line for each yard; a district has no kinds, so those of a version 2 book stand in comments.
+fn yard_lines(book: &YardBook) -> String {
+    let mut lines = String::new();
+    for yard in &book.yards {
+        let _ = write!(lines, "yard {}", yard.junction);
+        if kinds::size(book.version) > 0 {
+            let _ = write!(lines, " # kinds {}", yard.kinds);
+        }
+        lines.push('\n');
+    }
+    lines
 }
 
 /// The plain reader refuses what the proved call passed.

@@ -5,7 +5,7 @@ use std::collections::BTreeSet;
 use compare::refusal::WORK_WORDS;
 use compare::search::state::{true_distance, Item, State};
 use compare::search::{found, run_seen, tested, Outcome, Search};
-use compare::{brute, road};
+use compare::{brute, kinds, road};
 
 use super::answer::Answer;
 use super::books::Books;
@@ -54,8 +54,8 @@ impl Seen {
 impl Trace {
     /// The plain finder's search of the same books; its answer has to be the proved one, and brute force's.
     pub fn new(answer: &Answer) -> Result<Self, Fault> {
-        let books = &answer.books;
-        let search = tested(answer.asked, books.searched(), WORK_WORDS, RESULT_WORDS)
+        let (asked, books) = (answer.asked, answer.books.searched());
+        let search = tested(asked, kinds::ALL, books, WORK_WORDS, RESULT_WORDS)
             .map_err(|number| Fault::failed(by_rule(number, "the plain finder, of sound books")))?;
         let mut seen = Vec::new();
         let outcome = run_seen(&search, |state| seen.push(Seen::new(state)));
@@ -96,6 +96,7 @@ impl Trace {
         let search = &self.search;
         Ok(brute::list(
             search.asked,
+            search.wanted,
             &road,
             &search.tree,
             &search.query,

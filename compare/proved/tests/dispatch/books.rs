@@ -3,7 +3,8 @@
 use std::fs;
 use std::path::Path;
 
-use compare::road;
+use compare::generate::standard;
+use compare::{kinds, road, yard};
 
 use crate::command::{example, examples, expected, folder, grid, printed, refused, told, BOOKS};
 
@@ -69,6 +70,26 @@ fn roads_alone() {
         road::write(1, &[])
     );
     assert!(!folder.join("yard.book").exists());
+}
+
+/// A version 2 yard book's kinds stand in comments, and the text gives the same yards in version 1.
+#[test]
+fn kinds_are_left_out() {
+    let folder = folder("kinds");
+    let [roads, yards] = ["road", "yard"].map(|name| folder.join(name));
+    let book = standard::kinds_yard_book(8, 7).unwrap();
+    fs::write(&roads, standard::road_book("grid", 7).unwrap()).unwrap();
+    fs::write(&yards, &book).unwrap();
+    let text = printed(&["text", told(&roads), told(&yards)], 0);
+    assert!(text.starts_with("# 1984 roads, 8 yards\n"), "{text}");
+    assert!(text.ends_with(" # kinds 128\n"), "{text}");
+    let file = folder.join("kinds.district");
+    fs::write(&file, text).unwrap();
+    printed(&["books", told(&file), told(&folder)], 0);
+    let again = fs::read(folder.join("yard.book")).unwrap();
+    let [before, after] = [&book, &again].map(|book| yard::read(book, 1_024).unwrap());
+    assert_eq!([before.version, after.version], [kinds::VERSION, 1]);
+    assert_eq!(before.junctions(), after.junctions());
 }
 
 #[test]

@@ -121,8 +121,9 @@ fn random_districts_are_listed_as_by_brute_force() {
 #[test]
 fn the_longest_list_is_brute_forces() {
     let road = road::read(&standard::road_book("grid", 7).unwrap()).unwrap();
+    let yards = yard::read(&standard::yard_book(256, 7).unwrap(), road.junctions).unwrap();
     let asking = Asking {
-        yards: yard::read(&standard::yard_book(256, 7).unwrap(), road.junctions).unwrap(),
+        yards: yards.junctions(),
         query: Query {
             aggregate: Aggregate::Maximum,
             k: 1,

@@ -16,12 +16,12 @@ use Rattle.build_cuts.specs.declared.Plan.{Plan}
 
 -- the regions of the range from a with s junctions, in preorder, with so many cuts left
 unfoldable pub rangeRegions : List ℕ → List ℕ → ℕ → ℕ → ℕ → ℕ → ℕ → List Region
-rangeRegions b yb m limit levels a s = cut (given b m limit) levels a s (within a (a + s) (yardsOf yb))
+rangeRegions b yb m limit levels a s = cut (given b yb m limit) levels a s (within a (a + s) (yardsOf yb))
 
 -- those of its parts of number i and after, each cut with so many cuts left
 unfoldable pub partsFrom : List ℕ → List ℕ → ℕ → ℕ → ℕ → ℕ → ℕ → ℕ → List Region
 partsFrom b yb m limit levels a s i =
-    partRegions (cut (given b m limit) levels) a s (within a (a + s) (yardsOf yb)) (4 - i) i
+    partRegions (cut (given b yb m limit) levels) a s (within a (a + s) (yardsOf yb)) (4 - i) i
 
 -- both by a plan, a range and a road book
 abbrev pub regionsOf : List ℕ → Plan → ℕ → Part → List ℕ → List Region
@@ -43,8 +43,8 @@ pub record Range (adj yb : List ℕ) (p : Part) : Type 0 where
   pub inside : p .start .number + p .size ≤ countIn adj
   pub numbers : Numbered yb p
 
--- a road book that adj is the adjacency of; the bytes of its regions have their room
-pub record Room (adj : List ℕ) (regions : List ℕ → List Region) (at room : ℕ) : Type 0 where
+-- a road book that adj is the adjacency of; the bytes of its regions in a version v book have their room
+pub record Room (v : ℕ) (adj : List ℕ) (regions : List ℕ → List Region) (at room : ℕ) : Type 0 where
   pub book : List ℕ
   pub adjacent : Adjacency book adj
-  pub fits : at + length (encodeRegions (regions book)) ≤ room
+  pub fits : at + length (encodeRegions v (regions book)) ≤ room

@@ -13,11 +13,12 @@ use Rattle.build_records.specs.code.Parts.{regionOf}
 
 -- the region over a range with q children, a leaf if q is 0; or nothing:
 -- "a region with one child is replaced by the child"
-unfoldable pub ownRegions : List ℕ → ℕ → ℕ → ℕ → ℕ → ℕ → List ℕ → List Region
-ownRegions b m limit a s q ys = choose (eqb q 1) [] (regionOf (given b m limit) a s q ys ∷ [])
+unfoldable pub ownRegions : (road yard : List ℕ) → ℕ → ℕ → ℕ → ℕ → ℕ → List ℕ → List Region
+ownRegions road yard m limit a s q ys = choose (eqb q 1) [] (regionOf (given road yard m limit) a s q ys ∷ [])
 
--- a tree area into which some regions were written from place `at` on, the place after them, and how many there are
-pub record WrittenRegions (tree : List ℕ) (at : ℕ) (rs : List Region) (after : List ℕ) (place count : ℕ) : Type 0 where
-  pub bytes : after ≡ write tree at (encodeRegions rs)
-  pub end : place ≡ at + length (encodeRegions rs)
+-- a tree area into which some regions were written, in a version v book, from place `at` on, the place after them, and
+-- how many there are
+pub record WrittenRegions (v : ℕ) (tree : List ℕ) (at : ℕ) (rs : List Region) (after : List ℕ) (place count : ℕ) : Type 0 where
+  pub bytes : after ≡ write tree at (encodeRegions v rs)
+  pub end : place ≡ at + length (encodeRegions v rs)
   pub number : count ≡ length rs

@@ -9,10 +9,10 @@ leaf-mark-requires : tie.Need-leaf-mark-requires
 leaf-mark-requires c κs = search needs
 
 returns : tie.Need-returns
-returns c = c .leaf-mark .ensures ∙ sym (mark-size-leaf _ _ (c .before .if1 .taken))
+returns c = c .leaf-mark .ensures ∙ sym (mark-size-leaf _ _ _ (c .before .if1 .taken))
 
 returns-2 : tie.Need-returns-2
-returns-2 c = sym (mark-size-inner _ _ (omega (arith, c .if1 .left)))
+returns-2 c = sym (mark-size-inner _ _ _ (omega (arith, c .if1 .left)))
 
 pub mark-size-spec : {M : Type 1} → statement M
 mark-size-spec =

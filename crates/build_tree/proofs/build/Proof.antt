@@ -1,6 +1,6 @@
 use borrow.Author.Needs.{needs}
 use native.Mathlib.Omega.{arith}
-use Rattle.build_tree.proofs.Limits.{short}
+use Rattle.build_tree.proofs.Limits.{short-most}
 use Rattle.build_tree.proofs.Answering.{turned-length, turned-work, turned-tree, taken-answer, taken-facts, taken-length, taken-work, taken-tree}
 use Rattle.build_tree.proofs.Answering.{other-work}
 use Rattle.build_tree.proofs.build.Statement.{statement}
@@ -47,7 +47,7 @@ cast-t24 c = let e = c .before .before .before .before .before .before .before .
     let s = c .before .before .before .before .before .before .before .before .before .before .before .before .before .before .before .before .before in
     let a = taken-facts _ _ _ _ (s .args .work .now) (s .args .tree .now) _ (e .0)
     (c .before .before .before .before .before .before .before .before .before .if1 .left) in
-    omega (arith, c .before .before .before .before .before .before .put-tree .ensures .0 (s .args .road .now) (e .1 (a .roads)), short _ _ _ _ _ _ a)
+    omega (arith, c .before .before .before .before .before .before .put-tree .ensures .0 (s .args .road .now) (e .1 (a .roads)), short-most _ _ _ _ _ _ a)
 
 same-length : tie.Need-same-length
 same-length c = search needs

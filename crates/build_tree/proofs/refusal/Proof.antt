@@ -1,6 +1,6 @@
 use borrow.Author.Needs.{needs}
 use native.Mathlib.Omega.{arith}
-use Rattle.build_tree.proofs.Answering.{build-road, build-yard, build-range, build-work, build-room, build-passes}
+use Rattle.build_tree.proofs.Answering.{build-road, build-yard, build-range, build-work, yard-five, build-room, build-passes}
 use Rattle.build_tree.proofs.refusal.Statement.{statement}
 use Rattle.build_tree.proofs.refusal.Tie as tie
 
@@ -70,15 +70,19 @@ returns-4 c = let r = c .before .before .before .before .before .before .before 
   r .1,
 )
 
+version-requires : tie.Need-version-requires
+version-requires c κs = yard-five _ _ _ _ (c .before .before .before .before .before .before .read-in .ensures) (c .before .before .before .before .y .given .1)
+
+tree-room-requires : tie.Need-tree-room-requires
+tree-room-requires c κs = search needs
+
 same-length-5 : tie.Need-same-length-5
 same-length-5 c = search needs
 
 returns-5 : tie.Need-returns-5
-returns-5 c = let r = c .before .before .before .before .before .before .before .before .before .before .before .before .before .read .ensures in (
-  build-room _ _ _ _ _ _ _ (r .0) _ _ (c .before .before .before .before .before .before .before .before .before .r .given .1) _
-      (c .before .before .before .before .before .before .before .read-in .ensures) _ (c .before .before .before .before .before .y .given .1) _
-      (c .before .before .before .range-refusal .ensures) (c .before .before .if1 .left) (omega (arith, c .before .if2 .left))
-      (omega (arith, c .if3 .taken)),
+returns-5 c = let r = c .before .before .before .before .before .before .before .before .before .before .before .before .before .before .before .read .ensures in (
+  build-room _ _ _ _ _ _ _ (r .0) _ _ (c .before .before .before .before .before .before .before .before .before .before .before .r .given .1) _ (c .before .before .before .before .before .before .before .before .before .read-in .ensures) _ (c .before .before .before .before .before .before .before .y .given .1) _ (c .before .before .before .before .before .range-refusal .ensures) (c .before .before .before .before .if1 .left) _ _
+      (c .before .before .version .ensures) (c .before .tree-room .ensures) (omega (arith, c .before .before .before .if2 .left)) (omega (arith, c .if3 .taken)),
   r .1,
 )
 
@@ -86,10 +90,9 @@ same-length-6 : tie.Need-same-length-6
 same-length-6 c = search needs
 
 returns-6 : tie.Need-returns-6
-returns-6 c = let r = c .before .before .before .before .before .before .before .before .before .before .before .before .before .read .ensures in (
-  build-passes _ _ _ _ _ _ _ (r .0) _ _ (c .before .before .before .before .before .before .before .before .before .r .given .1) _
-      (c .before .before .before .before .before .before .before .read-in .ensures) _ (c .before .before .before .before .before .y .given .1) _
-      (c .before .before .before .range-refusal .ensures) (c .before .before .if1 .left) (omega (arith, c .before .if2 .left)) (omega (arith, c .if3 .left)),
+returns-6 c = let r = c .before .before .before .before .before .before .before .before .before .before .before .before .before .before .before .read .ensures in (
+  build-passes _ _ _ _ _ _ _ (r .0) _ _ (c .before .before .before .before .before .before .before .before .before .before .before .r .given .1) _ (c .before .before .before .before .before .before .before .before .before .read-in .ensures) _ (c .before .before .before .before .before .before .before .y .given .1) _ (c .before .before .before .before .before .range-refusal .ensures) (c .before .before .before .before .if1 .left) _ _
+      (c .before .before .version .ensures) (c .before .tree-room .ensures) (omega (arith, c .before .before .before .if2 .left)) (omega (arith, c .if3 .left)),
   r .1,
 )
 
@@ -114,6 +117,8 @@ refusal-spec =
     returns-3
     same-length-4
     returns-4
+    version-requires
+    tree-room-requires
     same-length-5
     returns-5
     same-length-6

@@ -15,7 +15,7 @@ use Rattle.tree_layout.proofs.Places.{place-first}
 use Rattle.tree_layout.proofs.RecordFields.{fields-inside}
 use Rattle.tree_layout.proofs.RegionRecords.{layout-record}
 use Rattle.check_rules.specs.Truth.{trueBesideRegion, trueBeside}
-use Rattle.check_distances.proofs.Records.{header-counts, record-end, record-next, regions-on, regions-off, regions-done}
+use Rattle.check_rules.proofs.Records.{header-counts, record-end, record-next, regions-on, regions-off, regions-done}
 use Rattle.check_distances.proofs.Regions.{region-marked, region-held, tree-test}
 use Rattle.check_distances.proofs.numbers_true.Statement.{statement}
 use Rattle.check_distances.proofs.numbers_true.Tie as tie
@@ -78,7 +78,7 @@ size-at-requires c κs =
     let l = c .before .before in
     let h = l .before .before .before .before in
     let r = layout-record _ (layout-facts _ (p .regions)) _ (number l) _ (l .before .loop .inv .1) in
-    (omega (arith, landmarks h, layout-facts _ (p .regions) .landmarks), fields-inside _ _ r)
+    (omega (arith, landmarks h, layout-facts _ (p .regions) .landmarks), r .header, fields-inside _ _ r)
 
 add-at : tie.Need-add-at Inv-loop μ-loop
 add-at c =

@@ -1,10 +1,13 @@
 use Rattle.tree_layout.proofs.RecordFields.{fields-inside}
-use Rattle.check_distances.proofs.Regions.{region-leaf, region-inner, fields-own, marked-own, held-own}
+use Rattle.check_rules.proofs.Records.{fields-own}
+use Rattle.check_distances.proofs.Regions.{region-leaf, region-inner, marked-own, held-own}
 use Rattle.check_distances.proofs.region_true.Statement.{statement}
 use Rattle.check_distances.proofs.region_true.Tie as tie
 
 fields-requires : tie.Need-fields-requires
-fields-requires c κs = fields-inside _ _ (c .before .before .before .pre .0 .stands)
+fields-requires c κs =
+    let s = c .before .before .before .pre .0 .stands in
+    (s .header, fields-inside _ _ s)
 
 lists-true-requires : tie.Need-lists-true-requires
 lists-true-requires c κs =

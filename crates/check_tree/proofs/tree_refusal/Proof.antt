@@ -1,7 +1,7 @@
 use borrow.Author.Needs.{needs}
 use native.Mathlib.Omega.{arith}
 use borrow.Author.Tests.{not-true, not-false}
-use Rattle.check_tree.proofs.Answering.{tree-own, step-junctions, step-counts, step-needs, step-yards, step-beside, step-untrue, step-true}
+use Rattle.check_tree.proofs.Answering.{tree-own, step-junctions, step-counts, step-needs, step-yards, step-beside, step-untrue, step-untrue-kinds, step-true}
 use Rattle.check_tree.proofs.tree_refusal.Statement.{statement}
 use Rattle.check_tree.proofs.tree_refusal.Tie as tie
 
@@ -96,9 +96,31 @@ returns-5 c =
     (y .before .before .count .ensures) (omega (arith, y .if2 .left)) _ (k .before .yards-known .ensures) (not-false _ (k .if3 .left)) _ road a
     (c .before .numbers-true .ensures road a) (not-true _ (c .if4 .taken))
 
+kinds-true-requires : tie.Need-kinds-true-requires
+kinds-true-requires c κs =
+    let o = c .before .before .before .before .before .before .before .before .before .before .before in
+    let r = o .before .before .before .before in
+    let p = r .before .before .before .before .before .before .pre in
+    step-needs _ _ _ (p .0) (p .1) _ _ (r .read .ensures .0) (o .o .given .1)
+
 returns-6 : tie.Need-returns-6
 returns-6 c =
-    let k = c .before .before in
+    let n = c .before .before in
+    let k = n .before .before in
+    let y = k .before .before in
+    let t = y .before .before .before in
+    let j = t .before .before in
+    let o = j .before .before in
+    let r = o .before .before .before .before in
+    let p = r .before .before .before .before .before .before .pre in
+    λ road a. step-untrue-kinds _ _ _ (p .0) (p .1) _ _ (r .read .ensures .0) (o .o .given .1) _ (j .junctions .ensures) (omega (arith, t .if1 .left)) _
+    (y .before .before .count .ensures) (omega (arith, y .if2 .left)) _ (k .before .yards-known .ensures) (not-false _ (k .if3 .left)) _ road a
+    (n .before .numbers-true .ensures road a) (not-false _ (n .if4 .left)) _ (c .before .kinds-true .ensures) (not-true _ (c .if5 .taken))
+
+returns-7 : tie.Need-returns-7
+returns-7 c =
+    let n = c .before .before in
+    let k = n .before .before in
     let y = k .before .before in
     let t = y .before .before .before in
     let j = t .before .before in
@@ -107,7 +129,7 @@ returns-6 c =
     let p = r .before .before .before .before .before .before .pre in
     λ road a. step-true _ _ _ (p .0) (p .1) _ _ (r .read .ensures .0) (o .o .given .1) _ (j .junctions .ensures) (omega (arith, t .if1 .left)) _
     (y .before .before .count .ensures) (omega (arith, y .if2 .left)) _ (k .before .yards-known .ensures) (not-false _ (k .if3 .left)) _ road a
-    (c .before .numbers-true .ensures road a) (not-false _ (c .if4 .left))
+    (n .before .numbers-true .ensures road a) (not-false _ (n .if4 .left)) _ (c .before .kinds-true .ensures) (not-false _ (c .if5 .left))
 
 pub tree-refusal-spec : {M : Type 1} → statement M
 tree-refusal-spec =
@@ -128,4 +150,6 @@ tree-refusal-spec =
     returns-4
     numbers-true-requires
     returns-5
-    returns-6)
+    kinds-true-requires
+    returns-6
+    returns-7)

@@ -1,8 +1,8 @@
-use borrow.Author.Needs.{needs}
 use mathlib.Core.Path.{_∙_}
 use native.Mathlib.Omega.{arith}
 use Rattle.text.proofs.Appending.{append-then}
 use Rattle.outline.specs.Output.{headerText}
+use borrow.Author.Needs.{needs}
 use Rattle.outline.proofs.header.Statement.{statement}
 use Rattle.outline.proofs.header.Tie as tie
 
@@ -46,89 +46,56 @@ slice-aggregate-put-number-4 : tie.Need-slice-aggregate-put-number-4
 slice-aggregate-put-number-4 c = search needs
 
 put-number-requires-4 : tie.Need-put-number-requires-4
-put-number-requires-4 c κs =
-    let at5 = c .before .before .before .before .before in
-    let at11 = at5 .before .before .before .before .before .before in
-    let at17 = at11 .before .before .before .before .before .before in
-    let at23 = at17 .before .before .before .before .before .before in
-    let at27 = at23 .before .before .before .before in
-    omega (
-      arith,
-      at23 .put .ensures .after,
-      at23 .put .kept .0,
-      at17 .put-number .ensures .1,
-      at17 .put-number .kept .0,
-      at11 .put-number2 .ensures .1,
-      at11 .put-number2 .kept .0,
-      at5 .put-number3 .ensures .1,
-      at5 .put-number3 .kept .0,
-      at27 .pre,
-    )
+put-number-requires-4 c κs = omega (
+  arith,
+  c .before .before .before .before .before .before .before .before .before .before .before .before .before .before .before .before .before .before .before .before .before .before .before .put .ensures .after,
+  c .before .before .before .before .before .before .before .before .before .before .before .before .before .before .before .before .before .before .before .before .before .before .before .put .kept .0,
+  c .before .before .before .before .before .before .before .before .before .before .before .before .before .before .before .before .before .put-number .ensures .1,
+  c .before .before .before .before .before .before .before .before .before .before .before .before .before .before .before .before .before .put-number .kept .0,
+  c .before .before .before .before .before .before .before .before .before .before .before .put-number2 .ensures .1,
+  c .before .before .before .before .before .before .before .before .before .before .before .put-number2 .kept .0,
+  c .before .before .before .before .before .put-number3 .ensures .1,
+  c .before .before .before .before .before .put-number3 .kept .0,
+  c .before .before .before .before .before .before .before .before .before .before .before .before .before .before .before .before .before .before .before .before .before .before .before .before .before .before .before .pre,
+)
 
-slice-aggregate-put-2 : tie.Need-slice-aggregate-put-2
-slice-aggregate-put-2 c = search needs
-
-put-requires-2 : tie.Need-put-requires-2
-put-requires-2 c κs =
-    let at4 = c .before .before .before .before in
-    let at10 = at4 .before .before .before .before .before .before in
-    let at16 = at10 .before .before .before .before .before .before in
-    let at22 = at16 .before .before .before .before .before .before in
-    let at28 = at22 .before .before .before .before .before .before in
-    let at32 = at28 .before .before .before .before in
-    omega (
-      arith,
-      at28 .put .ensures .after,
-      at28 .put .kept .0,
-      at22 .put-number .ensures .1,
-      at22 .put-number .kept .0,
-      at16 .put-number2 .ensures .1,
-      at16 .put-number2 .kept .0,
-      at10 .put-number3 .ensures .1,
-      at10 .put-number3 .kept .0,
-      at4 .put-number4 .ensures .1,
-      at4 .put-number4 .kept .0,
-      at32 .pre,
-    )
+columns-requires : tie.Need-columns-requires
+columns-requires c κs = omega (
+  arith,
+  c .before .before .before .before .before .before .before .before .before .before .before .before .before .before .before .before .before .before .before .before .before .before .before .before .before .before .before .put .ensures .after,
+  c .before .before .before .before .before .before .before .before .before .before .before .before .before .before .before .before .before .before .before .before .before .before .before .before .before .before .before .put .kept .0,
+  c .before .before .before .before .before .before .before .before .before .before .before .before .before .before .before .before .before .before .before .before .before .put-number .ensures .1,
+  c .before .before .before .before .before .before .before .before .before .before .before .before .before .before .before .before .before .before .before .before .before .put-number .kept .0,
+  c .before .before .before .before .before .before .before .before .before .before .before .before .before .before .before .put-number2 .ensures .1,
+  c .before .before .before .before .before .before .before .before .before .before .before .before .before .before .before .put-number2 .kept .0,
+  c .before .before .before .before .before .before .before .before .before .put-number3 .ensures .1,
+  c .before .before .before .before .before .before .before .before .before .put-number3 .kept .0,
+  c .before .before .before .put-number4 .ensures .1,
+  c .before .before .before .put-number4 .kept .0,
+  c .before .before .before .before .before .before .before .before .before .before .before .before .before .before .before .before .before .before .before .before .before .before .before .before .before .before .before .before .before .before .before .pre,
+)
 
 same-length : tie.Need-same-length
 same-length c =
-    let at7 = c .before .before .before .before .before .before .before in
-    let at13 = at7 .before .before .before .before .before .before in
-    let at19 = at13 .before .before .before .before .before .before in
-    let at25 = at19 .before .before .before .before .before .before in
-    let at31 = at25 .before .before .before .before .before .before in
-    c .before .before .put2 .kept .0 ∙ (at7 .put-number4 .kept .0 ∙ (at13 .put-number3 .kept .0 ∙ (at19 .put-number2 .kept .0
-    ∙ (at25 .put-number .kept .0 ∙ (at31 .put .kept .0)))))
+    c .before .before .columns .kept .0
+    ∙ (c .before .before .before .before .before .before .put-number4 .kept .0
+    ∙ (c .before .before .before .before .before .before .before .before .before .before .before .before .put-number3 .kept .0 ∙ (c .before .before .before .before .before .before .before .before .before .before .before .before .before .before .before .before .before .before .put-number2 .kept .0 ∙ (c .before .before .before .before .before .before .before .before .before .before .before .before .before .before .before .before .before .before .before .before .before .before .before .before .put-number .kept .0 ∙ (c .before .before .before .before .before .before .before .before .before .before .before .before .before .before .before .before .before .before .before .before .before .before .before .before .before .before .before .before .before .before .put .kept .0)))))
 
 returns : tie.Need-returns
 unfolding headerText
-returns c =
-    let at7 = c .before .before .before .before .before .before .before in
-    let at13 = at7 .before .before .before .before .before .before in
-    let at19 = at13 .before .before .before .before .before .before in
-    let at25 = at19 .before .before .before .before .before .before in
-    let at31 = at25 .before .before .before .before .before .before in
-    let at35 = at31 .before .before .before .before in (
-      append-then (append-then (append-then (append-then (append-then (at31 .put .ensures) (at25 .put-number .ensures .0))
-          (at19 .put-number2 .ensures .0)) (at13 .put-number3 .ensures .0)) (at7 .put-number4 .ensures .0)) (c .before .before .put2 .ensures),
-      omega (
-        arith,
-        at31 .put .ensures .after,
-        at31 .put .kept .0,
-        at25 .put-number .ensures .1,
-        at25 .put-number .kept .0,
-        at19 .put-number2 .ensures .1,
-        at19 .put-number2 .kept .0,
-        at13 .put-number3 .ensures .1,
-        at13 .put-number3 .kept .0,
-        at7 .put-number4 .ensures .1,
-        at7 .put-number4 .kept .0,
-        c .before .before .put2 .ensures .after,
-        c .before .before .put2 .kept .0,
-        at35 .pre,
-      ),
-    )
+returns c = (
+  append-then (append-then (append-then (append-then (append-then (c .before .before .before .before .before .before .before .before .before .before .before .before .before .before .before .before .before .before .before .before .before .before .before .before .before .before .before .before .before .before .put .ensures) (c .before .before .before .before .before .before .before .before .before .before .before .before .before .before .before .before .before .before .before .before .before .before .before .before .put-number .ensures .0))
+      (c .before .before .before .before .before .before .before .before .before .before .before .before .before .before .before .before .before .before .put-number2 .ensures .0)) (c .before .before .before .before .before .before .before .before .before .before .before .before .put-number3 .ensures .0)) (c .before .before .before .before .before .before .put-number4 .ensures .0)) (c .before .before .columns .ensures .0),
+  omega (
+    arith,
+    c .before .before .before .before .before .before .before .before .before .before .before .before .before .before .before .before .before .before .before .before .before .before .before .before .before .before .before .before .before .before .put .ensures .after,
+    c .before .before .before .before .before .before .before .before .before .before .before .before .before .before .before .before .before .before .before .before .before .before .before .before .put-number .ensures .1,
+    c .before .before .before .before .before .before .before .before .before .before .before .before .before .before .before .before .before .before .put-number2 .ensures .1,
+    c .before .before .before .before .before .before .before .before .before .before .before .before .put-number3 .ensures .1,
+    c .before .before .before .before .before .before .put-number4 .ensures .1,
+    c .before .before .columns .ensures .1,
+  ),
+)
 
 pub header-spec : {M : Type 1} → statement M
 header-spec =
@@ -148,7 +115,6 @@ header-spec =
     cast-put-number-4
     slice-aggregate-put-number-4
     put-number-requires-4
-    slice-aggregate-put-2
-    put-requires-2
+    columns-requires
     same-length
     returns)

@@ -1,8 +1,8 @@
-use borrow.Author.Needs.{needs}
 use mathlib.Core.Path.{_∙_}
 use native.Mathlib.Omega.{arith}
 use Rattle.text.proofs.Appending.{append-then}
 use Rattle.outline.specs.Output.{lineOf}
+use borrow.Author.Needs.{needs}
 use Rattle.outline.proofs.line.Statement.{statement}
 use Rattle.outline.proofs.line.Tie as tie
 
@@ -39,66 +39,39 @@ slice-aggregate-put-number-4 c = search needs
 put-number-requires-4 : tie.Need-put-number-requires-4
 put-number-requires-4 c κs = search needs
 
-cast-put-number-4 : tie.Need-cast-put-number-4
-cast-put-number-4 c = search needs
-
-slice-aggregate-put-number-5 : tie.Need-slice-aggregate-put-number-5
-slice-aggregate-put-number-5 c = search needs
-
-put-number-requires-5 : tie.Need-put-number-requires-5
-put-number-requires-5 c κs =
-    let at5 = c .before .before .before .before .before in
-    let at11 = at5 .before .before .before .before .before .before in
-    let at17 = at11 .before .before .before .before .before .before in
-    let at23 = at17 .before .before .before .before .before .before in
-    let at27 = at23 .before .before .before .before in
-    omega (
-      arith,
-      at23 .put-number .ensures .1,
-      at23 .put-number .kept .0,
-      at17 .put-number2 .ensures .1,
-      at17 .put-number2 .kept .0,
-      at11 .put-number3 .ensures .1,
-      at11 .put-number3 .kept .0,
-      at5 .put-number4 .ensures .1,
-      at5 .put-number4 .kept .0,
-      at27 .pre,
-    )
+line-end-requires : tie.Need-line-end-requires
+line-end-requires c κs = omega (
+  arith,
+  c .before .before .before .before .before .before .before .before .before .before .before .before .before .before .before .before .before .before .before .before .before .put-number .ensures .1,
+  c .before .before .before .before .before .before .before .before .before .before .before .before .before .before .before .before .before .before .before .before .before .put-number .kept .0,
+  c .before .before .before .before .before .before .before .before .before .before .before .before .before .before .before .put-number2 .ensures .1,
+  c .before .before .before .before .before .before .before .before .before .before .before .before .before .before .before .put-number2 .kept .0,
+  c .before .before .before .before .before .before .before .before .before .put-number3 .ensures .1,
+  c .before .before .before .before .before .before .before .before .before .put-number3 .kept .0,
+  c .before .before .before .put-number4 .ensures .1,
+  c .before .before .before .put-number4 .kept .0,
+  c .before .before .before .before .before .before .before .before .before .before .before .before .before .before .before .before .before .before .before .before .before .before .before .before .before .pre,
+)
 
 same-length : tie.Need-same-length
 same-length c =
-    let at8 = c .before .before .before .before .before .before .before .before in
-    let at14 = at8 .before .before .before .before .before .before in
-    let at20 = at14 .before .before .before .before .before .before in
-    let at26 = at20 .before .before .before .before .before .before in
-    c .before .before .put-number5 .kept .0 ∙ (at8 .put-number4 .kept .0 ∙ (at14 .put-number3 .kept .0 ∙ (at20 .put-number2 .kept .0
-    ∙ (at26 .put-number .kept .0))))
+    c .before .before .line-end .kept .0
+    ∙ (c .before .before .before .before .before .before .put-number4 .kept .0 ∙ (c .before .before .before .before .before .before .before .before .before .before .before .before .put-number3 .kept .0 ∙ (c .before .before .before .before .before .before .before .before .before .before .before .before .before .before .before .before .before .before .put-number2 .kept .0 ∙ (c .before .before .before .before .before .before .before .before .before .before .before .before .before .before .before .before .before .before .before .before .before .before .before .before .put-number .kept .0))))
 
 returns : tie.Need-returns
 unfolding lineOf
-returns c =
-    let at8 = c .before .before .before .before .before .before .before .before in
-    let at14 = at8 .before .before .before .before .before .before in
-    let at20 = at14 .before .before .before .before .before .before in
-    let at26 = at20 .before .before .before .before .before .before in
-    let at30 = at26 .before .before .before .before in (
-      append-then (append-then (append-then (append-then (at26 .put-number .ensures .0) (at20 .put-number2 .ensures .0))
-          (at14 .put-number3 .ensures .0)) (at8 .put-number4 .ensures .0)) (c .before .before .put-number5 .ensures .0),
-      omega (
-        arith,
-        at26 .put-number .ensures .1,
-        at26 .put-number .kept .0,
-        at20 .put-number2 .ensures .1,
-        at20 .put-number2 .kept .0,
-        at14 .put-number3 .ensures .1,
-        at14 .put-number3 .kept .0,
-        at8 .put-number4 .ensures .1,
-        at8 .put-number4 .kept .0,
-        c .before .before .put-number5 .ensures .1,
-        c .before .before .put-number5 .kept .0,
-        at30 .pre,
-      ),
-    )
+returns c = (
+  append-then (append-then (append-then (append-then (c .before .before .before .before .before .before .before .before .before .before .before .before .before .before .before .before .before .before .before .before .before .before .before .before .put-number .ensures .0) (c .before .before .before .before .before .before .before .before .before .before .before .before .before .before .before .before .before .before .put-number2 .ensures .0))
+      (c .before .before .before .before .before .before .before .before .before .before .before .before .put-number3 .ensures .0)) (c .before .before .before .before .before .before .put-number4 .ensures .0)) (c .before .before .line-end .ensures .0),
+  omega (
+    arith,
+    c .before .before .before .before .before .before .before .before .before .before .before .before .before .before .before .before .before .before .before .before .before .before .before .before .put-number .ensures .1,
+    c .before .before .before .before .before .before .before .before .before .before .before .before .before .before .before .before .before .before .put-number2 .ensures .1,
+    c .before .before .before .before .before .before .before .before .before .before .before .before .put-number3 .ensures .1,
+    c .before .before .before .before .before .before .put-number4 .ensures .1,
+    c .before .before .line-end .ensures .1,
+  ),
+)
 
 pub line-spec : {M : Type 1} → statement M
 line-spec =
@@ -115,8 +88,6 @@ line-spec =
     cast-put-number-3
     slice-aggregate-put-number-4
     put-number-requires-4
-    cast-put-number-4
-    slice-aggregate-put-number-5
-    put-number-requires-5
+    line-end-requires
     same-length
     returns)

@@ -11,7 +11,7 @@ use Rattle.outline.proofs.lines.Tie as tie
 
 abbrev Inv-loop : tie.InvT-loop
 Inv-loop out₀ at b places ends n end₀ i₀ out end i =
-    (i ≤ n) × (length out ≡ length out₀) × (end ≤ at + 105 * i) × Appended out₀ at (inTurn (regionText b) i) out end
+    (i ≤ n) × (length out ≡ length out₀) × (end ≤ at + 126 * i) × Appended out₀ at (inTurn (regionText b) i) out end
 
 abbrev μ-loop : tie.MeasureT-loop
 μ-loop out₀ at b places ends n end₀ i₀ out end i = n - i

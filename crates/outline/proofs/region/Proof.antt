@@ -1,6 +1,7 @@
-use borrow.Author.Needs.{needs}
+use native.Mathlib.Omega.{arith}
 use Rattle.text.proofs.Appending.{append-as}
-use Rattle.outline.proofs.Outlining.{region-is}
+use Rattle.outline.proofs.Outlining.{region-is, five}
+use borrow.Author.Needs.{needs}
 use Rattle.outline.proofs.region.Statement.{statement}
 use Rattle.outline.proofs.region.Tie as tie
 
@@ -10,6 +11,9 @@ fields-requires c κs = search needs
 level-requires : tie.Need-level-requires
 level-requires c κs = search needs
 
+version-requires : tie.Need-version-requires
+version-requires c κs = five _ _ _ (c .before .before .before .before .before .before .before .pre .0)
+
 line-requires : tie.Need-line-requires
 line-requires c κs = search needs
 
@@ -18,12 +22,11 @@ same-length c = search needs
 
 returns : tie.Need-returns
 returns c =
-    let at4 = c .before .before .before .before in
-    let at5 = at4 .before in
-    let at10 = at5 .before .before .before .before .before in
-    let p = at10 .pre in
+    let p = c .before .before .before .before .before .before .before .before .before .before .before .pre in
     let w = c .before .before .line .ensures in
-    (append-as (region-is _ _ _ _ _ _ (p .0) (p .1) (at5 .fields .ensures) (at4 .level .ensures)) (w .0), w .1)
+    (append-as (region-is _ _ _ _ _ _ (p .0) (p .1) (c .before .before .before .before .before .before .fields .ensures) (c .before .before .before .before .before .level .ensures) _ (c .before .before .before .version .ensures)) (w .0), w .1)
 
 pub region-spec : {M : Type 1} → statement M
-region-spec = tie.close (tie.spec fields-requires level-requires line-requires same-length returns)
+region-spec =
+    tie.close
+    (tie.spec fields-requires level-requires version-requires line-requires same-length returns)

@@ -51,7 +51,7 @@ same-length c = c .before .loop .inv .2
 returns : tie.Need-returns Inv-loop μ-loop
 returns c =
     let l = c .before .loop in
-    copied-all _ _ _ _ (l .inv .1) (omega arith) (l .inv .3) (omega (arith, c .loop-test .left))
+    (l .inv .1, copied-all _ _ _ _ (l .inv .1) (omega arith) (l .inv .3) (omega (arith, c .loop-test .left)))
 
 pub crews-spec : {M : Type 1} → statement M
 crews-spec =

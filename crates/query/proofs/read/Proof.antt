@@ -8,7 +8,7 @@ use Rattle.query.proofs.read.Statement.{statement}
 use Rattle.query.proofs.read.Tie as tie
 
 -- past the first `let else` the book opens
-body : (c : tie.After-enum-told) → openRefusal (c .before .before .before .before .args .b .now) 7 ≡ 0
+body : (c : tie.After-enum-told) → openRefusal (c .before .before .before .before .args .b .now) 1 7 ≡ 0
 body c = opened-body _ (sym (c .before .before .«open» .ensures) ∙ c .enum-told .given .1)
 
 open-requires : tie.Need-open-requires
@@ -27,7 +27,7 @@ returns : tie.Need-returns
 returns c = not-opened _ _ _ _ _ (c .before .before .before .«open» .ensures) (c .before .enum-told2 .given .1) (c .number .ensures)
 
 header-requires : tie.Need-header-requires
-header-requires c κs = omega (arith, opens _ _ (body c) .headed)
+header-requires c κs = omega (arith, opens _ _ _ (body c) .headed)
 
 refusal-requires : tie.Need-refusal-requires
 refusal-requires c κs = (body (c .before), c .header .ensures)

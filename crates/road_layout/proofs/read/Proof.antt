@@ -9,7 +9,7 @@ use Rattle.road_layout.proofs.read.Statement.{statement}
 use Rattle.road_layout.proofs.read.Tie as tie
 
 -- past the first `let else` the book opens
-body : (c : tie.After-enum-told) → openRefusal (c .before .before .before .before .args .b .now) 4 ≡ 0
+body : (c : tie.After-enum-told) → openRefusal (c .before .before .before .before .args .b .now) 1 4 ≡ 0
 body c = opened-body _ (sym (c .before .before .«open» .ensures) ∙ c .enum-told .given .1)
 
 open-requires : tie.Need-open-requires
@@ -28,10 +28,10 @@ returns : tie.Need-returns
 returns c = unopened _ _ _ _ (c .before .before .before .«open» .ensures) (c .before .enum-told2 .given .1) (c .number .ensures)
 
 junction-count-requires : tie.Need-junction-count-requires
-junction-count-requires c κs = omega (arith, opens _ _ (body c) .headed)
+junction-count-requires c κs = omega (arith, opens _ _ _ (body c) .headed)
 
 road-count-requires : tie.Need-road-count-requires
-road-count-requires c κs = omega (arith, opens _ _ (body (c .before)) .headed)
+road-count-requires c κs = omega (arith, opens _ _ _ (body (c .before)) .headed)
 
 returns-2 : tie.Need-returns-2
 returns-2 c =

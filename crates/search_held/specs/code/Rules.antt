@@ -1,11 +1,12 @@
 -- A search's rule as the code has it, and what is kept by it. Assumes nothing: these are definitions.
 use mathlib.Core.List.{List}
 use Prim.Native.Nat.{ℕ, _≤_}
-use Rattle.tree_layout.specs.Values.{Element}
-use Rattle.search_rules.specs.Rule.{Rule, nearest, inDrive}
+use Rattle.search_rules.specs.Rule.{Rule, nearest, inDrive, Asking}
+use Rattle.search_rules.specs.Order.{Entry}
 use Rattle.search_held.specs.declared.Rule.{Rule as Given}
 use Rattle.search_held.specs.declared.Rule.the-variants.{Nearest, InDrive}
 use Rattle.search_held.specs.declared.Kept.{Kept}
+use Rattle.search_held.specs.declared.Asked.{Asked}
 use Rattle.search_held.specs.code.Pairs.{heldOf, listedIn}
 
 -- the definition's rule
@@ -13,8 +14,12 @@ abbrev pub ruleOf : Given → Rule
 ruleOf (Nearest k) = nearest k
 ruleOf (InDrive seconds) = inDrive seconds
 
+-- what a search asks for, as the definition has it
+abbrev pub askingOf : Asked → Asking
+askingOf a = record { code = a .aggregate; rule = ruleOf (a .rule); wanted = a .wanted }
+
 -- the held yards: of the first k those of the struct, of a drive those of the words
-abbrev pub heldBy : Rule → Kept → List ℕ → List Element
+abbrev pub heldBy : Rule → Kept → List ℕ → List Entry
 heldBy (nearest k) kept ws = heldOf (kept .held)
 heldBy (inDrive seconds) kept ws = listedIn ws (kept .listed)
 

@@ -4,7 +4,8 @@ use mathlib.Core.List.{List}
 use Prim.Native.Nat.{ℕ, _+_, max}
 use lib.ListN.{getD, set}
 use Rattle.tree_layout.specs.Values.{Element}
-use Rattle.search_rules.specs.Queue.{wordAt, pick}
+use Rattle.book.specs.Choose.{choose}
+use Rattle.search_rules.specs.Queue.{unqueued, queued, wordAt, pick}
 use Rattle.search_rules.specs.Step.{noElement, againKey}
 use Rattle.search_state.specs.code.State.{yardKeysAt, firstsAt, boundsAt, goneAt, fsIn, goneIn}
 use Rattle.search_leaf.specs.code.Leaves.{wordsOf}
@@ -29,9 +30,12 @@ module _ (regions junctions : ℕ) (es : List Element) (n : ℕ) (ws vs : List �
       set (set ws (goneAt regions junctions + y) 0) (yardKeysAt regions junctions + y)
       (max (getD vs (boundsAt + y) 0) (getD ws (firstsAt regions junctions + r) 0))
 
--- "A leaf queues its next yard and, if any remain, itself": leaf r
+-- "A leaf queues its next yard and, if any remain, itself": leaf r; "A leaf without any wanted yard queues nothing when
+-- taken."
 unfoldable pub leafQueued : (regions junctions : ℕ) → List Element → ℕ → (ws vs : List ℕ) → ℕ → List ℕ
 leafQueued regions junctions es n ws vs r =
     let after = yardQueued regions junctions es n ws vs r (leaving regions junctions es n ws vs) in
-    set after r (againKey (getD ws (firstsAt regions junctions + r) 0)
-    (nextWord (fsIn junctions vs) (goneIn regions junctions after) es n))
+    let on = set after r (againKey (getD ws (firstsAt regions junctions + r) 0)
+    (nextWord (fsIn junctions vs) (goneIn regions junctions after) es n)) in
+    let off = set ws r unqueued in
+    choose (queued (nextWord (fsIn junctions vs) (goneIn regions junctions ws) es n)) on off

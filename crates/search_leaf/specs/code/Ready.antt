@@ -10,13 +10,11 @@ use lib.Dec.{T}
 use Rattle.road.specs.code.Rows.{Rowed}
 use Rattle.tree_layout.specs.Decode.{landmarkCount}
 use Rattle.tree.specs.Arrays.{Laid}
-use Rattle.search_rules.specs.Rule.{Rule}
+use Rattle.search_rules.specs.Rule.{Asking}
 use Rattle.search_rules.specs.Instance.{Instance, size, marks, leaf}
 use Rattle.search_rules.specs.Books.{searchOf, Passed}
 use Rattle.search_rules.specs.Bounds.{chosen}
 use Rattle.tree_layout.specs.Values.{noMark}
-use Rattle.search_rules.specs.Queue.{unqueued}
-use Rattle.search_rules.specs.Step.{nextF}
 use Rattle.search_bounds.specs.code.Tables.{LandmarkTable}
 use Rattle.search_state.specs.code.State.{wordCount, regionKeysIn, yardKeysIn, firstsIn, picksIn}
 use Rattle.search_state.specs.code.State.{goneIn, valueCount, fsIn, boundsIn}
@@ -29,22 +27,23 @@ pub record IsPick (i : Instance) (r p : ℕ) : Type 0 where
 
 -- the books and the crews are accepted, each crew has its row of distances, the places are the tree book's, and the
 -- landmark table is filled
-pub record Ready (road tree : List ℕ) (code : ℕ) (rule : Rule) (crews drives places table : List ℕ) : Type 0 where
+pub record Ready (road tree : List ℕ) (a : Asking) (crews drives places table : List ℕ) : Type 0 where
   pub passed : Passed road tree crews
   pub driven : Rowed road crews drives
   pub laid : Laid tree places
-  pub tableed : LandmarkTable (searchOf road tree code rule crews) (landmarkCount tree) table
+  pub tableed : LandmarkTable (searchOf road tree a crews) (landmarkCount tree) table
 
 -- beside some road book
-pub record Readied (tree : List ℕ) (code : ℕ) (rule : Rule) (crews drives places table : List ℕ) : Type 0 where
+pub record Readied (tree : List ℕ) (a : Asking) (crews drives places table : List ℕ) : Type 0 where
   pub road : List ℕ
-  pub ready : Ready road tree code rule crews drives places table
+  pub ready : Ready road tree a crews drives places table
 
 -- the mark of a leaf that was never taken
 abbrev pub unopened : ℕ
 unopened = 18446744073709551615
 
--- for each leaf that was taken the number of its landmark, and at its yards' junctions their f and their bounds
+-- for each leaf that was taken the number of its landmark, and at its yards' junctions their f, if they are wanted, and
+-- their bounds
 pub record Cached (i : Instance) (picks fs bounds : List ℕ) : Type 0 where
   pub picks-count : length picks ≡ size i
   pub fs-count : length fs ≡ i .tree .junctions
@@ -63,22 +62,21 @@ pub record OpenLeaf (i : Instance) (picks fs bounds : List ℕ) (r p : ℕ) : Ty
   pub pick : IsPick i r p
   pub opened : Opened i (chosen i r) fs bounds
 
--- of leaf r some yard remains, and there is a word for each region and for each junction
-pub record Waiting (i : Instance) (keys yards firsts : List ℕ) (gone : List Bool) (r : ℕ) : Type 0 where
+-- there is a word for each region and for each junction
+pub record Counted (i : Instance) (keys yards firsts : List ℕ) (gone : List Bool) : Type 0 where
   pub keys-count : length keys ≡ size i
   pub firsts-count : length firsts ≡ size i
   pub yards-count : length yards ≡ i .tree .junctions
   pub gone-count : length gone ≡ i .tree .junctions
-  pub waits : nextF i gone (chosen i r) < unqueued
 
--- of a search of r regions and n junctions: region l is a leaf of which some yard remains,
--- and the words and the yards' values keep what was taken before
+-- of a search of r regions and n junctions: region l is a leaf, and the words and the yards' values keep what was taken
+-- before
 pub record Leafed (i : Instance) (r n : ℕ) (words values : List ℕ) (l : ℕ) : Type 0 where
   pub count : length words ≡ wordCount r n
   pub value-count : length values ≡ valueCount
   pub cached : Cached i (picksIn r n words) (fsIn n values) (boundsIn n values)
   pub isLeaf : IsLeaf i l
-  pub waiting : Waiting i (regionKeysIn r n words) (yardKeysIn r n words) (firstsIn r n words) (goneIn r n words) l
+  pub counted : Counted i (regionKeysIn r n words) (yardKeysIn r n words) (firstsIn r n words) (goneIn r n words)
 
 -- of the words before and after, the keys, the first keys and which yards have left are the same
 pub record SameQueue (r n : ℕ) (before after : List ℕ) : Type 0 where

@@ -5,7 +5,7 @@ use native.Mathlib.Omega.{arith}
 use lib.ListN.{length, length-replicate}
 use Rattle.tree_layout.specs.Decode.{junctionCount}
 use Rattle.tree.proofs.Fielding.{laid-header, laid-few}
-use Rattle.search_held.specs.code.Rules.{ruleOf}
+use Rattle.search_held.specs.code.Rules.{askingOf}
 use Rattle.search_leaf.proofs.Landmarks.{table-crews}
 use Rattle.search_step.proofs.Taking.{picked}
 use Rattle.search_run.proofs.Running.{Steps, queue-part, least-of, going, ends-settled, ends-limit, steps-on}
@@ -16,7 +16,7 @@ use Rattle.search_run.proofs.steps.Tie as tie
 abbrev Inv-loop : tie.InvT-loop
 Inv-loop adj tree places ends table drives crews asked words₀ values₀ list₀ measured₀ queue progress₀ taken₀ words values list measured progress taken =
     (queue ≡ length places + junctionCount tree)
-    × Steps tree (asked .aggregate) (ruleOf (asked .rule)) crews drives places table (asked .limit) (length measured₀) words values list measured progress taken
+    × Steps tree (askingOf asked) crews drives places table (asked .limit) (length measured₀) words values list measured progress taken
 
 abbrev μ-loop : tie.MeasureT-loop
 μ-loop adj tree places ends table drives crews asked words₀ values₀ list₀ measured₀ queue progress₀ taken₀ words values list measured progress taken = asked .limit - taken
@@ -25,7 +25,7 @@ queue-root-requires : tie.Need-queue-root-requires Inv-loop μ-loop
 queue-root-requires c κs =
     let s = c .before .before .before .before .before .before .before .before .before .before .before .before .pre in
     let ready = s .0 .ready in
-    (ready .laid, ready .tableed .limits, table-crews _ _ _ _ _ _ _ _ ready, ap length (s .5) ∙ length-replicate _ _)
+    (ready .laid, ready .tableed .limits, table-crews _ _ _ _ _ _ _ ready, ap length (s .5) ∙ length-replicate _ _)
 
 header-requires : tie.Need-header-requires Inv-loop μ-loop
 header-requires c κs = laid-header _ _ (c .before .before .before .before .before .before .before .before .before .before .before .before .before .before .before .pre .0 .ready .laid)
@@ -43,7 +43,7 @@ loop-holds : tie.Need-loop-holds Inv-loop μ-loop
 loop-holds c =
     let s = c .before .before .before .before .before .before .before .before .before .before .before .before .before .before .before .before .before .before .pre in (
       queue-count _ _ _ (c .before .before .header .ensures),
-      steps-start _ _ _ _ _ _ _ _ _ _ _ _ _ _ (s .5) (c .before .before .before .before .before .queue-root .ensures) (s .6) (s .2) (s .4) (c .none .ensures),
+      steps-start _ _ _ _ _ _ _ _ _ _ _ _ _ (s .5) (c .before .before .before .before .before .queue-root .ensures) (s .6) (s .2) (s .4) (c .none .ensures),
     )
 
 slice-reshare-prefix-pick : tie.Need-slice-reshare-prefix-pick Inv-loop μ-loop

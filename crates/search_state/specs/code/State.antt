@@ -12,7 +12,7 @@ use Rattle.search_rules.specs.Rule.{Rule}
 use Rattle.search_rules.specs.Keeping.{enoughBy}
 use Rattle.search_rules.specs.Step.{SearchState, settled}
 use Rattle.search_rules.specs.Run.{run}
-use Rattle.tree_layout.specs.Values.{Element}
+use Rattle.search_rules.specs.Order.{Entry}
 
 -- The words of a search of r regions and n junctions, each part one word for each of them, one part after the other:
 -- regions' keys, yards' keys, regions' first keys, the landmarks that leaves picked, and which yards have left (0 if
@@ -80,7 +80,7 @@ newest l (suc n) = getD l n 0 ∷ newest l n
 
 -- the state of a search of r regions and n junctions: its words, the held yards, and the measured yards with their
 -- number
-unfoldable pub stateOf : (r n : ℕ) → (ws : List ℕ) → (held : List Element) → (measured : List ℕ) → ℕ → SearchState
+unfoldable pub stateOf : (r n : ℕ) → (ws : List ℕ) → (held : List Entry) → (measured : List ℕ) → ℕ → SearchState
 stateOf r n ws held measured count = record {
   regionKeys = regionKeysIn r n ws;
   yardKeys = yardKeysIn r n ws;
@@ -91,7 +91,7 @@ stateOf r n ws held measured count = record {
 }
 
 -- "The search is settled when the queue is empty, or", by its rule, what is held is enough: by the least key
-unfoldable pub settledBy : Rule → (least : ℕ) → List Element → Bool
+unfoldable pub settledBy : Rule → (least : ℕ) → List Entry → Bool
 settledBy rule least held = not (queued least) || enoughBy rule held least
 
 -- a search has come to a state by a number of steps, and isn't settled

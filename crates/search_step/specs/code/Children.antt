@@ -1,13 +1,19 @@
 -- The keys of a region's children, by a search's words. Assumes nothing: these are definitions.
 use mathlib.Core.Path.{_≡_}
+use mathlib.Core.Bool.{Bool}
 use mathlib.Core.List.{List, [], _∷_, List·Memᴰ as Mem}
 use Prim.Native.Nat.{ℕ, _+_, _<_, max}
 use lib.ListN.{length, getD, set}
+use Rattle.kinds.specs.Kinds.{shares}
 use Rattle.tree_layout.specs.Values.{regionAt}
 use Rattle.tree_layout.specs.Decode.{decode, regionCount}
 use Rattle.tree.specs.Yards.{endOf, childrenOf}
 use Rattle.search_bounds.specs.code.Bounds.{rowsBound}
 use Rattle.search_state.specs.code.State.{wordCount, firstsAt}
+
+-- region c's byte shares a bit with the wanted byte
+unfoldable pub wantedIn : (tree : List ℕ) → (wanted c : ℕ) → Bool
+wantedIn tree wanted c = shares wanted (regionAt (decode tree .regions) c .kinds)
 
 -- "A region's key is the greater of this and its parent's key.": region c's, by the landmark table's rows
 unfoldable pub keyOf : (tree table : List ℕ) → (rows code : ℕ) → (crews : List ℕ) → (parent c : ℕ) → ℕ

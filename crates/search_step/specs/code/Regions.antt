@@ -3,22 +3,19 @@ use mathlib.Core.Path.{_≡_}
 use mathlib.Core.List.{List}
 use Prim.Native.Nat.{ℕ, _+_, _<_}
 use lib.ListN.{length}
-use lib.Dec.{T}
-use Rattle.search_rules.specs.Instance.{Instance, size, leaf}
-use Rattle.search_rules.specs.Bounds.{chosen}
-use Rattle.search_rules.specs.Queue.{unqueued, pick}
-use Rattle.search_rules.specs.Step.{SearchState, nextF}
-use Rattle.search_state.specs.code.State.{wordCount, valueCount, part, picksIn, fsIn, boundsIn, goneIn, Unsettled}
+use Rattle.search_rules.specs.Instance.{Instance, size}
+use Rattle.search_rules.specs.Queue.{pick}
+use Rattle.search_rules.specs.Step.{SearchState}
+use Rattle.search_state.specs.code.State.{wordCount, valueCount, part, picksIn, fsIn, boundsIn, Unsettled}
 use Rattle.search_leaf.specs.code.Ready.{Cached}
 
--- of a search of r regions and n junctions: region v is queued, of a leaf some yard remains, and the words and the
--- yards' values keep what was taken before
+-- of a search of r regions and n junctions: v is a region, and the words and the yards' values keep what was taken
+-- before
 pub record RegionQueued (i : Instance) (r n : ℕ) (words values : List ℕ) (v : ℕ) : Type 0 where
   pub count : length words ≡ wordCount r n
   pub value-count : length values ≡ valueCount
   pub cached : Cached i (picksIn r n words) (fsIn n values) (boundsIn n values)
   pub inside : v < size i
-  pub waits : T (leaf i v) → nextF i (goneIn r n words) (chosen i v) < unqueued
 
 -- the search isn't settled in its state, and the words and the yards' values keep what was taken before
 pub record Going (i : Instance) (r n : ℕ) (words values : List ℕ) (st : SearchState) : Type 0 where

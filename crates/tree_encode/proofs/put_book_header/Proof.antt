@@ -65,7 +65,7 @@ returns : tie.Need-returns
 returns c =
     let at-put-u163 = c .before .before in let at-put-u162 = at-put-u163 .before .before .before .before in
     let at-put-u16 = at-put-u162 .before .before .before .before in let at-put-u32 = at-put-u16 .before .before .before .before in
-    header-written _ _ _ _ _ _ _ _ _ _ _ _ (at-put-u32 .put-u32 .ensures) refl (at-put-u16 .put-u16 .ensures) (at-put-u162 .put-u162 .ensures) (at-put-u163
+    header-written _ _ _ _ _ _ _ _ _ _ _ _ _ (at-put-u32 .put-u32 .ensures) refl (at-put-u16 .put-u16 .ensures) (at-put-u162 .put-u162 .ensures) (at-put-u163
     .put-u163 .ensures) refl
 
 pub put-book-header-spec : {M : Type 1} → statement M

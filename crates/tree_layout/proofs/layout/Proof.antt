@@ -17,12 +17,12 @@ use Rattle.tree_layout.proofs.layout.Statement.{statement}
 use Rattle.tree_layout.proofs.layout.Tie as tie
 
 -- the book has opened
-body : (c : tie.After-enum-told) → openRefusal (c .before .before .before .before .args .b .now) 7 ≡ 0
+body : (c : tie.After-enum-told) → openRefusal (c .before .before .before .before .args .b .now) 2 7 ≡ 0
 body c = opened-body _ (sym (c .before .before .«open» .ensures) ∙ c .enum-told .given .1)
 
 -- its header is whole
 whole : (c : tie.After-enum-told) → 12 ≤ length (c .before .before .before .before .args .b .now)
-whole c = opens _ _ (body c) .headed
+whole c = opens _ _ _ (body c) .headed
 
 -- the counts that are within their limits
 junctions-in : (c : tie.Else1) → between 1 1024 (junctionCount (c .before .before .before .before .before .before .before .before .before .args .b .now)) ≡ true
@@ -152,8 +152,11 @@ returns-6 c =
     ∙ regions-read _) _ _ (not-true _ (c .if5 .taken)) (c .before .records-ok .ensures)))
 
 values-ok-requires : tie.Need-values-ok-requires
-values-ok-requires c κs =
-    (omega (arith, few (c .before .before)), sym (c .before .records-ok .ensures) ∙ not-false _ (c .if5 .left))
+values-ok-requires c κs = (
+  omega (arith, few (c .before .before)),
+  whole (c .before .before .before .before .before .before .before .before .before .before .before .before .before .before),
+  sym (c .before .records-ok .ensures) ∙ not-false _ (c .if5 .left),
+)
 
 returns-7 : tie.Need-returns-7
 returns-7 c =

@@ -1,62 +1,37 @@
+use mathlib.Core.Path.{ap, _∙_}
+use Prim.Native.Nat.{_*_, _≤_}
 use native.Mathlib.Omega.{arith}
-use Rattle.tree_layout.proofs.Sizes.{product-small, size-inner, size-leaf}
+use Rattle.tree_layout.specs.Sizes.{fieldsSize}
+use Rattle.tree_layout.proofs.Sizes.{fields-most}
+use Rattle.tree_layout.proofs.Places.{landmarks-small, size-is}
 use borrow.Author.Needs.{needs}
 use Rattle.tree_layout.proofs.size_at.Statement.{statement}
 use Rattle.tree_layout.proofs.size_at.Tie as tie
 
-add-u8-at : tie.Need-add-u8-at
-add-u8-at c = search needs
+-- the landmarks take few bytes
+small : (c : tie.After-mark-size) → c .before .before .before .before .args .m * c .mark-size .result ≤ 1835020
+small c =
+    let s = c .before .before .before .before in
+    rw (c .mark-size .ensures) (landmarks-small _ _ _ (s .pre .0) (λ i. omega (arith, c .before .before .before .shared-slice-known .given i)))
 
-u8-at-requires : tie.Need-u8-at-requires
-u8-at-requires c κs = search needs
+version-requires : tie.Need-version-requires
+version-requires c κs = omega (arith, c .before .pre .1)
 
-add-u16-at : tie.Need-add-u16-at
-add-u16-at c = search needs
+fields-size-requires : tie.Need-fields-size-requires
+fields-size-requires c κs = search needs
 
-u16-at-requires : tie.Need-u16-at-requires
-u16-at-requires c κs = search needs
-
-cast-yards : tie.Need-cast-yards
-cast-yards c = search needs
+mark-size-requires : tie.Need-mark-size-requires
+mark-size-requires c κs = (c .before .before .before .pre .1, c .before .before .before .pre .2)
 
 mul-result : tie.Need-mul-result
-mul-result c = search needs
+mul-result c = omega (arith, small c)
 
 add-result : tie.Need-add-result
-add-result c = search needs
+add-result c = omega (arith, small c, c .before .fields-size .ensures, fields-most (c .before .before .version .result))
 
 returns : tie.Need-returns
-returns c = size-inner _ _ _ _ (c .before .before .u8-at .ensures) (c .if1 .taken)
-
-mul-result-2 : tie.Need-mul-result-2
-mul-result-2 c = search needs
-
-add-result-2 : tie.Need-add-result-2
-add-result-2 c = search needs
-
-mul-result-3 : tie.Need-mul-result-3
-mul-result-3 c = omega (arith, product-small (c .before .before .before .before .args .m) (c .before .u16-at .result) (omega arith) (omega arith))
-
-add-result-3 : tie.Need-add-result-3
-add-result-3 c = omega (arith, product-small (c .before .before .before .before .args .m) (c .before .u16-at .result) (omega arith) (omega arith))
-
-returns-2 : tie.Need-returns-2
-returns-2 c = size-leaf _ _ _ _ _ (c .before .before .u8-at .ensures) (c .before .u16-at .ensures) (c .if1 .left)
+returns c = size-is _ _ _ _ _ (c .before .fields-size .ensures ∙ ap fieldsSize (c .before .before .version .ensures)) (c .mark-size .ensures)
 
 pub size-at-spec : {M : Type 1} → statement M
 size-at-spec =
-    tie.close
-    (tie.spec
-    add-u8-at
-    u8-at-requires
-    add-u16-at
-    u16-at-requires
-    cast-yards
-    mul-result
-    add-result
-    returns
-    mul-result-2
-    add-result-2
-    mul-result-3
-    add-result-3
-    returns-2)
+    tie.close (tie.spec version-requires fields-size-requires mark-size-requires mul-result add-result returns)

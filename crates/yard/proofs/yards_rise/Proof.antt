@@ -4,7 +4,9 @@ use Prim.Native.Nat.{_-_, _≤_}
 use native.Mathlib.Nat.{sub-zero}
 use native.Mathlib.Omega.{arith}
 use Rattle.yard.specs.Yards.{yardsFrom, yardsRise}
+use Rattle.yard.proofs.Places.{place-room}
 use Rattle.yard.proofs.Rising.{goes-on, falls, high, ends}
+use Rattle.yard.proofs.YardLayout.{read-yard-at}
 use Rattle.yard.proofs.yards_rise.Statement.{statement}
 use Rattle.yard.proofs.yards_rise.Tie as tie
 
@@ -18,25 +20,27 @@ abbrev μ-loop : tie.MeasureT-loop
 loop-holds : tie.Need-loop-holds Inv-loop μ-loop
 loop-holds c = (omega arith, simp sub-zero)
 
-mul-u16-at : tie.Need-mul-u16-at Inv-loop μ-loop
-mul-u16-at c = search needs
-
-add-u16-at : tie.Need-add-u16-at Inv-loop μ-loop
-add-u16-at c = search needs
+place-requires : tie.Need-place-requires Inv-loop μ-loop
+place-requires c κs = (c .before .before .before .pre .0, omega (arith, c .loop-test .taken, c .before .before .before .pre .1))
 
 u16-at-requires : tie.Need-u16-at-requires Inv-loop μ-loop
-u16-at-requires c κs = search needs
+u16-at-requires c κs = omega (
+  arith,
+  c .place .ensures,
+  c .before .before .before .before .pre .2,
+  place-room (c .before .before .before .before .args .b .now) (c .before .before .loop .i) (c .before .before .before .before .args .count) (c .before .loop-test .taken),
+)
 
 returns : tie.Need-returns Inv-loop μ-loop
 returns c =
-    let w = c .before in
-    sym (falls _ _ _ _ _ (w .before .loop-test .taken) (w .u16-at .ensures) (omega (arith, c .if1 .taken))) ∙ w .before .before .loop .inv .1
+    sym (falls _ _ _ _ _ (c .before .before .before .loop-test .taken) (read-yard-at _ _ _ _ (c .before .before .place .ensures) (c .before .u16-at .ensures)) (omega (arith, c .if1 .taken)))
+    ∙ c .before .before .before .before .loop .inv .1
 
 returns-2 : tie.Need-returns-2 Inv-loop μ-loop
 returns-2 c =
-    let w = c .before .before in
-    sym (high _ _ _ _ _ (w .before .loop-test .taken) (w .u16-at .ensures) (omega (arith, c .before .if1 .left)) (omega (arith, c .if2 .taken)))
-    ∙ w .before .before .loop .inv .1
+    sym (high _ _ _ _ _ (c .before .before .before .before .loop-test .taken) (read-yard-at _ _ _ _ (c .before .before .before .place .ensures) (c .before .before .u16-at .ensures)) (omega (arith, c .before .if1 .left))
+    (omega (arith, c .if2 .taken)))
+    ∙ c .before .before .before .before .before .loop .inv .1
 
 add-low : tie.Need-add-low Inv-loop μ-loop
 add-low c = search needs
@@ -48,13 +52,12 @@ loop-less : tie.Need-loop-less Inv-loop μ-loop
 loop-less c = search needs
 
 loop-again : tie.Need-loop-again Inv-loop μ-loop
-loop-again c =
-    let w = c .before .before in
-    let i = w .before .before in (
-      omega arith,
-      goes-on _ _ _ _ _ (w .before .loop-test .taken) (w .u16-at .ensures) (omega (arith, c .before .if1 .left)) (omega (arith, c .if2 .left))
-          ∙ i .loop .inv .1,
-    )
+loop-again c = (
+  omega (arith, c .before .before .before .before .loop-test .taken),
+  goes-on _ _ _ _ _ (c .before .before .before .before .loop-test .taken) (read-yard-at _ _ _ _ (c .before .before .before .place .ensures) (c .before .before .u16-at .ensures)) (omega (arith, c .before .if1 .left))
+      (omega (arith, c .if2 .left))
+      ∙ c .before .before .before .before .before .loop .inv .1,
+)
 
 returns-3 : tie.Need-returns-3 Inv-loop μ-loop
 returns-3 c = sym (ends _ _ _ _ (c .loop-test .left)) ∙ c .before .loop .inv .1
@@ -66,8 +69,7 @@ yards-rise-spec =
     Inv-loop
     μ-loop
     loop-holds
-    mul-u16-at
-    add-u16-at
+    place-requires
     u16-at-requires
     returns
     returns-2

@@ -14,8 +14,8 @@ same-length c = search needs
 
 returns : tie.Need-returns
 returns c = let s = c .before .before .before .before .before .before .before .before in
-    let m = c .before .before .before .before .measure .ensures in
-    λ road e. inner-written _ _ _ _ _ _ e (s .pre .2) (s .pre .0) _ _ _ _ _ (s .pre .1) (m .0) (m .1) (c .before .before .put-span .ensures)
+    let span = c .before .before .before .before .measure .ensures in
+    λ road e m limit. inner-written _ _ _ _ _ _ e (s .pre .2) (s .pre .0) m limit _ _ _ _ _ (s .pre .1) (span .0) (span .1) (c .before .before .put-span .ensures)
 
 pub put-inner-mark-spec : {M : Type 1} → statement M
 put-inner-mark-spec =

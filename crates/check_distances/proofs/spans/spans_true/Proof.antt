@@ -14,7 +14,7 @@ use Rattle.tree_layout.specs.code.Marks.{marksAt}
 use Rattle.tree_layout.specs.Refusal.{all}
 use Rattle.check_rules.specs.Truth.{trueSpan, within}
 use Rattle.check_distances.proofs.Rows.{few}
-use Rattle.check_distances.proofs.Records.{marks-done}
+use Rattle.check_rules.proofs.Records.{marks-done}
 use Rattle.check_distances.proofs.Spanning.{span-placed, spans-on, spans-off}
 use Rattle.check_distances.proofs.spans.spans_true.Statement.{statement}
 use Rattle.check_distances.proofs.spans.spans_true.Tie as tie

@@ -11,7 +11,7 @@ use Rattle.tree_layout.proofs.Accepting.{layout-facts}
 use Rattle.tree_layout.proofs.Places.{place-first}
 use Rattle.tree_layout.proofs.RecordFields.{fields-inside}
 use Rattle.tree_layout.proofs.RegionRecords.{layout-record}
-use Rattle.check_distances.proofs.Records.{header-counts, record-end, record-next, regions-on, regions-off, regions-done}
+use Rattle.check_rules.proofs.Records.{header-counts, record-end, record-next, regions-on, regions-off, regions-done}
 use Rattle.check_tree.specs.code.Known.{knownRegion, knownTree}
 use Rattle.check_tree.proofs.Knowing.{tree-known}
 use Rattle.check_tree.proofs.yards.yards_known.Statement.{statement}
@@ -68,7 +68,7 @@ size-at-requires c κs =
     let l = c .before .before in
     let p = l .before .before .before .before .before .before .before .pre in
     let r = layout-record _ (layout-facts _ (p .1)) _ (number l) _ (l .before .loop .inv .1) in
-    (omega (arith, landmarks (l .before .before .before .before), layout-facts _ (p .1) .landmarks), fields-inside _ _ r)
+    (omega (arith, landmarks (l .before .before .before .before), layout-facts _ (p .1) .landmarks), r .header, fields-inside _ _ r)
 
 add-at : tie.Need-add-at Inv-loop μ-loop
 add-at c =

@@ -3,7 +3,7 @@ use mathlib.Core.Path.{_≡_, refl, sym, ap, _∙_}
 use Prim.Native.Nat.{ℕ, _+_, _*_, _-_, _≤_, _<_}
 use native.Mathlib.Omega.{arith}
 use lib.ListN.{length, getD, set, length-set}
-use Rattle.tree_layout.specs.Reading.{element}
+use Rattle.search_rules.specs.Order.{entryOf}
 use Rattle.search_rules.specs.Held.{hold}
 use Rattle.search_held.specs.code.Pairs.{pairs, inArrays}
 use Rattle.search_held.proofs.Pairing.{arrays-at, put-arrays, held-is}
@@ -14,7 +14,7 @@ use Rattle.search_held.proofs.first.hold.Tie as tie
 abbrev Inv-loop : tie.InvT-loop
 Inv-loop k distance n yards₀ distances₀ j₀ y₀ d₀ yards distances j y d = (n ≤ k) × (k ≤ 64)
     × (length yards ≡ 64) × (length distances ≡ 64)
-    × Carrying (element d₀ y₀) (pairs (inArrays yards₀ distances₀) n 0) n (inArrays yards distances) j (element d y)
+    × Carrying (entryOf d₀ y₀) (pairs (inArrays yards₀ distances₀) n 0) n (inArrays yards distances) j (entryOf d y)
 
 abbrev μ-loop : tie.MeasureT-loop
 μ-loop k distance n yards₀ distances₀ j₀ y₀ d₀ yards distances j y d = n - j

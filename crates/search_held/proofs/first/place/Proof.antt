@@ -3,7 +3,7 @@ use mathlib.Core.Path.{_≡_, refl, sym, ap, _∙_}
 use Prim.Native.Nat.{ℕ, _+_, _*_, _-_, _≤_, _<_}
 use native.Mathlib.Omega.{arith}
 use lib.ListN.{length, getD, set, length-set}
-use Rattle.tree_layout.specs.Reading.{element}
+use Rattle.search_rules.specs.Order.{entryOf}
 use Rattle.search_held.specs.code.Pairs.{inArrays}
 use Rattle.search_held.proofs.Pairing.{arrays-at}
 use Rattle.search_held.proofs.Inserting.{Seen, seen-none, seen-here, seen-on, seen-all}
@@ -11,7 +11,7 @@ use Rattle.search_held.proofs.first.place.Statement.{statement}
 use Rattle.search_held.proofs.first.place.Tie as tie
 
 abbrev Inv-loop : tie.InvT-loop
-Inv-loop yards distances n yard distance j₀ j = (j ≤ n) × Seen (element distance (yard .number)) (inArrays yards distances) n j
+Inv-loop yards distances n yard distance j₀ j = (j ≤ n) × Seen (entryOf distance (yard .number)) (inArrays yards distances) n j
 
 abbrev μ-loop : tie.MeasureT-loop
 μ-loop yards distances n yard distance j₀ j = n - j

@@ -1,6 +1,9 @@
 use mathlib.Core.Path.{refl, sym, _∙_}
 use native.Mathlib.Omega.{arith}
 use lib.Seq.{length-take-le}
+use Rattle.book.specs.Open.{version}
+use Rattle.tree_layout.proofs.Sizes.{leaf-mark-are}
+use Rattle.tree_layout.proofs.Accessing.{its-version}
 use Rattle.search_leaf.proofs.ElementsOpening.{driven-at, list-near, list-short, list-whole, header-landmarks-are, header-rows, crews-wide}
 use Rattle.search_leaf.proofs.ElementsOpening.{front-room, front-length, front-short, opened-values}
 use borrow.Author.Needs.{needs}
@@ -8,7 +11,9 @@ use Rattle.search_leaf.proofs.elements.open.Statement.{statement}
 use Rattle.search_leaf.proofs.elements.open.Tie as tie
 
 junction-requires : tie.Need-junction-requires
-junction-requires c κs = search needs
+junction-requires c κs =
+    let s = c .before .before .before .before .before in
+    omega (arith, s .pre .4, leaf-mark-are (version (s .args .tree .now)) (s .args .yards))
 
 array-borrow-prefix-out : tie.Need-array-borrow-prefix-out
 array-borrow-prefix-out c = c .before .before .before .before .before .before .pre .0 .driven .few
@@ -49,17 +54,18 @@ fill-requires c κs =
     let d = s .pre .0 .driven in
     let h = c .before .before .before .header .ensures in
     let l = c .before .before .before .before .list .ensures in
+    let v = its-version _ _ h in
     let same = t .kept .1 .1 .1 .0 ∙ length-take-le _ _ (d .few) in
     let j = c .before .before .before .before .before .before .before .before .junction .ensures in (
-      list-whole _ (s .args .at) _ _ l (s .pre .3),
+      (s .pre .3, list-whole _ (s .args .at) _ _ l _ v (s .pre .4)),
       header-rows _ _ h _ (s .pre .1),
       crews-wide _ _ _ d,
       front-length (s .args .crews .now) (t .last .1 .1 .1 .0) _ same,
       front-short (s .args .crews .now) (t .last .1 .1 .1 .0) _ same _ _ (d .roads) (omega (arith, j, s .pre .0 .junction)) (d .there)
           (t .ensures _ d (omega (arith, j, s .pre .0 .junction))),
-      list-near _ (s .args .at) _ _ l _ _ refl (s .pre .4),
-      list-short _ (s .args .at) _ _ l _ _ _ _ (header-landmarks-are _ _ h) (s .pre .5),
-      s .pre .6,
+      list-near _ (s .args .at) _ _ l _ v _ _ refl (s .pre .5),
+      list-short _ (s .args .at) _ _ l _ v _ _ _ _ (header-landmarks-are _ _ h) (s .pre .6),
+      s .pre .7,
     )
 
 same-length : tie.Need-same-length

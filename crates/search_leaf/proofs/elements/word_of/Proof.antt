@@ -21,19 +21,19 @@ returns c =
 f-at-requires : tie.Need-f-at-requires
 f-at-requires c κs = search needs
 
-mul-wide : tie.Need-mul-wide
-mul-wide c = search needs
+mul-f-word : tie.Need-mul-f-word
+mul-f-word c = search needs
 
-shared-slice-read-wide : tie.Need-shared-slice-read-wide
-shared-slice-read-wide c = let s = c .before .before .before .before .before .before .before in omega (arith, c .before .f-at .ensures, s .pre .0, s .pre .2, s .pre .3)
+shared-slice-read-f-word : tie.Need-shared-slice-read-f-word
+shared-slice-read-f-word c = let s = c .before .before .before .before .before .before .before in omega (arith, c .before .f-at .ensures, s .pre .0, s .pre .2, s .pre .3)
 
-wide-requires : tie.Need-wide-requires
-wide-requires c κs = search needs
+f-word-requires : tie.Need-f-word-requires
+f-word-requires c κs = search needs
 
 returns-2 : tie.Need-returns-2
 returns-2 c =
     let s = c .before .before .before .before .before .before .before .before in
-    word-there _ _ _ (s .args .values .now) _ (s .pre .1) (s .pre .0) _ (c .before .before .before .before .before .gone-at .ensures) (c .before .before .before .if1 .left) _ (rw (← c .before .before .f-at .ensures) (c .wide .ensures .0))
+    word-there _ _ _ (s .args .values .now) _ (s .pre .1) (s .pre .0) _ (c .before .before .before .before .before .gone-at .ensures) (c .before .before .before .if1 .left) _ (rw (← c .before .before .f-at .ensures) (c .f-word .ensures))
 
 pub word-of-spec : {M : Type 1} → statement M
 word-of-spec =
@@ -44,7 +44,7 @@ word-of-spec =
     shared-slice-read-if1
     returns
     f-at-requires
-    mul-wide
-    shared-slice-read-wide
-    wide-requires
+    mul-f-word
+    shared-slice-read-f-word
+    f-word-requires
     returns-2)

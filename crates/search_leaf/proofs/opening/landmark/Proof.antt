@@ -8,7 +8,7 @@ header-requires : tie.Need-header-requires
 header-requires c κs =
     let s = c .before .before .before .before .before .before .before in
     let ready = s .pre .0 .ready in
-    record-here _ _ _ _ _ _ _ _ ready _ (s .pre .1 _ ready .isLeaf) _ refl .header
+    record-here _ _ _ _ _ _ _ ready _ (s .pre .1 _ ready .isLeaf) _ refl .header
 
 pick-at-requires : tie.Need-pick-at-requires
 pick-at-requires c κs = search needs
@@ -20,13 +20,13 @@ slice-read-p : tie.Need-slice-read-p
 slice-read-p c =
     let s = c .before .before .before .before .before .before .before .before .before .before in
     let ready = s .pre .0 .ready in
-    pick-room _ _ _ _ _ _ _ _ ready _ _ _ (s .pre .1 _ ready) _ (c .before .before .header .ensures) _ (c .before .pick-at .ensures)
+    pick-room _ _ _ _ _ _ _ ready _ _ _ (s .pre .1 _ ready) _ (c .before .before .header .ensures) _ (c .before .pick-at .ensures)
 
 returns : tie.Need-returns
 returns c =
     let s = c .before .before .before .before .before .before .before .before .before .before .before in (
       same-none _ _ _,
-      λ road z. open-already _ _ _ _ _ _ _ _ z _ _ _ (s .pre .1 road z) _ (c .before .before .before .header .ensures) _ (c .before .before .pick-at .ensures) _ refl (c .if1 .taken),
+      λ road z. open-already _ _ _ _ _ _ _ z _ _ _ (s .pre .1 road z) _ (c .before .before .before .header .ensures) _ (c .before .before .pick-at .ensures) _ refl (c .if1 .taken),
     )
 
 open-requires : tie.Need-open-requires

@@ -32,7 +32,7 @@ open-inner-requires : tie.Need-open-inner-requires
 open-inner-requires c κs =
     let s = c .before .before .before .before .before .before .before .before .before .before .before .before .pre in
     let ready = s .0 .ready in
-    (ready .laid, s .1, ready .tableed .limits, table-crews _ _ _ _ _ _ _ _ ready, inner-slots ready _ _ _ (s .2 (s .0 .road) ready))
+    (ready .laid, s .1, ready .tableed .limits, table-crews _ _ _ _ _ _ _ ready, inner-slots ready _ _ _ (s .2 (s .0 .road) ready))
 
 same-length-3 : tie.Need-same-length-3
 same-length-3 c = search needs

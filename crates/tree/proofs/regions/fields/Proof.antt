@@ -1,5 +1,5 @@
 use mathlib.Core.Path.{refl}
-use Rattle.tree.proofs.Fielding.{laid-room, laid-fields}
+use Rattle.tree.proofs.Fielding.{laid-header, laid-room, laid-fields}
 use borrow.Author.Needs.{needs}
 use Rattle.tree.proofs.regions.fields.Statement.{statement}
 use Rattle.tree.proofs.regions.fields.Tie as tie
@@ -16,7 +16,7 @@ shared-slice-read-at c = search needs
 fields-requires : tie.Need-fields-requires
 fields-requires c κs =
     let s = c .before .before .before .before in
-    laid-room _ _ (s .pre .0) _ (s .pre .1)
+    (laid-header _ _ (s .pre .0), laid-room _ _ (s .pre .0) _ (s .pre .1))
 
 returns : tie.Need-returns
 returns c =

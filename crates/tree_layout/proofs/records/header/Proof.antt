@@ -4,6 +4,9 @@ use borrow.Author.Needs.{needs}
 use Rattle.tree_layout.proofs.records.header.Statement.{statement}
 use Rattle.tree_layout.proofs.records.header.Tie as tie
 
+version-requires : tie.Need-version-requires
+version-requires c κs = search needs
+
 u16-at-requires : tie.Need-u16-at-requires
 u16-at-requires c κs = search needs
 
@@ -22,4 +25,4 @@ returns c = cc
 
 pub header-spec : {M : Type 1} → statement M
 header-spec =
-    tie.close (tie.spec u16-at-requires u16-at-requires-2 u16-at-requires-3 u8-at-requires returns)
+    tie.close (tie.spec version-requires u16-at-requires u16-at-requires-2 u16-at-requires-3 u8-at-requires returns)

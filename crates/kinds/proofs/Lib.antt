@@ -1,0 +1,4 @@
+pub mod Reading
+pub mod Bits
+pub mod Laws
+pub mod Together
