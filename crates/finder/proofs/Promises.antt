@@ -2,7 +2,6 @@
 use mathlib.Core.Path.{_≡_, refl, _∙_}
 use mathlib.Core.Logic.{_↔_}
 use mathlib.Core.List.{List, [], _∷_, _++_}
-use mathlib.Core.Option.{Option}
 use Prim.Native.Nat.{ℕ, _≤_}
 use native.Mathlib.Omega.{arith}
 use lib.ListN.{length}
@@ -39,13 +38,14 @@ use Rattle.build_tree.proofs.FirstFailing.{build-tests}
 use Rattle.query.proofs.Reading.{query-exact}
 use Rattle.search_rules.proofs.Ceiling.{above-kept}
 use Rattle.search_measure.proofs.Measuring.{measures-true}
-use Rattle.search_call.specs.Call.{mostYards, Call, Areas, treeRefusalIn, foundOn}
+use Rattle.search_call.specs.Call.{Want, mostYards, Call, Areas, treeRefusalIn, foundOn}
 use Rattle.search_call.proofs.Refusing.{counts-agree, long-enough, by-areas}
 use Rattle.search_call.proofs.FirstFailing.{search-tests}
 use Rattle.search_call.proofs.Calls.{on-number, on-refused, on-tests, work-zeroed, areas-kept}
 use Rattle.search_call.proofs.Demand.{demand-3, any-tree}
 use Rattle.search_call.proofs.Lists.{work-unread}
 use Rattle.search_call.proofs.Agreeing.{searches-agree}
+use Rattle.search_call.proofs.Versions.{versions-agree}
 use Rattle.finder.specs.Promises.{SoundBooks, SoundTreeBook, FirstRefusal, AcceptedCheck, CheckSafe, CheckTrue, FirstBuildRefusal, BuildAccepted}
 use Rattle.finder.specs.Promises.{BuildSafe}
 use Rattle.finder.specs.Promises.{BuildTrue, FirstSearchRefusal, SearchAccepted, SearchSafe, SearchesTrue, SearchesDecided, YardsMeasured}
@@ -132,7 +132,7 @@ module _ (road yard tree : List ℕ) (words : ℕ) where
       }
 
   accepted-exact : (checkAnswer road yard tree words ≡ 0) ↔ AcceptedCheck road yard tree words
-  accepted-exact = (there, λ a. check-true road yard tree words (a .books) (a .full) (a .tree-sound) .1 (a .yards, a .numbers))
+  accepted-exact = (there, λ a. check-true road yard tree words (a .books) (a .full) (a .tree-sound) .1 (a .yards, a .numbers, a .kinds))
     where
       there : checkAnswer road yard tree words ≡ 0 → AcceptedCheck road yard tree words
       there e =
@@ -143,6 +143,7 @@ module _ (road yard tree : List ℕ) (words : ℕ) where
             tree-sound = record { facts = accepted-iff tree .0 (l .shape); counts = l .counts };
             yards = x .0;
             numbers = x .1;
+            kinds = x .2;
             full = l .full;
           }
 
@@ -215,8 +216,8 @@ module _ (c : Call) (a : Areas) where
   abbrev query : List ℕ
   query = c .query
 
-  abbrev drive : Option ℕ
-  drive = c .drive
+  abbrev want : Want
+  want = c .want
 
   abbrev words : ℕ
   words = length (a .work)
@@ -227,33 +228,34 @@ module _ (c : Call) (a : Areas) where
   agree : SoundTreeBook (c .road) (c .tree) → treeRefusalIn (c .tree) (junctions (c .road)) ≡ 0
   agree s = counts-agree tree (junctions road) (sound-tree road tree s) (s .counts)
 
-  first-search-refusal : FirstSearchRefusal (c .road) (c .tree) (c .query) (c .drive) (length (a .work)) (length (a .results)) (foundOn c a .refusal)
+  first-search-refusal : FirstSearchRefusal (c .road) (c .tree) (c .query) (c .want) (length (a .work)) (length (a .results)) (foundOn c a .refusal)
   first-search-refusal =
-      let f = rw (← on-number c a) at (search-tests road tree query drive words room) in
+      let f = rw (← on-number c a) at (search-tests road tree query want words room) in
       record {
-        first = first-exact (searchTests road tree query drive words room) (foundOn c a .refusal) f;
+        first = first-exact (searchTests road tree query want words room) (foundOn c a .refusal) f;
         six = six-exact road _ (foundOn c a .refusal) f tt;
         seven = seven-exact tree (roadTests road) _ (foundOn c a .refusal) (roads-none road) f tt tt tt tt;
       }
 
-  search-accepted : (foundOn c a .refusal ≡ 0) ↔ SearchAccepted (c .road) (c .tree) (c .query) (c .drive) (length (a .work)) (length (a .results))
+  search-accepted : (foundOn c a .refusal ≡ 0) ↔ SearchAccepted (c .road) (c .tree) (c .query) (c .want) (length (a .work)) (length (a .results))
   search-accepted = (there, back)
     where
-      there : foundOn c a .refusal ≡ 0 → SearchAccepted road tree query drive words room
+      there : foundOn c a .refusal ≡ 0 → SearchAccepted road tree query want words room
       there e =
           let t = on-tests c a e in
           record {
             roads = passing-exact road .0 (t .roads);
             tree-sound = record { facts = accepted-iff tree .0 (t .shape); counts = t .counts };
             asked = t .asked;
+            kinds = t .some-kind;
             areas = record { work = t .work-full; results = t .results-full };
           }
 
-      back : SearchAccepted road tree query drive words room → foundOn c a .refusal ≡ 0
+      back : SearchAccepted road tree query want words room → foundOn c a .refusal ≡ 0
       back s =
-          on-number c a ∙ (by-areas road tree query drive words room (passing-exact road .1 (s .roads)) (agree (s .tree-sound)) (query-exact query (junctions road)
-          .1 (s .asked))
-          ∙ long-enough (mostYards tree query drive) words room (s .areas .work) (s .areas .results))
+          on-number c a ∙ (by-areas road tree query want words room (passing-exact road .1 (s .roads)) (agree (s .tree-sound)) (query-exact query (junctions road)
+          .1 (s .asked)) (s .kinds)
+          ∙ long-enough (mostYards tree query want) words room (s .areas .work) (s .areas .results))
 
 pub search-safe : SearchSafe
 search-safe c a = record {
@@ -269,7 +271,7 @@ pub searches-true : SearchesTrue
 searches-true = demand-3
 
 pub searches-decided : SearchesDecided
-searches-decided = (any-tree, work-unread, searches-agree)
+searches-decided = (any-tree, work-unread, searches-agree, versions-agree)
 
 pub yards-measured : YardsMeasured
 yards-measured = (measures-true, above-kept)
