@@ -9,7 +9,7 @@ ghost use mathlib.Core.List.{List};
 ghost use Prim.Native.Nat.{ℕ, _*_, _≤_};
 ghost use lib.ListN.{length};
 ghost use Rattle.work_area.specs.Work.{workWords, zeroed};
-ghost use Rattle.query.specs.Query.{aggregateOf, limitOf};
+ghost use Rattle.query.specs.Query.{limitOf};
 ghost use Rattle.search_run.specs.code.Answers.{answerOf};
 ghost use Rattle.search_held.specs.code.Rules.{ruleOf, askingOf, countBy, Fits};
 ghost use Rattle.search_call.specs.Call.{accepted};
@@ -62,7 +62,7 @@ pub fn search(
     work: &mut [u32],
     results: &mut [u32],
 ) -> Found
-    requires { ⌜ IsDistrict (now tree) (now adj) (now places) (now ends) × (asked .aggregate ≡ aggregateOf (now query)) × (asked .limit ≡ limitOf (now query))
+    requires { ⌜ IsDistrict (now tree) (now adj) (now places) (now ends) × (asked .limit ≡ limitOf (now query))
         × ((road : List ℕ) → District road (now tree) (now adj) (now places) (now ends)
         → AcceptedBy road (now tree) (now query) (askingOf asked) (length (now work)) (length (now results))) ⌝ }
     ensures found { λ r. ⌜ ((road : List ℕ)

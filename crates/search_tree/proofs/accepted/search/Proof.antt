@@ -4,7 +4,7 @@ use Prim.Native.Nat.{ℕ}
 use native.Mathlib.Omega.{arith}
 use Rattle.book.specs.Bytes.{Bytes}
 use Rattle.search_run.specs.code.Answers.{answerOf}
-use Rattle.search_held.specs.code.Rules.{ruleOf}
+use Rattle.search_held.specs.code.Rules.{ruleOf, askingOf}
 use Rattle.search_tree.specs.code.District.{District}
 use Rattle.search_tree.specs.code.Asking.{answerBy}
 use Rattle.search_tree.proofs.Reporting.{measured-of, found-so, written-so}
@@ -24,45 +24,42 @@ crews-requires c κs =
     let a = s .pre .2 (s .pre .0 .road) d in
     crews-needs d a _ refl
 
-cast-q : tie.Need-cast-q
-cast-q c = search needs
-
 array-share-prefix-crews : tie.Need-array-share-prefix-crews
 array-share-prefix-crews c =
+    let copied = c .before in
+    let s = copied .before .before .before .before .before .before .before .before .before in
+    let d = s .pre .0 .district in
+    let a = s .pre .2 (s .pre .0 .road) d in
+    part-room _ 16 _ (few-crews d a _ (copied .crews2 .ensures .0)) (copied .crews2 .kept .1 .0)
+
+slice-aggregate-prepare : tie.Need-slice-aggregate-prepare
+slice-aggregate-prepare c =
     let copied = c .before .before in
     let s = copied .before .before .before .before .before .before .before .before .before in
     let d = s .pre .0 .district in
     let a = s .pre .2 (s .pre .0 .road) d in
-    part-room _ 16 _ (few-crews d a _ (s .pre .1)) (copied .crews2 .kept .1 .0)
-
-slice-aggregate-prepare : tie.Need-slice-aggregate-prepare
-slice-aggregate-prepare c =
-    let copied = c .before .before .before in
-    let s = copied .before .before .before .before .before .before .before .before .before in
-    let d = s .pre .0 .district in
-    let a = s .pre .2 (s .pre .0 .road) d in
-    part-of _ 16 _ (few-crews d a _ (s .pre .1)) (copied .crews2 .kept .1 .0)
+    part-of _ 16 _ (few-crews d a _ (copied .crews2 .ensures .0)) (copied .crews2 .kept .1 .0)
 
 slice-aggregate-prepare-2 : tie.Need-slice-aggregate-prepare-2
 slice-aggregate-prepare-2 c = search needs
 
 slice-relend-prefix-prepare : tie.Need-slice-relend-prefix-prepare
 slice-relend-prefix-prepare c =
-    let s = c .before .before .before .before .before .before .before .before .before .before .before .before .before in
+    let s = c .before .before .before .before .before .before .before .before .before .before .before .before in
     let d = s .pre .0 .district in
     let a = s .pre .2 (s .pre .0 .road) d in
     a .accepted .work-full
 
 slice-aggregate-prepare-3 : tie.Need-slice-aggregate-prepare-3
 slice-aggregate-prepare-3 c =
-    let s = c .before .before .before .before .before .before .before .before .before .before .before .before .before .before in
+    let s = c .before .before .before .before .before .before .before .before .before .before .before .before .before in
     let d = s .pre .0 .district in
     let a = s .pre .2 (s .pre .0 .road) d in
     sym (lent-size (s .args .work .now) (a .accepted .work-full))
 
 prepare-requires : tie.Need-prepare-requires
 prepare-requires c κs =
-    let copied = c .before .before .before .before .before in
+    let copied = c .before .before .before .before in
     let known = copied .before .before .before .before .before .before .before in
     let s = known .before .before in
     let d = s .pre .0 .district in
@@ -70,7 +67,7 @@ prepare-requires c κs =
     let tree = s .args .tree .now in
     let bytes : Bytes tree = bytes-all tree (λ i. omega (arith, known .shared-slice-known2 .given i)) in
     let lent = lent-size (s .args .work .now) (a .accepted .work-full) in
-    rows-need d a _ (s .pre .1) _ refl _ (copied .crews2 .ensures) bytes _ _ refl lent
+    rows-need d a _ (copied .crews2 .ensures .0) _ (s .pre .1) _ (copied .crews2 .ensures .1) bytes _ _ refl lent
 
 slice-aggregate-run : tie.Need-slice-aggregate-run
 slice-aggregate-run c = search needs
@@ -78,7 +75,7 @@ slice-aggregate-run c = search needs
 slice-reshare-prefix-run : tie.Need-slice-reshare-prefix-run
 slice-reshare-prefix-run c =
     let prepared = c .before .before .before .before in
-    let s = prepared .before .before .before .before .before .before .before .before .before .before .before .before .before .before .before in
+    let s = prepared .before .before .before .before .before .before .before .before .before .before .before .before .before .before in
     let d = s .pre .0 .district in
     let a = s .pre .2 (s .pre .0 .road) d in
     back-full (s .args .work .now) (prepared .prepare .last .1 .1 .1 .1 .0)
@@ -87,7 +84,7 @@ slice-reshare-prefix-run c =
 slice-aggregate-run-2 : tie.Need-slice-aggregate-run-2
 slice-aggregate-run-2 c =
     let prepared = c .before .before .before .before .before in
-    let s = prepared .before .before .before .before .before .before .before .before .before .before .before .before .before .before .before in
+    let s = prepared .before .before .before .before .before .before .before .before .before .before .before .before .before .before in
     let d = s .pre .0 .district in
     let a = s .pre .2 (s .pre .0 .road) d in
     back-part (s .args .work .now) (prepared .prepare .last .1 .1 .1 .1 .0)
@@ -95,19 +92,19 @@ slice-aggregate-run-2 c =
 
 array-share-prefix-crews-2 : tie.Need-array-share-prefix-crews-2
 array-share-prefix-crews-2 c =
+    let copied = c .before .before .before .before .before .before .before .before .before .before in
+    let s = copied .before .before .before .before .before .before .before .before .before in
+    let d = s .pre .0 .district in
+    let a = s .pre .2 (s .pre .0 .road) d in
+    part-room _ 16 _ (few-crews d a _ (copied .crews2 .ensures .0)) (copied .crews2 .kept .1 .0)
+
+slice-aggregate-run-3 : tie.Need-slice-aggregate-run-3
+slice-aggregate-run-3 c =
     let copied = c .before .before .before .before .before .before .before .before .before .before .before in
     let s = copied .before .before .before .before .before .before .before .before .before in
     let d = s .pre .0 .district in
     let a = s .pre .2 (s .pre .0 .road) d in
-    part-room _ 16 _ (few-crews d a _ (s .pre .1)) (copied .crews2 .kept .1 .0)
-
-slice-aggregate-run-3 : tie.Need-slice-aggregate-run-3
-slice-aggregate-run-3 c =
-    let copied = c .before .before .before .before .before .before .before .before .before .before .before .before in
-    let s = copied .before .before .before .before .before .before .before .before .before in
-    let d = s .pre .0 .district in
-    let a = s .pre .2 (s .pre .0 .road) d in
-    part-of _ 16 _ (few-crews d a _ (s .pre .1)) (copied .crews2 .kept .1 .0)
+    part-of _ 16 _ (few-crews d a _ (copied .crews2 .ensures .0)) (copied .crews2 .kept .1 .0)
 
 slice-aggregate-run-4 : tie.Need-slice-aggregate-run-4
 slice-aggregate-run-4 c = search needs
@@ -115,7 +112,7 @@ slice-aggregate-run-4 c = search needs
 run-requires : tie.Need-run-requires
 run-requires c κs =
     let prepared = c .before .before .before .before .before .before .before in
-    let copied = prepared .before .before .before .before .before .before in
+    let copied = prepared .before .before .before .before .before in
     let known = copied .before .before .before .before .before .before .before in
     let s = known .before .before in
     let d = s .pre .0 .district in
@@ -126,7 +123,7 @@ run-requires c κs =
     let size = prepared .prepare .kept .1 .1 .1 .1 .0 ∙ lent-size (s .args .work .now) (a .accepted .work-full) in (
       record {
         road = s .pre .0 .road;
-        ready = ready d a _ (s .pre .1) _ refl _ (copied .crews2 .ensures) bytes _ _ _
+        ready = ready d a _ (copied .crews2 .ensures .0) _ (s .pre .1) _ (copied .crews2 .ensures .1) bytes _ _ _
             (back-taken (s .args .work .now) (p .last .1 .1 .1 .1 .0) size)
             (p .ensures .1 _ (d .adjacent)) (p .kept .1 .1 .1 .0) (p .ensures .0 _ (d .adjacent));
         adjacent = d .adjacent;
@@ -139,7 +136,7 @@ run-requires c κs =
 zero-words-requires : tie.Need-zero-words-requires
 zero-words-requires c κs =
     let prepared = c .before .before .before .before .before .before .before .before .before .before in
-    let s = prepared .before .before .before .before .before .before .before .before .before .before .before .before .before .before .before in
+    let s = prepared .before .before .before .before .before .before .before .before .before .before .before .before .before .before in
     let d = s .pre .0 .district in
     let a = s .pre .2 (s .pre .0 .road) d in
     back-full (s .args .work .now) (prepared .prepare .last .1 .1 .1 .1 .0)
@@ -152,23 +149,23 @@ report-requires : tie.Need-report-requires
 report-requires c κs =
     let ran = c .before .before .before .before .before .before .before in
     let prepared = c .before .before .before .before .before .before .before .before .before .before .before .before .before .before .before in
-    let copied = c .before .before .before .before .before .before .before .before .before .before .before .before .before .before .before .before .before .before .before .before .before in
-    let known = c .before .before .before .before .before .before .before .before .before .before .before .before .before .before .before .before .before .before .before .before .before .before .before .before .before .before .before .before in
-    let s = c .before .before .before .before .before .before .before .before .before .before .before .before .before .before .before .before .before .before .before .before .before .before .before .before .before .before .before .before .before .before in
+    let copied = c .before .before .before .before .before .before .before .before .before .before .before .before .before .before .before .before .before .before .before .before in
+    let known = c .before .before .before .before .before .before .before .before .before .before .before .before .before .before .before .before .before .before .before .before .before .before .before .before .before .before .before in
+    let s = c .before .before .before .before .before .before .before .before .before .before .before .before .before .before .before .before .before .before .before .before .before .before .before .before .before .before .before .before .before in
     let d = s .pre .0 .district in
     let a = s .pre .2 (s .pre .0 .road) d in
     let tree = s .args .tree .now in
     let bytes : Bytes tree = bytes-all tree (λ i. omega (arith, known .shared-slice-known2 .given i)) in
     let p = prepared .prepare in
     let size = prepared .prepare .kept .1 .1 .1 .1 .0 ∙ lent-size (s .args .work .now) (a .accepted .work-full) in
-    let e = answered d a _ (s .pre .1) _ refl _ (copied .crews2 .ensures) bytes _ _ _
+    let e = answered d a _ (copied .crews2 .ensures .0) _ (s .pre .1) _ (copied .crews2 .ensures .1) bytes _ _ _
     (back-taken (s .args .work .now) (p .last .1 .1 .1 .1 .0) size) (p .ensures .1 _ (d .adjacent)) (p .kept .1 .1 .1 .0)
     (p .ensures .0 _ (d .adjacent)) _ (ran .run .ensures .0 (s .pre .0 .road)) in
     let room = ran .run .ensures .1 in (
       room .0,
       omega (arith, room .1, room .2),
       ran .run .kept .1 .1 .1 .1 .1 .1 .1 .1 .0,
-      results-room d a _ (s .pre .1) _ refl _ (copied .crews2 .ensures) bytes _ _ e (room .0) (rw (measured-of _ _ (ran .run .result)) (room .1)),
+      results-room d a _ (copied .crews2 .ensures .0) _ (s .pre .1) _ (copied .crews2 .ensures .1) bytes _ _ e (room .0) (rw (measured-of _ _ (ran .run .result)) (room .1)),
       room .2,
     )
 
@@ -184,9 +181,9 @@ returns c =
     let cleared = c .before .before .before .before .before .before .before in
     let ran = c .before .before .before .before .before .before .before .before .before .before in
     let prepared = c .before .before .before .before .before .before .before .before .before .before .before .before .before .before .before .before .before .before in
-    let copied = c .before .before .before .before .before .before .before .before .before .before .before .before .before .before .before .before .before .before .before .before .before .before .before .before in
-    let known = c .before .before .before .before .before .before .before .before .before .before .before .before .before .before .before .before .before .before .before .before .before .before .before .before .before .before .before .before .before .before .before in
-    let s = c .before .before .before .before .before .before .before .before .before .before .before .before .before .before .before .before .before .before .before .before .before .before .before .before .before .before .before .before .before .before .before .before .before in
+    let copied = c .before .before .before .before .before .before .before .before .before .before .before .before .before .before .before .before .before .before .before .before .before .before .before in
+    let known = c .before .before .before .before .before .before .before .before .before .before .before .before .before .before .before .before .before .before .before .before .before .before .before .before .before .before .before .before .before .before in
+    let s = c .before .before .before .before .before .before .before .before .before .before .before .before .before .before .before .before .before .before .before .before .before .before .before .before .before .before .before .before .before .before .before .before in
     let d = s .pre .0 .district in
     let a = s .pre .2 (s .pre .0 .road) d in
     let tree = s .args .tree .now in
@@ -194,9 +191,9 @@ returns c =
     let p = prepared .prepare in
     let size = prepared .prepare .kept .1 .1 .1 .1 .0 ∙ lent-size (s .args .work .now) (a .accepted .work-full) in
     let so : (road : List ℕ) → District road (s .args .tree .now) (s .args .adj .now) (s .args .places .now) (s .args .ends .now)
-    → answerOf (ruleOf (s .args .rule)) (ran .run .last .1 .1 .1 .1 .1 .1 .1 .1 .0) (ran .run .result)
-    ≡ answerBy road (s .args .tree .now) (s .args .query .now) (ruleOf (s .args .rule))
-    = λ road e. answered e (s .pre .2 road e) _ (s .pre .1) _ refl _ (copied .crews2 .ensures) bytes _ _ _
+    → answerOf (ruleOf (s .args .asked .rule)) (ran .run .last .1 .1 .1 .1 .1 .1 .1 .1 .0) (ran .run .result)
+    ≡ answerBy road (s .args .tree .now) (s .args .query .now) (askingOf (s .args .asked))
+    = λ road e. answered e (s .pre .2 road e) _ (copied .crews2 .ensures .0) _ (s .pre .1) _ (copied .crews2 .ensures .1) bytes _ _ _
     (back-taken (s .args .work .now) (p .last .1 .1 .1 .1 .0) size) (p .ensures .1 road (e .adjacent)) (p .kept .1 .1 .1 .0)
     (p .ensures .0 road (e .adjacent)) _ (ran .run .ensures .0 road) in (
       λ road e. found-so _ _ _ (reported .report .ensures .0) (so road e),
@@ -212,7 +209,6 @@ search-spec =
     (tie.spec
     slice-aggregate-crews
     crews-requires
-    cast-q
     array-share-prefix-crews
     slice-aggregate-prepare
     slice-aggregate-prepare-2
