@@ -91,8 +91,8 @@ checkTests road yard tree words =
     -- 8: "Junction counts or yards disagree between books"
     ++ test 8 (junctionCount tree ≡ junctions road)
     ∷ test 8 (YardsHeld yard tree)
-    -- 9: "In a check only: a stored distance, least or greatest isn't the true one."; "a false kind byte in a tree fails
-    -- the check by 9"
+    -- 9: "In a check only: a stored distance, least or greatest isn't the true one."; "a false kind byte in a tree
+    -- fails the check by 9"
     ∷ test 9 (NumbersTrue road tree)
     ∷ test 9 (KindsTrue yard tree)
     -- 12: "A lent area is too short: work below 16,384 words"
@@ -137,8 +137,8 @@ CheckSafe = (road yard tree work : List ℕ)
 -- "Beside a sound road book and yard book, with full areas, a tree of sound layout and shape and of the road book's
 -- junction count passes the check if and only if its leaves hold each yard of the yard book once and no other, and each
 -- stored distance is the least total of any walk through the roads, as the COLT paper defines it, with each least and
--- greatest true of its region's yards.", and also every kind byte is the yard book's, and every region's byte has exactly
--- the bits of its yards
+-- greatest true of its region's yards.", and also every kind byte is the yard book's, and every region's byte has
+-- exactly the bits of its yards
 abbrev pub CheckTrue : Type 0
 CheckTrue = (road yard tree : List ℕ) (words : ℕ) → SoundBooks road yard → workWords ≤ words → SoundTreeBook road tree
     → (checkAnswer road yard tree words ≡ 0) ↔ (YardsHeld yard tree × NumbersTrue road tree × KindsTrue yard tree)
@@ -279,16 +279,16 @@ SearchSafe = (c : Call) (a : Lent) → SearchKept c a (foundOn c a) (callOn c a)
 -- Any list of searches of both kinds, mixed, on one work area and one result area, which hold anything at first: each
 -- is given both areas as the one before left them, and brings its own books. `Promised`
 -- (crates/search_call/specs/Demand.antt) has the demand's four sentences: a settled search on a tree that passes lists
--- exactly the first k wanted yards, or exactly those within its drive; none of these measured a yard whose bound exceeds the
--- last listed distance of a full list, or the seconds; enough steps always settle; at the end the result area is what
--- it held at first with all the settled lists written over its start in turn. A tree book is asked to be of bytes,
--- which a lent book is.
+-- exactly the first k wanted yards, or exactly those within its drive; none of these measured a yard whose bound
+-- exceeds the last listed distance of a full list, or the seconds; enough steps always settle; at the end the result
+-- area is what it held at first with all the settled lists written over its start in turn. A tree book is asked to be
+-- of bytes, which a lent book is.
 abbrev pub SearchesTrue : Type 0
 SearchesTrue = (calls : List Call) → OfBytes calls → (first : Lent) → Promised calls first
 
 -- Beside it: what holds of every search, on a tree that "check would refuse by 9" too; that the work area's contents
--- never matter; that the two kinds of search agree; and that a version 1 tree is searched as the version 2 tree with 255
--- throughout.
+-- never matter; that the two kinds of search agree; and that a version 1 tree is searched as the version 2 tree with
+-- 255 throughout.
 abbrev pub SearchesDecided : Type 0
 SearchesDecided = AnyTree × WorkUnread × SearchesAgree × VersionsAgree
 
