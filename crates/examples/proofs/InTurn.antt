@@ -39,12 +39,13 @@ use Rattle.search_rules.specs.Queue.{queued, wordAt, pick}
 use Rattle.search_rules.specs.Order.{yardFirst}
 use Rattle.search_rules.specs.Held.{insert, hold, lastDistance, greatestHeld, entry}
 use Rattle.search_rules.specs.Keeping.{keepBy, enoughBy, keep, enough}
-use Rattle.search_rules.specs.Step.{left, noElement, againKey, passed, waiting, nextPlace, nextF, queueChildren, openInner, queueNext, closeLeaf, openLeaf, takeRegion}
-use Rattle.search_rules.specs.Step.{takeYard, nextRegion, nextYard, leastKey, step, settled, rootKeys, startSearch}
+use Rattle.search_rules.specs.Step.{left, noElement, againKey, passed, waiting, nextPlace, nextF, queueChildren, openInner, queueNext, closeLeaf, openLeaf}
+use Rattle.search_rules.specs.Step.{takeRegion, takeYard, nextRegion, nextYard, leastKey, step, settled, rootKeys, startSearch}
 use Rattle.search_rules.specs.Run.{words, advance, run, report, answer}
-use Rattle.search_call.specs.Call.{treeRefusalIn, areasRefusal, searchRefusal, refused, accepted, searchFound, resultsAfter, foundOn, callOn, areasAfter, Call}
-use Rattle.examples.specs.Books.{roadN, treeN, roadOne, treeOne, roadThree, treeThree, treeKinds, crewBytes, asking, onN, onOne, onThree, onKinds, lent, row, settledRow}
-use Rattle.examples.specs.Books.{spentRow, refusedRow}
+use Rattle.search_call.specs.Call.{treeRefusalIn, areasRefusal, searchRefusal, refused, accepted, searchFound, resultsAfter, foundOn, callOn, areasAfter}
+use Rattle.search_call.specs.Call.{Call}
+use Rattle.examples.specs.Books.{roadN, treeN, roadOne, treeOne, roadThree, treeThree, treeKinds, crewBytes, asking, onN, onOne, onThree, onKinds}
+use Rattle.examples.specs.Books.{lent, row, settledRow, spentRow, refusedRow}
 use Rattle.yard.specs.Yards.{yardCount as yardsIn, yardAt, yardsFrom, yardsOf, yardsRise, inside as yardsInside, yardBodyRefusal as yardBody, yardRefusal}
 use Rattle.yard.specs.Yards.{yardsSize, yardPlace, yardKind, kindsSet, kindsFrom as yardKinds′, kindTable, kindOf, yardRefusalIn}
 use Rattle.tree.specs.Yards.{ownYards, leafYardsFrom as leafYards, yardsBelow, treeYards}
@@ -70,19 +71,22 @@ bytes c (tail (tail (head e))) = rw e (λ v. below-all 256 treeN (omega arith) t
 bytes c (tail (tail (tail (head e)))) = rw e (λ v. below-all 256 treeThree (omega arith) tt v)
 
 pub in-turn : InTurn
-unfolding choose refuse firstOf u8At u16At u32At write keepIf version openRefusal shares togetherFrom together kindSize kindAt workRefusal junctions roadCount roadAt roadsTo roads after roadOk roadsOk roadLayout along
-    back arcs net at walked score nearer pickNear shorten relaxArc relax walkOn roundAt rounds startWalk walkFrom distances dist allReached roadRefusal
-    aggregateOf kOf limitOf crewCount crewAt crewsFrom crewsOf inside valueRefusal queryBodyRefusal queryRefusal firstDistance lastFrom leafMark innerMark
-    noRegion regionAt fieldsSize elementSize listSize leafMarkSize elementAt readList listPart readLists readSpans readMarks markSize recordSize sizeAt readRegion readRegions junctionCount regionCount
-    treeYardCount landmarkCount decode between all recordsOk elementOk comes risesFrom listRises listOk markOk childrenOk regionOk valuesOk treeLayout names once
-    inRange namedBy firstList sameYards agreeing leafOk childFits siblings subtree shaped treeRefusal endOf starts childrenOf kindsIn ownList kindsFrom kindsOf size children marks leaf
-    searchOf absDiff combine aggregate greatestOf leastFrom leastOf crewBound noMark tableAt lower upper over total markBound bound weight best bestOf chosen
-    listAbsDiff f yardBound queued wordAt pick yardFirst insert hold lastDistance greatestHeld entry keepBy enoughBy keep enough left noElement againKey passed waiting nextPlace nextF
-    queueChildren openInner queueNext closeLeaf openLeaf takeRegion takeYard nextRegion nextYard leastKey step settled rootKeys startSearch words advance run report
-    answer treeRefusalIn areasRefusal searchRefusal refused accepted searchFound resultsAfter foundOn callOn roadN treeN roadOne treeOne roadThree treeThree
-    crewBytes asking onN onOne onThree lent row settledRow spentRow yardsIn yardsSize yardPlace yardAt yardKind kindsSet yardKinds′ kindTable kindOf yardsFrom yardsOf yardsRise yardsInside yardBody yardRefusal yardRefusalIn
-    ownYards leafYards yardsBelow treeYards listYards leastYard least greatestFrom greatest trueElement trueList trueSpan trueRegion trueFrom trueTree kindsElement kindsList kindsRegion regionKinds kindsTree has
-    sameSet treeRefusalBeside checkAnswer yardN yardOne yardThree yardKinds treeKinds onKinds four refusedRow areasAfter zeroed workAfter
+unfolding choose refuse firstOf u8At u16At u32At write keepIf version openRefusal shares togetherFrom together kindSize kindAt workRefusal junctions
+    roadCount roadAt roadsTo roads after roadOk roadsOk roadLayout along back arcs net at walked score nearer pickNear shorten relaxArc relax walkOn roundAt
+    rounds startWalk walkFrom distances dist allReached roadRefusal aggregateOf kOf limitOf crewCount crewAt crewsFrom crewsOf inside valueRefusal
+    queryBodyRefusal queryRefusal firstDistance lastFrom leafMark innerMark noRegion regionAt fieldsSize elementSize listSize leafMarkSize elementAt
+    readList listPart readLists readSpans readMarks markSize recordSize sizeAt readRegion readRegions junctionCount regionCount treeYardCount landmarkCount
+    decode between all recordsOk elementOk comes risesFrom listRises listOk markOk childrenOk regionOk valuesOk treeLayout names once inRange namedBy
+    firstList sameYards agreeing leafOk childFits siblings subtree shaped treeRefusal endOf starts childrenOf kindsIn ownList kindsFrom kindsOf size
+    children marks leaf searchOf absDiff combine aggregate greatestOf leastFrom leastOf crewBound noMark tableAt lower upper over total markBound bound
+    weight best bestOf chosen listAbsDiff f yardBound queued wordAt pick yardFirst insert hold lastDistance greatestHeld entry keepBy enoughBy keep enough
+    left noElement againKey passed waiting nextPlace nextF queueChildren openInner queueNext closeLeaf openLeaf takeRegion takeYard nextRegion nextYard
+    leastKey step settled rootKeys startSearch words advance run report answer treeRefusalIn areasRefusal searchRefusal refused accepted searchFound
+    resultsAfter foundOn callOn roadN treeN roadOne treeOne roadThree treeThree crewBytes asking onN onOne onThree lent row settledRow spentRow yardsIn
+    yardsSize yardPlace yardAt yardKind kindsSet yardKinds′ kindTable kindOf yardsFrom yardsOf yardsRise yardsInside yardBody yardRefusal yardRefusalIn
+    ownYards leafYards yardsBelow treeYards listYards leastYard least greatestFrom greatest trueElement trueList trueSpan trueRegion trueFrom trueTree
+    kindsElement kindsList kindsRegion regionKinds kindsTree has sameSet treeRefusalBeside checkAnswer yardN yardOne yardThree yardKinds treeKinds onKinds
+    four refusedRow areasAfter zeroed workAfter
 in-turn = record {
   passes-N = refl;
   passes-one = refl;

@@ -36,8 +36,8 @@ use Rattle.search_rules.specs.Queue.{queued, wordAt, pick}
 use Rattle.search_rules.specs.Order.{yardFirst}
 use Rattle.search_rules.specs.Held.{insert, hold, lastDistance, greatestHeld, entry}
 use Rattle.search_rules.specs.Keeping.{keepBy, enoughBy, keep, enough}
-use Rattle.search_rules.specs.Step.{left, noElement, againKey, passed, waiting, nextPlace, nextF, queueChildren, openInner, queueNext, closeLeaf, openLeaf, takeRegion}
-use Rattle.search_rules.specs.Step.{takeYard, nextRegion, nextYard, leastKey, step, settled, rootKeys, startSearch}
+use Rattle.search_rules.specs.Step.{left, noElement, againKey, passed, waiting, nextPlace, nextF, queueChildren, openInner, queueNext, closeLeaf, openLeaf}
+use Rattle.search_rules.specs.Step.{takeRegion, takeYard, nextRegion, nextYard, leastKey, step, settled, rootKeys, startSearch}
 use Rattle.search_rules.specs.Run.{words, advance, run, report, answer}
 use Rattle.search_call.specs.Call.{treeRefusalIn, areasRefusal, searchRefusal, refused, accepted, searchFound, resultsAfter, foundOn, callOn}
 use Rattle.examples.specs.Books.{roadN, treeN, roadOne, treeOne, roadThree, treeThree, crewBytes, asking, onN, onOne, onThree, lent, row, settledRow}
@@ -50,17 +50,18 @@ unfolding crewBound choose
 far lb b h k = choose-no (leb b lb) _ 5 (not-T (leb b lb) (λ t. omega (arith, leb→le b lb t)))
 
 pub starred : Starred
-unfolding choose refuse firstOf u8At u16At u32At write keepIf version openRefusal shares kindSize kindAt workRefusal junctions roadCount roadAt roadsTo roads after roadOk roadsOk roadLayout along
-    back arcs net at walked score nearer pickNear shorten relaxArc relax walkOn roundAt rounds startWalk walkFrom distances dist allReached roadRefusal
-    aggregateOf kOf limitOf crewCount crewAt crewsFrom crewsOf inside valueRefusal queryBodyRefusal queryRefusal firstDistance lastFrom leafMark innerMark
-    noRegion regionAt fieldsSize elementSize listSize leafMarkSize elementAt readList listPart readLists readSpans readMarks markSize recordSize sizeAt readRegion readRegions junctionCount regionCount
-    treeYardCount landmarkCount decode between all recordsOk elementOk comes risesFrom listRises listOk markOk childrenOk regionOk valuesOk treeLayout names once
-    inRange namedBy firstList sameYards agreeing leafOk childFits siblings subtree shaped treeRefusal endOf starts childrenOf kindsIn ownList kindsFrom kindsOf size children marks leaf
-    searchOf absDiff combine aggregate greatestOf leastFrom leastOf crewBound noMark tableAt lower upper over total markBound bound weight best bestOf chosen
-    listAbsDiff f yardBound queued wordAt pick yardFirst insert hold lastDistance greatestHeld entry keepBy enoughBy keep enough left noElement againKey passed waiting nextPlace nextF
-    queueChildren openInner queueNext closeLeaf openLeaf takeRegion takeYard nextRegion nextYard leastKey step settled rootKeys startSearch words advance run report
-    answer treeRefusalIn areasRefusal searchRefusal refused accepted searchFound resultsAfter foundOn callOn roadN treeN roadOne treeOne roadThree treeThree
-    crewBytes asking onN onOne onThree lent row settledRow spentRow valued exampleList
+unfolding choose refuse firstOf u8At u16At u32At write keepIf version openRefusal shares kindSize kindAt workRefusal junctions roadCount roadAt roadsTo
+    roads after roadOk roadsOk roadLayout along back arcs net at walked score nearer pickNear shorten relaxArc relax walkOn roundAt rounds startWalk
+    walkFrom distances dist allReached roadRefusal aggregateOf kOf limitOf crewCount crewAt crewsFrom crewsOf inside valueRefusal queryBodyRefusal
+    queryRefusal firstDistance lastFrom leafMark innerMark noRegion regionAt fieldsSize elementSize listSize leafMarkSize elementAt readList listPart
+    readLists readSpans readMarks markSize recordSize sizeAt readRegion readRegions junctionCount regionCount treeYardCount landmarkCount decode between all
+    recordsOk elementOk comes risesFrom listRises listOk markOk childrenOk regionOk valuesOk treeLayout names once inRange namedBy firstList sameYards
+    agreeing leafOk childFits siblings subtree shaped treeRefusal endOf starts childrenOf kindsIn ownList kindsFrom kindsOf size children marks leaf
+    searchOf absDiff combine aggregate greatestOf leastFrom leastOf crewBound noMark tableAt lower upper over total markBound bound weight best bestOf
+    chosen listAbsDiff f yardBound queued wordAt pick yardFirst insert hold lastDistance greatestHeld entry keepBy enoughBy keep enough left noElement
+    againKey passed waiting nextPlace nextF queueChildren openInner queueNext closeLeaf openLeaf takeRegion takeYard nextRegion nextYard leastKey step
+    settled rootKeys startSearch words advance run report answer treeRefusalIn areasRefusal searchRefusal refused accepted searchFound resultsAfter foundOn
+    callOn roadN treeN roadOne treeOne roadThree treeThree crewBytes asking onN onOne onThree lent row settledRow spentRow valued exampleList
 starred = record {
   listing = refl;
   limit-3 = refl;

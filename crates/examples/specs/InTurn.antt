@@ -7,8 +7,8 @@ use lib.ListN.{drop, replicate}
 use Rattle.check_tree.specs.Check.{checkAnswer}
 use Rattle.search_call.specs.Call.{Call, areasAfter}
 use Rattle.search_call.specs.Demand.{Promised}
-use Rattle.examples.specs.Books.{roadN, treeN, roadOne, treeOne, roadThree, treeThree, treeKinds, asking, onN, onThree, onKinds, lent}
-use Rattle.examples.specs.Books.{refusedRow, settledRow, row}
+use Rattle.examples.specs.Books.{roadN, treeN, roadOne, treeOne, roadThree, treeThree, treeKinds, asking}
+use Rattle.examples.specs.Books.{onN, onThree, onKinds, lent, refusedRow, settledRow, row}
 
 -- a yard book of "yards 1, 3, 4", of "yard 0" and of "yards 0 and 2"
 unfoldable pub yardN : List ℕ

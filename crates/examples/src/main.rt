@@ -35,7 +35,8 @@ fn query_n() -> [u8; 16]
 
 // The number by which a search by an example's books is refused, or 0.
 fn refusal(road: &[u8], tree: &[u8], query: &[u8]) -> u32
-    ensures { λ r. ⌜ r ≡ searchRefusal (now (road .entry)) (now (tree .entry)) (now (query .entry)) (wantAny none) 16384 128 ⌝ }
+    ensures { λ r. ⌜ r ≡ searchRefusal (now (road .entry)) (now (tree .entry)) (now (query .entry)) (wantAny none) 16384
+        128 ⌝ }
 {
     let mut work = [0u32; work_area::WORDS];
     let mut results = [0u32; 128];
