@@ -172,24 +172,20 @@ fn road_rule(
 /// Test 5 of a yard book: the first yard that breaks a rule.
 fn yard_value(book: &[u8]) -> Option<String> {
     let mut before = None;
-    for (
-        place,
-        Yard {
-            junction: yard,
-            kinds,
-        },
-    ) in yards(book).enumerate()
-    {
+    for (place, Yard { junction, kinds }) in yards(book).enumerate() {
         let rule = match before {
-            _ if yard >= MOST_JUNCTIONS => "expected a junction below 1024",
-            Some(before) if yard <= before => "expected junctions to rise strictly",
+            _ if junction >= MOST_JUNCTIONS => "expected a junction below 1024",
+            Some(before) if junction <= before => "expected junctions to rise strictly",
             _ if kinds == 0 => "expected kinds from 1 to 255, not 0",
             _ => {
-                before = Some(yard);
+                before = Some(junction);
                 continue;
             }
         };
-        return Some(format!(", yard {} (junction {yard}): {rule}", place + 1));
+        return Some(format!(
+            ", yard {} (junction {junction}): {rule}",
+            place + 1
+        ));
     }
     None
 }
