@@ -1,4 +1,5 @@
-// Test 9, of kinds: whether every kind byte of a tree book is the yard book's, and each region's byte that of its yards.
+// Test 9, of kinds: whether every kind byte of a tree book is the yard book's, and each region's byte that of its
+// yards.
 use book::Junction;
 use tree_layout::Fields;
 use tree_layout::landmarks;

@@ -74,7 +74,8 @@ pub record SoundBeside (road yard tree : List ℕ) (words : ℕ) : Type 0 where
 
 -- Demand 2, of check: such a tree "passes the check if and only if its leaves hold each yard of the yard book once and
 -- no other, and each stored distance is the least total of any walk .., with each least and greatest true of its
--- region's yards", and also every kind byte is the yard book's, and every region's byte has exactly the bits of its yards
+-- region's yards", and also every kind byte is the yard book's, and every region's byte has exactly the bits of its
+-- yards
 abbrev pub CheckExact : Type 0
 CheckExact = (road yard tree : List ℕ) (words : ℕ) → SoundBeside road yard tree words
     → (checkAnswer road yard tree words ≡ 0)

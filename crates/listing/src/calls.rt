@@ -1,4 +1,5 @@
-// The call that a goal asks for.
+// The call that a goal asks for, of yards of any kind: "The list program wants 255."
+use kinds::ANY;
 use search_tree::Found;
 use search_tree::Goal;
 ghost use mathlib.Core.Path.{_≡_};
@@ -6,9 +7,6 @@ ghost use Prim.Native.Nat.{_*_, _≤_};
 ghost use lib.ListN.{length};
 ghost use Rattle.search_call.specs.Call.{wantAny, searchFound, resultsAfter};
 ghost use Rattle.search_tree.specs.Found.{foundOf, driveOf};
-
-// "The list program wants 255."
-const ANY: u8 = 255;
 
 // Searches for the first k yards, or for all within some seconds. There are two result words for each yard listed.
 pub fn search(

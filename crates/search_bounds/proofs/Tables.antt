@@ -2,7 +2,7 @@
 use mathlib.Core.Path.{_≡_, refl, sym, ap, _∙_}
 use mathlib.Core.Logic.{_≢_}
 use mathlib.Core.List.{List, [], _∷_, List·Memᴰ as Mem}
-use Prim.Native.Nat.{ℕ, zero, suc, _+_, _≤_, _<_}
+use Prim.Native.Nat.{ℕ, zero, suc, _+_, _≤_, _<_, min, max}
 use native.Mathlib.Omega.{arith}
 use lib.ListN.{length, getD, take}
 use lib.Seq.{take-all}
@@ -25,6 +25,12 @@ use Rattle.search_bounds.proofs.Picking.{first-one, first-suc, first-be
 
 -- ---- LB and UB
 
+greater-same : (a b c d : ℕ) → a ≡ c → b ≡ d → max a b ≡ max c d
+greater-same a b c d e f = rw (e, f) refl
+
+lesser-same : (a b c d : ℕ) → a ≡ c → b ≡ d → min a b ≡ min c d
+lesser-same a b c d e f = rw (e, f) refl
+
 module _ (i : Instance) (rows : ℕ) (table : List ℕ) (s : LandmarkTable i rows table) (l q : ℕ)
     (hl : l < i .tree .junctions) (hq : q < i .tree .junctions) where
   -- row r's words are those of the root's landmark r
@@ -38,10 +44,9 @@ module _ (i : Instance) (rows : ℕ) (table : List ℕ) (s : LandmarkTable i row
   lower-rows : (r : ℕ) → r ≤ rows → rowsLower table r l q ≡ greatestOf (λ m. absDiff (tableAt i m l) (tableAt i m q)) (take r (marks i 0))
   lower-rows zero h = lower-none table l q ∙ sym (greatest-none (λ m. absDiff (tableAt i m l) (tableAt i m q)))
   lower-rows (suc r) h =
-      let e = lower-rows r (omega arith) in
-      let d = difference r (omega arith) in
-      let t = greatest-take (λ m. absDiff (tableAt i m l) (tableAt i m q)) (marks i 0) r (omega (arith, s .count)) in
-      omega (arith, lower-suc table l q r)
+      let k : r < length (marks i 0) = omega (arith, s .count) in
+      lower-suc table l q r ∙ greater-same _ _ _ _ (lower-rows r (omega arith)) (difference r (omega arith))
+      ∙ sym (greatest-take (λ m. absDiff (tableAt i m l) (tableAt i m q)) (marks i 0) r k)
 
   pub lower-table : rowsLower table rows l q ≡ lower i l q
   lower-table =
@@ -53,10 +58,9 @@ module _ (i : Instance) (rows : ℕ) (table : List ℕ) (s : LandmarkTable i row
   upper-rows (suc zero) h k =
       upper-one table l q ∙ both 0 (omega arith) ∙ sym (least-first (λ m. tableAt i m l + tableAt i m q) (marks i 0) (omega (arith, s .count)))
   upper-rows (suc (suc r)) h k =
-      let e = upper-rows (suc r) (omega arith) (omega arith) in
-      let d = both (suc r) (omega arith) in
-      let t = least-take (λ m. tableAt i m l + tableAt i m q) (marks i 0) (suc r) (omega arith) (omega (arith, s .count)) in
-      omega (arith, upper-suc table l q (suc r) (omega arith))
+      let n : suc r < length (marks i 0) = omega (arith, s .count) in
+      upper-suc table l q (suc r) (omega arith) ∙ lesser-same _ _ _ _ (upper-rows (suc r) (omega arith) (omega arith)) (both (suc r) (omega arith))
+      ∙ sym (least-take (λ m. tableAt i m l + tableAt i m q) (marks i 0) (suc r) (omega arith) n)
 
   pub upper-table : rowsUpper table rows l q ≡ upper i l q
   upper-table =

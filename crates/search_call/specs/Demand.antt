@@ -78,8 +78,8 @@ ForDrive s seconds = s .call .want .drive ≡ some seconds
 abbrev pub limit : Search → ℕ
 limit s = limitOf (s .call .query)
 
--- its roads, both ways; "the tree's yards", and those that are wanted: "a yard is wanted if its byte in its leaf's first
--- list shares a bit"; "an inner region has children": how many there are
+-- its roads, both ways; "the tree's yards", and those that are wanted: "a yard is wanted if its byte in its leaf's
+-- first list shares a bit"; "an inner region has children": how many there are
 abbrev pub arcs : Search → List Arc
 arcs s = net (s .call .road)
 
@@ -141,9 +141,9 @@ overwritten (l ∷ ls) results = overwritten ls (overStart (words l) results)
 
 -- of any list of calls, and what the two areas hold before the first
 pub record Promised (calls : List Call) (first : Areas) : Type 0 where
-  -- "each settled search on a tree that passes has listed exactly the first k of the tree's" wanted "yards, or all if fewer, by
-  -- aggregate least distance and then junction number, each with that distance; so no yard left out comes before one
-  -- listed"
+  -- "each settled search on a tree that passes has listed exactly the first k of the tree's" wanted "yards, or all if
+  -- fewer, by aggregate least distance and then junction number, each with that distance; so no yard left out comes
+  -- before one listed"
   pub exact : (s : Search) → Mem s (searches calls first) → OnPassing s → Settled s → ForYards s
       → FirstYards (arcs s) (code s) (k s) (crews s) (wantedYards s) (list s)
   -- "a settled list holds exactly the tree's" wanted "yards within the drive", in yard order, each with its distance
@@ -203,7 +203,8 @@ pub record DecidedSearch (s : Search) : Type 0 where
   -- inner regions plus twice the yards of the tree, wanted or not, settle a search of any tree
   pub ends : NotRefused s → innerRegions s + 2 * length (yards s) ≤ limit s → Settled s
   -- "Regions .. without a wanted bit never enter the queue, so such a root settles empty with 0 taken."
-  pub unwanted-root : NotRefused s → T (not (shares (s .call .want .kinds) (regionAt (decode (s .call .tree) .regions) 0 .kinds)))
+  pub unwanted-root : NotRefused s
+      → T (not (shares (s .call .want .kinds) (regionAt (decode (s .call .tree) .regions) 0 .kinds)))
       → found s ≡ record { refusal = 0; settled = 1; listed = 0; taken = 0; measured = 0 }
   -- a yard of the tree has exactly one bound
   pub bounded : NotRefused s → (y : ℕ) → Mem y (yards s) → (b : ℕ) × BoundOf s y b
@@ -232,8 +233,8 @@ OwnYards = (road tree : List ℕ) → (p : Passes road tree) → Same (treeYards
 -- listed distance of a full list of k yards lists that list first
 abbrev pub SearchesAgree : Type 0
 SearchesAgree = (s d : Search) → Bytes (s .call .tree) → s .call .road ≡ d .call .road → s .call .tree ≡ d .call .tree
-    → s .call .want .kinds ≡ d .call .want .kinds → code s ≡ code d → crews s ≡ crews d → OnPassing s → Settled s → Settled d
-    → ForYards s → Full s → ForDrive d (lastDistance s)
+    → s .call .want .kinds ≡ d .call .want .kinds → code s ≡ code d → crews s ≡ crews d → OnPassing s → Settled s
+    → Settled d → ForYards s → Full s → ForDrive d (lastDistance s)
     → take (k s) (list d) ≡ list s
 
 -- two trees that differ at most in their version
@@ -243,8 +244,8 @@ pub record Alike (s t : Tree) : Type 0 where
   pub landmarks : s .landmarks ≡ t .landmarks
   pub regions : s .regions ≡ t .regions
 
--- "Version 1 books are read with kind 255 throughout": a search of a version 1 tree is the search of a version 2 tree with
--- 255 throughout; and every yard of a version 1 tree is wanted
+-- "Version 1 books are read with kind 255 throughout": a search of a version 1 tree is the search of a version 2 tree
+-- with 255 throughout; and every yard of a version 1 tree is wanted
 pub record VersionsAgree : Type 0 where
   pub same : (c d : Call) (a : Areas) → c .road ≡ d .road → c .query ≡ d .query → c .want ≡ d .want
       → treeRefusal (c .tree) ≡ 0 → treeRefusal (d .tree) ≡ 0 → Alike (decode (c .tree)) (decode (d .tree))

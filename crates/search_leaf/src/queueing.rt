@@ -41,7 +41,8 @@ pub fn queue_next(
         × (length (now words) ≡ wordCount (h .regions) (h .junctions)) × (r .number < h .regions)
         × (h .junctions ≤ 1024) × (length (now values) ≡ valueCount) ⌝ }
     ensures { λ _. ⌜ now (words .exit) ≡ leafQueued (h .regions) (h .junctions)
-        (readList (h .version) (now (list .entry)) yards 0) yards (now (words .entry)) (now (values .entry)) (r .number) ⌝ }
+        (readList (h .version) (now (list .entry)) yards 0) yards (now (words .entry)) (now (values .entry))
+        (r .number) ⌝ }
 {
     let first = words[parts::first_at(h, r)];
     let next = elements::next_element(list, yards, h, words, values);

@@ -15,8 +15,8 @@ use Rattle.tree.specs.Yards.{kindsOf}
 use Rattle.search_rules.specs.Rule.{Asking}
 use Rattle.search_rules.specs.Instance.{Instance}
 
--- of the tree book's tree, with the road book's distances, for yards of some wanted kinds: "a yard is wanted if its byte
--- in its leaf's first list shares a bit"
+-- of the tree book's tree, with the road book's distances, for yards of some wanted kinds: "a yard is wanted if its
+-- byte in its leaf's first list shares a bit"
 unfoldable pub searchOf : (road tree : List ℕ) → Asking → (crews : List ℕ) → Instance
 searchOf road tree a crews = record {
   code = a .code;

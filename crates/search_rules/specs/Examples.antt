@@ -17,8 +17,8 @@ use Rattle.search_rules.specs.Theorems.{barrens}
 
 -- ---- junctions in a chain
 
--- A search on a chain of junctions, given by each one's distance from junction 0, for yards of any kind. No rule reads the
--- tree's version or its count of landmarks.
+-- A search on a chain of junctions, given by each one's distance from junction 0, for yards of any kind. No rule reads
+-- the tree's version or its count of landmarks.
 unfoldable pub onChain : List ℕ → (code k : ℕ) → (crews : List ℕ) → (yards : ℕ) → List Region → Instance
 onChain along code k crews yards regions = record {
   code = code;
@@ -204,20 +204,21 @@ pub record Worked : Type 0 where
   -- first leaf and not the second
   pub wanted-1 : regionKeysAfter fourOnly 0 ++ regionKeysAfter fourOnly 1
       ≡ (8 ∷ unqueued ∷ unqueued ∷ []) ++ unqueued ∷ 8 ∷ unqueued ∷ []
-  -- "A leaf, when taken, passes over its unwanted elements": step 2 queues yard 4 with the greater of its bound 10 and 8,
-  -- though yard 3 has the lesser f, and no wanted one remains
+  -- "A leaf, when taken, passes over its unwanted elements": step 2 queues yard 4 with the greater of its bound 10 and
+  -- 8, though yard 3 has the lesser f, and no wanted one remains
   pub wanted-2 : regionKeysAfter fourOnly 2 ++ yardKeysAfter fourOnly 2
       ≡ (unqueued ∷ unqueued ∷ unqueued ∷ []) ++ unqueued ∷ unqueued ∷ unqueued ∷ unqueued ∷ 10 ∷ unqueued ∷ []
   -- Step 3 measures it, and the queue is empty.
   pub wanted-3 : measuredAfter fourOnly 3 ++ counts fourOnly 9 ≡ (4 ∷ []) ++ 3 ∷ 1 ∷ []
   pub wanted-list : lists fourOnly 9 ≡ found 10 4 ∷ []
-  -- "its next yard, the next f and whether any remain concern wanted ones alone": on net N the leaf's first key is 2, and
-  -- yards 1, 3 and 4 have the f 5, 13 and 15. Yard 1 leaves; the leaf is queued again at 13, or at 15 without yard 3.
+  -- "its next yard, the next f and whether any remain concern wanted ones alone": on net N the leaf's first key is 2,
+  -- and yards 1, 3 and 4 have the f 5, 13 and 15. Yard 1 leaves; the leaf is queued again at 13, or at 15 without yard
+  -- 3.
   pub next-wanted : regionKeysAfter (netFor (λ y. true)) 1 ++ regionKeysAfter (netFor (λ y. not (eqb y 3))) 1
       ++ yardKeysAfter (netFor (λ y. not (eqb y 3))) 1
       ≡ (13 ∷ []) ++ (15 ∷ []) ++ unqueued ∷ 5 ∷ unqueued ∷ unqueued ∷ unqueued ∷ []
-  -- "A leaf without any wanted yard queues nothing when taken": within 18 step 4 takes the second leaf, at 18, and nothing
-  -- is queued any more; for the nearest yard alone it isn't taken
+  -- "A leaf without any wanted yard queues nothing when taken": within 18 step 4 takes the second leaf, at 18, and
+  -- nothing is queued any more; for the nearest yard alone it isn't taken
   pub vain-3 : regionKeysAfter (driven 18 inVain) 3 ++ yardKeysAfter (driven 18 inVain) 3
       ≡ (unqueued ∷ unqueued ∷ 18 ∷ []) ++ unqueued ∷ unqueued ∷ unqueued ∷ unqueued ∷ unqueued ∷ unqueued ∷ []
   pub vain-4 : regionKeysAfter (driven 18 inVain) 4 ++ yardKeysAfter (driven 18 inVain) 4

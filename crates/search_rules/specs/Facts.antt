@@ -17,8 +17,8 @@ pub record Listed (m : Mark) (y : ℕ) : Type 0 where
   pub mem : Mem element (m .list)
   pub names : element .yard ≡ y
 
--- y is a wanted yard below region r, and all regions on the way to it may enter the queue: a leaf's lists name it, or it
--- is below a child
+-- y is a wanted yard below region r, and all regions on the way to it may enter the queue: a leaf's lists name it, or
+-- it is below a child
 pub data Below (i : Instance) : ℕ → ℕ → Type 0 where
   inside : {r y : ℕ} (m : Mark) → T (i .admits r) → T (leaf i r) → Mem m (marks i r) → Listed m y → T (i .wants y)
       → Below i r y

@@ -1,5 +1,5 @@
--- What is searched: a tree, the crews, the aggregate, the rule, the distance, and what is wanted. Assumes nothing: these
--- are definitions.
+-- What is searched: a tree, the crews, the aggregate, the rule, the distance, and what is wanted. Assumes nothing:
+-- these are definitions.
 use mathlib.Core.Bool.{Bool}
 use mathlib.Core.List.{List}
 use Prim.Native.Nat.{ℕ}
@@ -12,8 +12,8 @@ use Rattle.search_rules.specs.Rule.{Rule}
 
 -- The aggregate's code (0 is the sum, 1 the maximum), what the search is for, the crews' junctions (query vertices;
 -- "two crews may stand at one junction and both count"), the tree, and d u v, "the least total of seconds over all
--- walks from u to v". "Regions and yards without a wanted bit never enter the queue": which regions may, and which yards
--- are wanted.
+-- walks from u to v". "Regions and yards without a wanted bit never enter the queue": which regions may, and which
+-- yards are wanted.
 pub record Instance : Type 0 where
   pub code : ℕ
   pub rule : Rule

@@ -94,7 +94,7 @@ module _ {road tree adj places ends query : List ℕ} {asking : Asking} {work re
       crews-are = rw count crews
 
       -- the search is the call's
-      same-search : answer (searchOf road tree asking (take q copied)) limit ≡ answerBy road tree query asking
+      pub same-search : answer (searchOf road tree asking (take q copied)) limit ≡ answerBy road tree query asking
       same-search = rw (crews-are, limited) refl
 
       -- ---- the arrays
@@ -124,13 +124,6 @@ module _ {road tree adj places ends query : List ℕ} {asking : Asking} {work re
           laid = d .laid;
           tableed = table-filled road tree tree-laid asking (take q copied) table four rowed;
         }
-
-        -- and what the steps come to is the call's answer
-        pub answered : (drives part table : List ℕ) → drives ≡ part → Rowed road (take q copied) part → length table ≡ tableWords
-            → Rowed road (rootPlaces tree) table → (o : Answer)
-            → (Ready road tree asking (take q copied) drives places table
-            → o ≡ answer (searchOf road tree asking (take q copied)) limit) → o ≡ answerBy road tree query asking
-        answered drives part table e driven four rowed o f = f (ready drives part table e driven four rowed) ∙ same-search
 
         -- the result area has room for what is held
         pub results-room : (o : Answer) (kept : Kept) → o ≡ answerBy road tree query asking → Fits (asking .rule) kept → countBy (asking .rule) kept ≤ o .measured

@@ -45,8 +45,8 @@ fn refused(why: u8) -> Found
     }
 }
 
-// Searches a tree beside a road book for what a query asks and a call wants. An accepted call zeroes the first 16,384 work
-// words; one that is turned back changes nothing.
+// Searches a tree beside a road book for what a query asks and a call wants. An accepted call zeroes the first 16,384
+// work words; one that is turned back changes nothing.
 pub fn search(
     road: &[u8],
     tree: &[u8],

@@ -19,7 +19,8 @@ unfoldable pub treeAnswer : ℕ → Header → Tree
 treeAnswer zero h = Shaped h
 treeAnswer (suc n) h = Refused (suc n)
 
--- each case's number and values: the header's version and counts; "A refusal returns its number, with every other returned field 0"
+-- each case's number and values: the header's version and counts; "A refusal returns its number, with every other
+-- returned field 0"
 unfoldable pub treeCase : Tree → Case
 treeCase (Shaped h) = accepted (headerValues h)
 treeCase (Refused why) = refused why 5

@@ -54,8 +54,8 @@ encodeRegions v (r ∷ rs) = encodeRegion v r ++ encodeRegions v rs
 -- "a version byte .., then fields": "junctions u16 .., regions u16 .., yards u16 .., landmarks per region m u8 ..;
 -- then regions in preorder"
 unfoldable pub encodeBody : Tree → List ℕ
-encodeBody t = t .version ∷ (u16Bytes (t .junctions) ++ (u16Bytes (length (t .regions)) ++ (u16Bytes (t .yards) ++ (t .landmarks
-    ∷ encodeRegions (t .version) (t .regions)))))
+encodeBody t = t .version ∷ (u16Bytes (t .junctions) ++ (u16Bytes (length (t .regions)) ++ (u16Bytes (t .yards)
+    ++ (t .landmarks ∷ encodeRegions (t .version) (t .regions)))))
 
 -- "Each book is a 4-byte count of the bytes after it"
 unfoldable pub encode : Tree → List ℕ

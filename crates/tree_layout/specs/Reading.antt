@@ -37,7 +37,8 @@ treeBook (suc n) h = Refused (suc n)
 abbrev pub headerValues : Header → List ℕ
 headerValues h = h .version ∷ h .junctions ∷ h .regions ∷ h .yards ∷ h .landmarks ∷ []
 
--- each case's number and values: the header's version and counts; "A refusal returns its number, with every other returned field 0"
+-- each case's number and values: the header's version and counts; "A refusal returns its number, with every other
+-- returned field 0"
 unfoldable pub layoutCase : TreeBook → Case
 layoutCase (Laid h) = accepted (headerValues h)
 layoutCase (Refused why) = refused why 5

@@ -20,8 +20,8 @@ yardTests b =
     -- 3: "a .. yard .. count is outside its limits": yards 1 to 256
     ++ test 3 (1 ≤ yardCount b)
     ∷ test 3 (yardCount b ≤ 256)
-    -- 4: "A record is incomplete, or bytes follow the last one.": the yards, one after the other, take up the book to its
-    -- end
+    -- 4: "A record is incomplete, or bytes follow the last one.": the yards, one after the other, take up the book to
+    -- its end
     ∷ test 4 (length b ≡ yardPlace b (yardCount b))
     -- 5: "A record's value is outside its range or order."
     ∷ test 5 (YardValues b)

@@ -18,7 +18,8 @@ ownRegions road yard m limit a s q ys = choose (eqb q 1) [] (regionOf (given roa
 
 -- a tree area into which some regions were written, in a version v book, from place `at` on, the place after them, and
 -- how many there are
-pub record WrittenRegions (v : ℕ) (tree : List ℕ) (at : ℕ) (rs : List Region) (after : List ℕ) (place count : ℕ) : Type 0 where
+pub record WrittenRegions (v : ℕ) (tree : List ℕ) (at : ℕ) (rs : List Region) (after : List ℕ)
+    (place count : ℕ) : Type 0 where
   pub bytes : after ≡ write tree at (encodeRegions v rs)
   pub end : place ≡ at + length (encodeRegions v rs)
   pub number : count ≡ length rs

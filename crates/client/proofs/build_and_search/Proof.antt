@@ -1,6 +1,5 @@
 use borrow.Author.Needs.{needs}
-use mathlib.Core.Path.{_∙_}
-use Rattle.client.proofs.Built.{book-is, book-length, book-room}
+use Rattle.client.proofs.Built.{book-is, book-length, book-room, found-of, work-of, results-of}
 use Rattle.client.proofs.build_and_search.Statement.{statement}
 use Rattle.client.proofs.build_and_search.Tie as tie
 
@@ -43,8 +42,16 @@ returns c =
     let e = f .ensures in
     let s = at4 .finder-search .ensures in
     let kept = f .kept .1 .1 .1 .1 .0 in
-    let same = book-is _ _ _ _ (at22 .args .work .now) (at22 .args .tree .now) _ _ (e .1 .0) (e .1 .1 .1) in
-    (cc (s .0, same, kept), (cc (s .1 .0, same, kept, e .1 .1 .0), (e .1 .1 .1, cc (s .1 .1 .0, same, kept))))
+    let same = book-is _ _ _ _ (at22 .args .work .now) (at22 .args .tree .now) _ _ (e .1 .0) (e .1 .1 .1) in (
+      found-of _ _ _ _ _ _ _ same kept _ _ (s .0),
+      (
+        work-of _ _ _ _ _ _ _ same kept _ _ _ _ (s .1 .0) (e .1 .1 .0),
+        (
+          e .1 .1 .1,
+          results-of _ _ _ _ _ _ _ same kept _ _ (s .1 .1 .0),
+        ),
+      ),
+    )
 
 pub build-and-search-spec : {M : Type 1} → statement M
 build-and-search-spec =

@@ -1,5 +1,5 @@
--- What the layout fixes of a decoded tree: landmarks, lists and spans have their numbers and forms, and "Version 1 books
--- are read with kind 255 throughout". Assumes nothing: these are statements.
+-- What the layout fixes of a decoded tree: landmarks, lists and spans have their numbers and forms, and "Version 1
+-- books are read with kind 255 throughout". Assumes nothing: these are statements.
 use mathlib.Core.Path.{_≡_}
 use mathlib.Core.List.{List·Memᴰ as Mem}
 use Prim.Native.Nat.{ℕ, _<_}

@@ -1,18 +1,38 @@
 use mathlib.Core.Path.{_≡_, refl, sym, _∙_}
-use mathlib.Core.List.{List}
+use mathlib.Core.List.{List, _++_}
 use Prim.Native.Nat.{ℕ}
 use native.Mathlib.Omega.{arith}
+use lib.ListN.{take, drop}
 use Rattle.book.specs.Bytes.{Bytes}
+use Rattle.work_area.specs.Work.{workWords}
 use Rattle.search_run.specs.code.Answers.{answerOf}
 use Rattle.search_held.specs.code.Rules.{ruleOf, askingOf}
+use Rattle.search_leaf.specs.code.Ready.{Ready}
 use Rattle.search_tree.specs.code.District.{District}
 use Rattle.search_tree.specs.code.Asking.{answerBy}
 use Rattle.search_tree.proofs.Reporting.{measured-of, found-so, written-so}
 use Rattle.search_tree.proofs.Preparing.{bytes-all, part-room, part-of, lent-size, back-full, back-part, back-taken, back-zeroed}
-use Rattle.search_tree.proofs.Preparing.{crews-needs, rule-small, few-crews, results-room, rows-need, ready, answered}
+use Rattle.search_tree.proofs.Preparing.{crews-needs, rule-small, few-crews, results-room, rows-need, same-search, ready}
 use borrow.Author.Needs.{needs}
 use Rattle.search_tree.proofs.accepted.search.Statement.{statement}
 use Rattle.search_tree.proofs.accepted.search.Tie as tie
+
+-- once the rows are walked, all is ready for the steps
+ready-at : (c : tie.After-prepare) (road : List ℕ)
+    → District road (c .before .before .before .before .before .before .before .before .before .before .before .before .before .before .args .tree .now) (c .before .before .before .before .before .before .before .before .before .before .before .before .before .before .args .adj .now) (c .before .before .before .before .before .before .before .before .before .before .before .before .before .before .args .places .now) (c .before .before .before .before .before .before .before .before .before .before .before .before .before .before .args .ends .now)
+    → Ready road (c .before .before .before .before .before .before .before .before .before .before .before .before .before .before .args .tree .now) (askingOf (c .before .before .before .before .before .before .before .before .before .before .before .before .before .before .args .asked)) (take (c .before .before .before .before .before .crews2 .result) (c .before .before .before .before .before .crews2 .last .1 .0))
+    (take workWords (c .prepare .last .1 .1 .1 .1 .0 ++ drop workWords (c .before .before .before .before .before .before .before .before .before .before .before .before .before .before .args .work .now))) (c .before .before .before .before .before .before .before .before .before .before .before .before .before .before .args .places .now) (c .prepare .last .1 .1 .1 .0)
+ready-at c road d =
+    let copied = c .before .before .before .before .before in
+    let known = copied .before .before .before .before .before .before .before in
+    let s = known .before .before in
+    let a = s .pre .2 road d in
+    let tree = s .args .tree .now in
+    let bytes : Bytes tree = bytes-all tree (λ i. omega (arith, known .shared-slice-known2 .given i)) in
+    let p = c .prepare in
+    ready d a _ (copied .crews2 .ensures .0) _ (s .pre .1) _ (copied .crews2 .ensures .1) bytes _ _ _
+    (back-taken (s .args .work .now) (p .last .1 .1 .1 .1 .0) (p .kept .1 .1 .1 .1 .0 ∙ lent-size (s .args .work .now) (a .accepted .work-full)))
+    (p .ensures .1 road (d .adjacent)) (p .kept .1 .1 .1 .0) (p .ensures .0 road (d .adjacent))
 
 slice-aggregate-crews : tie.Need-slice-aggregate-crews
 slice-aggregate-crews c = search needs
@@ -112,25 +132,12 @@ slice-aggregate-run-4 c = search needs
 run-requires : tie.Need-run-requires
 run-requires c κs =
     let prepared = c .before .before .before .before .before .before .before in
-    let copied = prepared .before .before .before .before .before in
-    let known = copied .before .before .before .before .before .before .before in
-    let s = known .before .before in
-    let d = s .pre .0 .district in
-    let a = s .pre .2 (s .pre .0 .road) d in
-    let tree = s .args .tree .now in
-    let bytes : Bytes tree = bytes-all tree (λ i. omega (arith, known .shared-slice-known2 .given i)) in
-    let p = prepared .prepare in
-    let size = prepared .prepare .kept .1 .1 .1 .1 .0 ∙ lent-size (s .args .work .now) (a .accepted .work-full) in (
-      record {
-        road = s .pre .0 .road;
-        ready = ready d a _ (copied .crews2 .ensures .0) _ (s .pre .1) _ (copied .crews2 .ensures .1) bytes _ _ _
-            (back-taken (s .args .work .now) (p .last .1 .1 .1 .1 .0) size)
-            (p .ensures .1 _ (d .adjacent)) (p .kept .1 .1 .1 .0) (p .ensures .0 _ (d .adjacent));
-        adjacent = d .adjacent;
-      },
+    let s = prepared .before .before .before .before .before .before .before .before .before .before .before .before .before .before in
+    let d = s .pre .0 .district in (
+      record { road = s .pre .0 .road; ready = ready-at prepared (s .pre .0 .road) d; adjacent = d .adjacent },
       d .ended,
       refl,
-      rule-small d a,
+      rule-small d (s .pre .2 (s .pre .0 .road) d),
     )
 
 zero-words-requires : tie.Need-zero-words-requires
@@ -156,11 +163,7 @@ report-requires c κs =
     let a = s .pre .2 (s .pre .0 .road) d in
     let tree = s .args .tree .now in
     let bytes : Bytes tree = bytes-all tree (λ i. omega (arith, known .shared-slice-known2 .given i)) in
-    let p = prepared .prepare in
-    let size = prepared .prepare .kept .1 .1 .1 .1 .0 ∙ lent-size (s .args .work .now) (a .accepted .work-full) in
-    let e = answered d a _ (copied .crews2 .ensures .0) _ (s .pre .1) _ (copied .crews2 .ensures .1) bytes _ _ _
-    (back-taken (s .args .work .now) (p .last .1 .1 .1 .1 .0) size) (p .ensures .1 _ (d .adjacent)) (p .kept .1 .1 .1 .0)
-    (p .ensures .0 _ (d .adjacent)) _ (ran .run .ensures .0 (s .pre .0 .road)) in
+    let e = ran .run .ensures .0 _ (ready-at prepared _ d) ∙ same-search d a _ (copied .crews2 .ensures .0) _ (s .pre .1) _ (copied .crews2 .ensures .1) in
     let room = ran .run .ensures .1 in (
       room .0,
       omega (arith, room .1, room .2),
@@ -182,20 +185,15 @@ returns c =
     let ran = c .before .before .before .before .before .before .before .before .before .before in
     let prepared = c .before .before .before .before .before .before .before .before .before .before .before .before .before .before .before .before .before .before in
     let copied = c .before .before .before .before .before .before .before .before .before .before .before .before .before .before .before .before .before .before .before .before .before .before .before in
-    let known = c .before .before .before .before .before .before .before .before .before .before .before .before .before .before .before .before .before .before .before .before .before .before .before .before .before .before .before .before .before .before in
     let s = c .before .before .before .before .before .before .before .before .before .before .before .before .before .before .before .before .before .before .before .before .before .before .before .before .before .before .before .before .before .before .before .before in
     let d = s .pre .0 .district in
     let a = s .pre .2 (s .pre .0 .road) d in
-    let tree = s .args .tree .now in
-    let bytes : Bytes tree = bytes-all tree (λ i. omega (arith, known .shared-slice-known2 .given i)) in
-    let p = prepared .prepare in
     let size = prepared .prepare .kept .1 .1 .1 .1 .0 ∙ lent-size (s .args .work .now) (a .accepted .work-full) in
     let so : (road : List ℕ) → District road (s .args .tree .now) (s .args .adj .now) (s .args .places .now) (s .args .ends .now)
     → answerOf (ruleOf (s .args .asked .rule)) (ran .run .last .1 .1 .1 .1 .1 .1 .1 .1 .0) (ran .run .result)
     ≡ answerBy road (s .args .tree .now) (s .args .query .now) (askingOf (s .args .asked))
-    = λ road e. answered e (s .pre .2 road e) _ (copied .crews2 .ensures .0) _ (s .pre .1) _ (copied .crews2 .ensures .1) bytes _ _ _
-    (back-taken (s .args .work .now) (p .last .1 .1 .1 .1 .0) size) (p .ensures .1 road (e .adjacent)) (p .kept .1 .1 .1 .0)
-    (p .ensures .0 road (e .adjacent)) _ (ran .run .ensures .0 road) in (
+    = λ road e. ran .run .ensures .0 road (ready-at prepared road e)
+    ∙ same-search e (s .pre .2 road e) _ (copied .crews2 .ensures .0) _ (s .pre .1) _ (copied .crews2 .ensures .1) in (
       λ road e. found-so _ _ _ (reported .report .ensures .0) (so road e),
       (
         back-zeroed (s .args .work .now) (prepared .prepare .last .1 .1 .1 .1 .0) size _ (cleared .zero-words .ensures),
