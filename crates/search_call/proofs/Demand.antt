@@ -27,7 +27,7 @@ use Rattle.search_rules.specs.Walks.{FirstYards, DriveYards}
 use Rattle.search_rules.specs.Theorems.{NotPast, Listing, Decided as RulesDecided}
 use Rattle.search_rules.specs.Books.{Passed}
 use Rattle.search_rules.proofs.Books.{accepted-of, well-of, sound-of}
-use Rattle.search_rules.proofs.ByKinds.{asked-wanted, asked-out, asked-held}
+use Rattle.search_rules.proofs.ByKinds.{asked-wanted, asked-in, asked-out, asked-held}
 use Rattle.search_rules.proofs.Asked.{asked-rule, asked-covers, asked-there, asked-ends, asked-settles}
 use Rattle.search_rules.proofs.Theorems.{decided, answer-taken, answer-measured, answer-listed, answer-listing, answer-spent, words-length, unrooted-answer}
 use Rattle.search_rules.proofs.Level.{run-bound-within}
@@ -207,6 +207,9 @@ module _ (s : Search) where
       once = λ n. rules n .measured-once;
       in-tree = λ n y j. covers (books n) y (rules n .measured-in y j);
       ends = λ n h. settled-on c a n (asked-ends road tree asking (crews s) (books n) (limit s) h);
+      queued-regions = λ n steps r w.
+          asked-in road tree asking (crews s) r (decided (instanceOf s) (well (books n)) steps .queued-regions r w);
+      queued-yards = λ n steps y w. covers (books n) y (decided (instanceOf s) (well (books n)) steps .queued-yards y w);
       unwanted-root = λ n t. on-accepted c a n ∙ ap accepted (unrooted-answer (instanceOf s) (asked-out road tree asking (crews s) t) (limit s)) ∙ empty-answer;
       bounded = λ n y j. has-bound (instanceOf s) (well (books n) .shape) (accepted-of road tree asking (crews s) (books n)) (asked-held road tree asking (crews s) (books n) y j);
       one-bound = λ n. one-bound (instanceOf s) (well (books n) .shape);

@@ -25,6 +25,7 @@ use Rattle.query.specs.Query.{aggregateOf, kOf, limitOf, crewsOf}
 use Rattle.search_rules.specs.Instance.{Instance, size, leaf}
 use Rattle.search_rules.specs.Bounds.{chosen, yardBound}
 use Rattle.search_rules.specs.Order.{Entry}
+use Rattle.search_rules.specs.Queue.{unqueued, wordAt}
 use Rattle.search_rules.specs.Held.{greatestHeld}
 use Rattle.search_rules.specs.Run.{words, run}
 use Rattle.search_rules.specs.Theorems.{Sorted}
@@ -202,7 +203,14 @@ pub record DecidedSearch (s : Search) : Type 0 where
   pub in-tree : NotRefused s → (y : ℕ) → Mem y (measured s) → Mem y (wantedYards s)
   -- inner regions plus twice the yards of the tree, wanted or not, settle a search of any tree
   pub ends : NotRefused s → innerRegions s + 2 * length (yards s) ≤ limit s → Settled s
-  -- "Regions .. without a wanted bit never enter the queue, so such a root settles empty with 0 taken."
+  -- "Regions and yards without a wanted bit never enter the queue": after any number of steps a queued region's byte
+  -- shares a bit with the wanted byte, and a queued yard is a wanted one
+  pub queued-regions : NotRefused s → (steps r : ℕ)
+      → wordAt (run (instanceOf s) steps .state .regionKeys) r < unqueued
+      → T (shares (s .call .want .kinds) (regionAt (decode (s .call .tree) .regions) r .kinds))
+  pub queued-yards : NotRefused s → (steps y : ℕ) → wordAt (run (instanceOf s) steps .state .yardKeys) y < unqueued
+      → Mem y (wantedYards s)
+  -- "so such a root settles empty with 0 taken."
   pub unwanted-root : NotRefused s
       → T (not (shares (s .call .want .kinds) (regionAt (decode (s .call .tree) .regions) 0 .kinds)))
       → found s ≡ record { refusal = 0; settled = 1; listed = 0; taken = 0; measured = 0 }

@@ -29,6 +29,11 @@ module _ (road tree : List ℕ) (a : Asking) (crews : List ℕ) where
   unfolding searchOf
   asked-wanted = refl
 
+  -- a region that may enter the queue has a wanted bit
+  pub asked-in : (r : ℕ) → T (i .admits r) → T (shares (a .wanted) (regionAt rs r .kinds))
+  unfolding searchOf
+  asked-in r t = t
+
   -- a root without a wanted bit may not enter the queue
   pub asked-out : T (not (shares (a .wanted) (regionAt rs 0 .kinds))) → T (not (i .admits 0))
   unfolding searchOf

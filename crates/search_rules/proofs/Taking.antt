@@ -38,17 +38,6 @@ module _ (i : Instance) (well : WellFormed i) (st : SearchState) (steps : ℕ) (
   was : Kept i st
   was = rw is (run-kept i well steps)
 
-  -- it has an entry for each region and for each junction
-  pub run-sizes : Sizes i st
-  run-sizes = was .sizes
-
-  -- what is queued may enter the queue: a queued region, and a queued yard, which is wanted
-  pub queued-admitted : (r : ℕ) → wordAt (st .regionKeys) r < unqueued → T (i .admits r)
-  queued-admitted r w = was .admitted r (wordAt (st .regionKeys) r) (word-key (st .regionKeys) r (wordAt (st .regionKeys) r) refl w)
-
-  pub queued-wanted : (y : ℕ) → wordAt (st .yardKeys) y < unqueued → T (i .wants y)
-  queued-wanted y w = below-wanted i (was .yards-in y (wordAt (st .yardKeys) y) (word-key (st .yardKeys) y (wordAt (st .yardKeys) y) refl w))
-
   -- before a yard is taken, fewer than all of the wanted yards are measured
   pub measured-room : T (not (settled i st)) → (y : ℕ) → step i st ≡ takeYard i st y → (ys : List ℕ) → Covers i ys → length (st .measured) < length ys
   measured-room t y e ys all =

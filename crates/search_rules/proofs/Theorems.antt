@@ -20,6 +20,7 @@ use Rattle.search_rules.specs.Run.{words, advance, run, report, answer}
 use Rattle.search_rules.specs.Facts.{WellFormed, SoundInstance}
 use Rattle.search_rules.specs.Theorems.{TreeYards, Covers, barrens, Listing, Limited, Bounded, Decided, Right}
 use Rattle.search_rules.proofs.Bounds.{bound-le, f-le, yardBound-le}
+use Rattle.search_rules.proofs.Queue.{word-key}
 use Rattle.search_rules.proofs.Held.{ranked-length}
 use Rattle.search_rules.proofs.Fronts.{front-length}
 use Rattle.search_rules.proofs.Kept.{word-nothing, run-kept}
@@ -64,6 +65,8 @@ decided i well limit = let was = run-kept i well limit in record {
   within = taken-within i limit;
   stays = settled-stays i limit;
   ends = λ ys all h. enough i well ys all limit (omega arith);
+  queued-regions = λ r w. was .admitted r _ (word-key (run i limit .state .regionKeys) r _ refl w);
+  queued-yards = λ y w. was .yards-in y _ (word-key (run i limit .state .yardKeys) y _ refl w);
   fits = run-fits i well limit;
 }
 
@@ -154,13 +157,6 @@ module _ (i : Instance) (a : Accepted (i .tree)) (limit : ℕ) where
   pub accepted-exact : SoundInstance i → T (answer i limit .settled) → answer i limit .listed ≡ front (i .rule) (ranked i ys)
   accepted-exact sound t = answer-exact i sound limit t ys (sound-yards i sound a)
 
-  -- every measured and every listed yard is one of the tree's wanted yards
-  pub measured-wanted : WellFormed i → (y : ℕ) → Mem y (run i limit .state .measured) → Mem y ys
-  measured-wanted well y k = tree-covers i a y (decided i well limit .measured-in y k)
-
-  pub listed-wanted : WellFormed i → T (answer i limit .settled) → (e : Entry) → Mem e (answer i limit .listed) → Mem (e .yard) ys
-  listed-wanted well t e k = tree-covers i a (e .yard) (answer-listing i well limit t .in-tree e k)
-
   pub measured-few : WellFormed i → answer i limit .measured ≤ length ys
   measured-few well = omega (arith, answer-measured i limit, decided i well limit .measured-few ys (tree-covers i a))
 
@@ -184,20 +180,6 @@ module _ (i : Instance) (out : T (not (i .admits 0))) where
   unfolding run advance
   unrooted-run zero = refl
   unrooted-run (suc limit) = rw (unrooted-run limit) (choose-yes (settled i (startSearch i)) _ _ none-settled)
-
-  pub unrooted-settled : (limit : ℕ) → T (settled i (run i limit .state))
-  unrooted-settled limit = rw (unrooted-run limit) none-settled
-
-  pub unrooted-taken : (limit : ℕ) → run i limit .taken ≡ 0
-  unrooted-taken limit = rw (unrooted-run limit) refl
-
-  pub unrooted-measured : (limit : ℕ) → run i limit .state .measured ≡ []
-  unfolding startSearch
-  unrooted-measured limit = rw (unrooted-run limit) refl
-
-  pub unrooted-held : (limit : ℕ) → run i limit .state .held ≡ []
-  unfolding startSearch
-  unrooted-held limit = rw (unrooted-run limit) refl
 
   -- it lists nothing, with 0 taken and 0 measured
   pub unrooted-answer : (limit : ℕ) → answer i limit ≡ record { settled = true; listed = []; taken = 0; measured = 0 }

@@ -36,9 +36,6 @@ module _ (i : Instance) (sound : SoundInstance i) where
   holds-below (child's {r = r} {y = y} c l k b) w =
       under c (sound .truth .admitted r y (child's c l k b) w) l (child-in r c k (sound .truth .admitted c y b w)) (holds-below b w)
 
-  pub sound-below : (y : ℕ) → Below i 0 y ↔ (Holds i 0 y × T (i .wants y))
-  sound-below y = ((λ b. (below-holds b, below-wanted i b)), (λ p. holds-below (p .0) (p .1)))
-
   -- no leaf is taken in vain
   no-barren : (r : ℕ) → r < size i → T (not (barren i r))
   no-barren r h = not-T (barren i r) (λ t. let x = sound .truth .wanted r h (barren-admits i r t) in bare t (x .1) (x .2))

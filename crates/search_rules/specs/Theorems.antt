@@ -149,6 +149,10 @@ pub record Decided (i : Instance) (limit : ℕ) : Type 0 where
   -- inner regions, leaves that are taken in vain, and twice the yards are enough
   pub ends : (ys : List ℕ) → Covers i ys → inners (i .tree) + barrens i + 2 * length ys ≤ limit
       → T (settled i (run i limit .state))
+  -- "Regions and yards without a wanted bit never enter the queue": a queued region may enter it, and a queued yard is a
+  -- wanted one that the search reaches
+  pub queued-regions : (r : ℕ) → wordAt (run i limit .state .regionKeys) r < unqueued → T (i .admits r)
+  pub queued-yards : (y : ℕ) → wordAt (run i limit .state .yardKeys) y < unqueued → Below i 0 y
   -- no key is above sixteen times a u32
   pub fits : KeysFit 68719476720 (run i limit .state)
 

@@ -138,10 +138,6 @@ pub refused-answer : (why : ℕ) → layoutNumber (Refused why) ≡ why
 unfolding layoutCase layoutNumber
 refused-answer why = refl
 
-pub header-version : (b : List ℕ) → headerOf b .version ≡ version b
-unfolding headerOf
-header-version b = refl
-
 pub header-junctions : (b : List ℕ) → headerOf b .junctions ≡ junctionCount b
 unfolding headerOf
 header-junctions b = refl

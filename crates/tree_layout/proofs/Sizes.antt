@@ -104,13 +104,6 @@ module _ (v : ℕ) where
   mark-size-most children yards =
       choose-case (λ n. n ≤ 10 + 7 * yards) (eqb children 0) (λ _. omega (arith, leaf-mark-most yards)) (λ _. omega arith)
 
-  -- one landmark more
-  pub leaf-marks-more : (m yards : ℕ) → suc m * leafMarkSize v yards ≡ m * leafMarkSize v yards + leafMarkSize v yards
-  leaf-marks-more m yards = suc-mul m (leafMarkSize v yards)
-
-  pub leaf-marks-le : (k m yards : ℕ) → k ≤ m → k * leafMarkSize v yards ≤ m * leafMarkSize v yards
-  leaf-marks-le k m yards h = mul-le-mul-right (leafMarkSize v yards) h
-
   -- the landmarks of a region take few bytes
   pub marks-small : (m children yards : ℕ) → m ≤ 4 → yards ≤ 65535 → m * markSize v children yards ≤ 1835020
   marks-small m children yards h l =
