@@ -58,6 +58,11 @@ module _ (b yb ds : List ℕ) (from to l : ℕ) (walk : ds ≡ distances (net b)
     bytes = λ y k. kind-fits yb from to ys y k bs;
   }
 
+  -- "a build writes its yard book's version"
+  version-is : given b yb m limit .version ≡ version yb
+  unfolding given
+  version-is = refl
+
   -- a leaf's landmark
   pub leaf-written : (v : ℕ) (tree mid out keys : List ℕ) (at : ℕ) → Bytes yb → v ≡ version yb
       → Keyed (to - from) keys (ranksOf ds (kindOf yb) (yardsFrom yb (to - from) from))
@@ -66,11 +71,11 @@ module _ (b yb ds : List ℕ) (from to l : ℕ) (walk : ds ≡ distances (net b)
   unfolding leafBytes given
   leaf-written v tree mid out keys at bs ev k e f =
       let g = given b yb m limit in
-      let list = encodeList (version yb) (rankedList g l (yardsFrom yb (to - from) from)) in
-      let w : keyBytes (version yb) (take (to - from) keys) ≡ list =
-      ap (keyBytes (version yb)) (k .same) ∙ ranked-bytes (version yb) ds g l (yardsFrom yb (to - from) from) (gives bs) in
+      let list = encodeList (g .version) (rankedList g l (yardsFrom yb (to - from) from)) in
+      let w : keyBytes (g .version) (take (to - from) keys) ≡ list =
+      ap (keyBytes (g .version)) (k .same) ∙ ranked-bytes (g .version) ds g l (yardsFrom yb (to - from) from) (gives bs) in
       let a : at + length (u16Bytes l) ≡ at + 2 = omega (arith, u16-length l) in
-      rw (f, ev, e, w, write-append (u16Bytes l) list tree at, a) refl
+      rw (f, ev ∙ sym version-is, e, w, write-append (u16Bytes l) list tree at, a) refl
 
   -- an inner region's
   pub inner-written : (tree out : List ℕ) (at low high : ℕ) → from < to

@@ -14,8 +14,9 @@ use Rattle.search_rules.specs.Instance.{Instance, marks}
 use Rattle.search_rules.specs.Bounds.{absDiff, greatestOf, leastOf, tableAt, lower, upper, markBound, bound, weight, bestOf, chosen}
 use Rattle.tree_layout.specs.Values.{noMark}
 use Rattle.search_rules.specs.Facts.{WellFormed}
+use Rattle.search_rules.proofs.Bounds.{mark-bound-is}
 use Rattle.search_rules.proofs.Turns.{greatest-take, least-first, least-take, best-first, best-take}
-use Rattle.search_rules.proofs.Equations.{greatest-none, aggregate-same, greatest-same, lower-is, upper-is, mark-bound-is, bound-is, weight-is, chosen-is}
+use Rattle.search_rules.proofs.Equations.{greatest-none, aggregate-same, greatest-same, lower-is, upper-is, bound-is, weight-is, chosen-is}
 use Rattle.road.specs.code.Rows.{cell}
 use Rattle.search_bounds.specs.code.Rows.{rowsLower, rowsUpper}
 use Rattle.search_bounds.specs.code.Bounds.{rowsMark, rowsCrew, rowsBound, rowsWeight, markWeight, firstGreatest, rowsChosen}

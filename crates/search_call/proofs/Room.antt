@@ -62,13 +62,7 @@ module _ (road tree query : List ℕ) (want : Want) (work results : ℕ) where
           omega (arith, ap (λ (f : Found). f .listed) (found-accepted road tree query want work results e), few e)
       go (inr t) = omega (arith, ap (λ (f : Found). f .listed) (found-refused road tree query want work results (neqb→ne why 0 t)))
 
--- of a search for k yards, whatever its books are
-pub listed-fits : (road tree query : List ℕ) (kinds work results : ℕ) → 2 * searchFound road tree query (wantNearest kinds) work results .listed ≤ results
-listed-fits road tree query kinds work results =
-    fits-by road tree query (wantNearest kinds) work results (λ e.
-    omega (arith, k-most road tree query kinds, tests road tree query (wantNearest kinds) work results e .results-full))
-
--- and of any search whose tree book is of bytes
+-- of any search whose tree book is of bytes
 pub drive-fits : (road tree query : List ℕ) → Bytes tree → (want : Want) (work results : ℕ) → 2 * searchFound road tree query want work results .listed ≤ results
 drive-fits road tree query bytes want work results = fits-by road tree query want work results few
   where

@@ -102,6 +102,12 @@ module _ (i : Instance) where
   below-wanted (inside m a l e k w) = w
   below-wanted (under c a l e b) = below-wanted b
 
+  -- a landmark's bound is by its least and its greatest, in a leaf its whole list's first and last, whatever is wanted
+  pub mark-bound-is : (q : ℕ) (m : Mark)
+      → markBound i q m ≡ crewBound (lower i (m .place) q) (upper i (m .place) q) (m .least) (m .greatest)
+  unfolding markBound
+  mark-bound-is q m = refl
+
   module _ (shape : Shape i) where
     -- a yard is a junction
     pub below-range : {r y : ℕ} → Below i r y → y < i .tree .junctions
@@ -126,12 +132,12 @@ module _ (i : Instance) where
 
       module _ (truth : Truth i) where
         markBound-le : (r : ℕ) (m : Mark) (y q : ℕ) → Mem m (marks i r) → Below i r y → q < i .tree .junctions → markBound i q m ≤ i .d q y
-        unfolding markBound
         markBound-le r m y q e b c =
-            crewBound-le _ _ (m .least) (m .greatest) (i .d l q) (i .d l y) (i .d q y)
+            rw (mark-bound-is q m)
+            (crewBound-le _ _ (m .least) (m .greatest) (i .d l q) (i .d l y) (i .d q y)
             (omega (arith, lower-le l q a c)) (omega (arith, upper-le l q a c)) (truth .least r m y e b) (truth .greatest r m y e b)
             (omega (arith, metric .triangle l y q a (below-range b) c, symmetric .turn q y c (below-range b)))
-            (metric .triangle l q y a c (below-range b))
+            (metric .triangle l q y a c (below-range b)))
           where
             l : ℕ
             l = m .place

@@ -101,10 +101,6 @@ module _ (i : Instance) where
   unfolding upper
   upper-is l q = refl
 
-  pub mark-bound-is : (q : ℕ) (m : Mark) → markBound i q m ≡ crewBound (lower i (m .place) q) (upper i (m .place) q) (m .least) (m .greatest)
-  unfolding markBound
-  mark-bound-is q m = refl
-
   pub bound-is : (r : ℕ) → bound i r ≡ aggregate (i .code) (λ q. greatestOf (markBound i q) (marks i r)) (i .crews)
   unfolding bound over
   bound-is r = refl

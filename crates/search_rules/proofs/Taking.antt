@@ -1,5 +1,5 @@
 -- What holds of a state that a search comes to, for those who take its next step. Assumes nothing.
-use mathlib.Core.Path.{_≡_, refl, sym, ap, _∙_}
+use mathlib.Core.Path.{_≡_, sym, ap, _∙_}
 use mathlib.Core.Bool.{Bool, true, false, not, _||_}
 use mathlib.Core.List.{List, [], _∷_, List·Memᴰ as Mem}
 use mathlib.Core.Option.{Option, none, some}
@@ -9,15 +9,13 @@ use lib.ListN.{length}
 use lib.Dec.{T}
 use Rattle.search_rules.specs.Instance.{Instance, size, marks}
 use Rattle.search_rules.specs.Bounds.{chosen}
-use Rattle.search_rules.specs.Queue.{unqueued, queued, wordAt}
+use Rattle.search_rules.specs.Queue.{unqueued, queued}
 use Rattle.search_rules.specs.Step.{SearchState, takeYard, leastKey, step, settled}
 use Rattle.search_rules.specs.Run.{run}
 use Rattle.search_rules.specs.Facts.{WellFormed}
 use Rattle.search_rules.specs.Theorems.{Covers}
-use Rattle.search_rules.proofs.Bounds.{below-wanted, chosen-mem}
-use Rattle.search_rules.proofs.Queue.{word-key, queued-small}
-use Rattle.search_rules.proofs.Stepping.{Sizes}
-use Rattle.search_rules.proofs.Kept.{Kept, run-kept}
+use Rattle.search_rules.proofs.Bounds.{chosen-mem}
+use Rattle.search_rules.proofs.Queue.{queued-small}
 use Rattle.search_rules.proofs.Theorems.{decided}
 use Rattle.search_rules.proofs.Turns.{run-on}
 use Rattle.search_rules.proofs.Steps.{settled-is, take-yard-is}
@@ -35,9 +33,6 @@ pub chosen-in : (i : Instance) → WellFormed i → (r : ℕ) → r < size i →
 chosen-in i well r h = chosen-mem i r (well .shape .marked r h)
 
 module _ (i : Instance) (well : WellFormed i) (st : SearchState) (steps : ℕ) (is : st ≡ run i steps .state) where
-  was : Kept i st
-  was = rw is (run-kept i well steps)
-
   -- before a yard is taken, fewer than all of the wanted yards are measured
   pub measured-room : T (not (settled i st)) → (y : ℕ) → step i st ≡ takeYard i st y → (ys : List ℕ) → Covers i ys → length (st .measured) < length ys
   measured-room t y e ys all =

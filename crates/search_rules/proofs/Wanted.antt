@@ -1,6 +1,6 @@
 -- Which yards a search may reach, and how few leaves it takes in vain: of a true tree, and of any tree that the tests accept. Assumes nothing.
 use mathlib.Core.Path.{_≡_, refl, ap}
-use mathlib.Core.Logic.{_⊎_, inl, inr, _↔_}
+use mathlib.Core.Logic.{_⊎_, inl, inr}
 use mathlib.Core.Bool.{not}
 use mathlib.Core.List.{List, [], _∷_, map, List·Memᴰ as Mem, List·Memᴰ·head as head, List·Memᴰ·tail as tail, List·Memᴰ·not-nil as not-nil}
 use mathlib.Core.List.{List·Memᴰ·cases-cons as cases-cons}
@@ -18,10 +18,10 @@ use Rattle.search_rules.specs.Bounds.{chosen}
 use Rattle.search_rules.specs.Step.{noElement}
 use Rattle.search_rules.specs.Facts.{Below, inside, under, Holds, listed, child's, SoundInstance}
 use Rattle.search_rules.specs.Theorems.{TreeYards, barren, barrenFrom, barrens}
-use Rattle.search_rules.proofs.Bounds.{chosen-mem, below-wanted}
+use Rattle.search_rules.proofs.Bounds.{chosen-mem}
 use Rattle.search_rules.proofs.Barren.{barren-admits, barren-leaf, barren-none}
 use Rattle.search_rules.proofs.Found.{fewer}
-use Rattle.search_rules.proofs.Trees.{Accepted, below-holds, tree-holds, tree-covers, leaf-yard, leaf-some, leaf-one, below-tree}
+use Rattle.search_rules.proofs.Trees.{Accepted, tree-holds, tree-covers, leaf-yard, leaf-some, leaf-one, below-tree}
 
 -- ---- of a true tree
 

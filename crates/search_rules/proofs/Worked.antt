@@ -51,6 +51,7 @@ worked = record {
   wanted-3 = refl;
   wanted-list = refl;
   next-wanted = refl;
+  whole-list = refl;
   vain-3 = refl;
   vain-4 = refl;
   vain-counts = refl;

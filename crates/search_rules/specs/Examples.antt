@@ -217,6 +217,9 @@ pub record Worked : Type 0 where
   pub next-wanted : regionKeysAfter (netFor (λ y. true)) 1 ++ regionKeysAfter (netFor (λ y. not (eqb y 3))) 1
       ++ yardKeysAfter (netFor (λ y. not (eqb y 3))) 1
       ≡ (13 ∷ []) ++ (15 ∷ []) ++ unqueued ∷ 5 ∷ unqueued ∷ unqueued ∷ unqueued ∷ []
+  -- "while its list's first and last in the bound are still those of the whole list": without yard 1 the leaf's first
+  -- key is still 2; by yards 3 and 4 alone, A 9 and B 10, it would be 9 of the first crew and 4 of the second
+  pub whole-list : regionKeysAfter (netFor (λ y. not (eqb y 1))) 0 ≡ 2 ∷ []
   -- "A leaf without any wanted yard queues nothing when taken": within 18 step 4 takes the second leaf, at 18, and
   -- nothing is queued any more; for the nearest yard alone it isn't taken
   pub vain-3 : regionKeysAfter (driven 18 inVain) 3 ++ yardKeysAfter (driven 18 inVain) 3

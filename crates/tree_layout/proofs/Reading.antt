@@ -29,10 +29,6 @@ all-next f x xs = refl
 
 -- ---- pairs
 
-pub element-yard : (v : ℕ) (p : List ℕ) (at : ℕ) → elementAt v p at .yard ≡ u16At p (at + 4)
-unfolding elementAt
-element-yard v p at = refl
-
 -- n - k pairs from a place on are the pair there and the others after it
 pub list-turn : (v : ℕ) (p : List ℕ) (n k at : ℕ) → k < n
     → readList v p (n - k) at ≡ elementAt v p at ∷ readList v p (n - (k + 1)) (at + elementSize v)
