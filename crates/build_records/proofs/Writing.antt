@@ -35,6 +35,7 @@ use Rattle.build_records.specs.Given.{given}
 use Rattle.build_records.specs.code.Keys.{ranksOf, keyBytes, distanceIn, Keyed}
 use Rattle.build_records.specs.code.Marks.{leafBytes, innerBytes, markBytes}
 use Rattle.build_records.specs.code.Parts.{YardsUpTo}
+use Rattle.build_records.proofs.Fields.{given-version}
 use Rattle.build_records.proofs.Keyed.{Gives, ranked-bytes}
 use Rattle.build_records.proofs.Numbered.{yard-low, yard-number, kind-fits}
 
@@ -58,11 +59,6 @@ module _ (b yb ds : List ℕ) (from to l : ℕ) (walk : ds ≡ distances (net b)
     bytes = λ y k. kind-fits yb from to ys y k bs;
   }
 
-  -- "a build writes its yard book's version"
-  version-is : given b yb m limit .version ≡ version yb
-  unfolding given
-  version-is = refl
-
   -- a leaf's landmark
   pub leaf-written : (v : ℕ) (tree mid out keys : List ℕ) (at : ℕ) → Bytes yb → v ≡ version yb
       → Keyed (to - from) keys (ranksOf ds (kindOf yb) (yardsFrom yb (to - from) from))
@@ -75,7 +71,7 @@ module _ (b yb ds : List ℕ) (from to l : ℕ) (walk : ds ≡ distances (net b)
       let w : keyBytes (g .version) (take (to - from) keys) ≡ list =
       ap (keyBytes (g .version)) (k .same) ∙ ranked-bytes (g .version) ds g l (yardsFrom yb (to - from) from) (gives bs) in
       let a : at + length (u16Bytes l) ≡ at + 2 = omega (arith, u16-length l) in
-      rw (f, ev ∙ sym version-is, e, w, write-append (u16Bytes l) list tree at, a) refl
+      rw (f, ev ∙ sym (given-version b yb m limit), e, w, write-append (u16Bytes l) list tree at, a) refl
 
   -- an inner region's
   pub inner-written : (tree out : List ℕ) (at low high : ℕ) → from < to
