@@ -1,27 +1,27 @@
 -- The test of kinds holds of a tree with the yard book's yards exactly if each kind byte is the yard book's, and each region's has the bits of its yards.
 -- Assumes nothing.
-use mathlib.Core.Path.{_≡_, sym, ap, _∙_}
+use mathlib.Core.Path.{_≡_, refl, sym, ap, _∙_}
 use mathlib.Core.Logic.{_↔_}
 use mathlib.Core.Bool.{true}
-use mathlib.Core.List.{List, [], List·Memᴰ as Mem, List·Memᴰ·not-nil as not-nil}
-use Prim.Native.Nat.{ℕ, _<_}
+use mathlib.Core.List.{List, [], _∷_, List·Memᴰ as Mem, List·Memᴰ·head as head, List·Memᴰ·not-nil as not-nil}
+use Prim.Native.Nat.{ℕ, _≤_, _<_}
 use native.Mathlib.Decide.{ℕ-discrete}
 use native.Mathlib.Omega.{arith}
 use lib.ListN.{length}
-use Rattle.book.proofs.Lists.{mem-getD}
+use Rattle.book.specs.Open.{version}
 use Rattle.yard.specs.Yards.{yardsOf, kindOf, HasKinds, yardRefusal}
-use Rattle.yard.proofs.YardLayout.{yards-at, yards-length}
-use Rattle.yard.proofs.Tables.{has-kinds, kinds-had}
+use Rattle.yard.proofs.Tables.{has-kinds, yards-had, had-any}
 use Rattle.tree_layout.specs.Values.{Element, Mark, Region, Tree, regionAt}
 use Rattle.tree_layout.specs.Decode.{decode}
 use Rattle.tree_layout.proofs.Ends.{inner-is}
 use Rattle.tree_layout.proofs.Formed.{decode-formed, at-mem}
+use Rattle.tree_layout.proofs.Places.{decode-version}
 use Rattle.tree_leaf.proofs.Named.{yards-of}
 use Rattle.tree.specs.Shape.{treeRefusal}
 use Rattle.tree.specs.Yards.{yardsBelow, treeYards}
 use Rattle.tree.proofs.Ranges.{below-tree}
 use Rattle.tree.proofs.RegionYards.{region-yards}
-use Rattle.tree.proofs.Theorems.{accepted-whole}
+use Rattle.tree.proofs.Theorems.{tree-facts, accepted-whole}
 use Rattle.check_rules.specs.Truth.{kindsTree}
 use Rattle.check_rules.specs.Facts.{TrueKinds, Same}
 use Rattle.check_rules.proofs.Theorems.{tested}
@@ -36,10 +36,7 @@ module _ (yard tree : List ℕ) (yok : yardRefusal yard ≡ 0) (tok : treeRefusa
 
   -- the yard book has each yard of the tree, and its kinds
   had : (y : ℕ) → Mem y (treeYards t) → HasKinds yard y (kindOf yard y)
-  had y k =
-      let (i, h, e) = mem-getD (yardsOf yard) 0 y (same .to y k) in
-      let n = rw (yards-length yard) at h in
-      rw (e ∙ yards-at yard i n) (kinds-had yard yok i n)
+  had y k = yards-had yard yok y (same .to y k)
 
   had-below : (r : ℕ) → r < length rs → (y k : ℕ) → Mem y (yardsBelow rs r) → kindOf yard y ≡ k → HasKinds yard y k
   had-below r h y k m e = rw (← e) (had y (below-tree tree tok r y h m))
@@ -82,3 +79,28 @@ module _ (yard tree : List ℕ) (yok : yardRefusal yard ≡ 0) (tok : treeRefusa
     (λ e. kinds-bytes (tested tree tok .kinds (kindOf yard) .0 e)),
     (λ n. tested tree tok .kinds (kindOf yard) .1 (bytes-kinds n)),
   )
+
+  -- ---- of two version 1 books: 255 throughout
+
+  -- a region has a yard
+  some-below : (r : ℕ) → r < length rs → (y : ℕ) × Mem y (yardsBelow rs r)
+  some-below r h =
+      first (yardsBelow rs r) (omega (arith, accepted-whole tree tok .holdings .count r h, tree-facts tree tok .layout .values (regionAt rs r) (at-mem rs r h) .some))
+    where
+      first : (ys : List ℕ) → 1 ≤ length ys → (y : ℕ) × Mem y ys
+      first [] n = absurd (omega arith)
+      first (y ∷ ys) n = (y, head refl)
+
+  module _ (first : version yard ≡ 1) (first-tree : version tree ≡ 1) where
+    any-below : (r : ℕ) → r < length rs → (y : ℕ) → Mem y (yardsBelow rs r) → HasKinds yard y 255
+    any-below r h y m = had-below r h y 255 m (had-any yard yok y (kindOf yard y) (had y (below-tree tree tok r y h m)) first)
+
+    pub version-1-bytes : TrueBytes yard (decode tree .regions)
+    version-1-bytes = record {
+      lists = λ r h c m k e i. rw (decode-formed tree (regionAt rs r) (at-mem rs r h) .any-listed (decode-version tree ∙ first-tree) m k e i)
+          (any-below r h (e .yard) (accepted-whole tree tok .holdings .listed r h c m k (e .yard) .1 (yards-of (m .list) e i)));
+      regions = λ r h. let b = decode-formed tree (regionAt rs r) (at-mem rs r h) .any (decode-version tree ∙ first-tree) in record {
+        some = λ j t. let w = some-below r h in (w .0, 255, region-yards tree tok r (w .0) h .1 (w .1), any-below r h (w .0) (w .1), rw b at t);
+        every = λ j y k v p t. rw (b, ← had-any yard yok y k p first) t;
+      };
+    }

@@ -7,6 +7,7 @@ use Prim.Native.Nat.{ℕ, _<_}
 use native.Mathlib.Omega.{arith}
 use lib.ListN.{length}
 use lib.Dec.{T, eqb}
+use Rattle.book.specs.Open.{version}
 use Rattle.book.proofs.Choosing.{passed, passes, first-none, first-later, T-true, true-T}
 use Rattle.book.proofs.Lists.{eq→eqb}
 use Rattle.work_area.proofs.Zeroing.{work-enough}
@@ -36,7 +37,7 @@ use Rattle.check_rules.proofs.Theorems.{tested}
 use Rattle.check_tree.specs.Check.{sameSet, treeRefusalBeside, checkAnswer}
 use Rattle.check_tree.specs.Facts.{LeafHolds, HoldsEach, LeastTotal, GreatestTotal, TrueTotals, TrueBytes, SoundBeside, CheckExact}
 use Rattle.check_tree.proofs.Sets.{set-same, same-set}
-use Rattle.check_tree.proofs.KindBytes.{bytes-exact}
+use Rattle.check_tree.proofs.KindBytes.{bytes-exact, version-1-bytes}
 
 module _ (road yard tree : List ℕ) (words : ℕ) (laid : SoundBeside road yard tree words) where
   abbrev t : Tree
@@ -195,6 +196,9 @@ module _ (road yard tree : List ℕ) (words : ℕ) (laid : SoundBeside road yard
   -- of kinds, where the yards are the yard book's
   pub kinds-exact : HoldsEach (decode tree .regions) (yardsOf yard) → (kindsTree (kindOf yard) (decode tree) ≡ true) ↔ TrueBytes yard (decode tree .regions)
   kinds-exact h = bytes-exact yard tree (passes-alone yard (junctions road) (laid .yards)) (laid .shape) (holds-same h)
+
+  pub version-1-kinds : HoldsEach (decode tree .regions) (yardsOf yard) → version yard ≡ 1 → version tree ≡ 1 → TrueBytes yard (decode tree .regions)
+  version-1-kinds h = version-1-bytes yard tree (passes-alone yard (junctions road) (laid .yards)) (laid .shape) (holds-same h)
 
   exact : (checkAnswer road yard tree words ≡ 0) ↔ (HoldsEach rs ys × TrueTotals (net road) rs × TrueBytes yard rs)
   exact = (

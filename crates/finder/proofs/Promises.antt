@@ -111,7 +111,7 @@ seven-exact tree earlier later answer sound f z zt st sl =
 
 -- ---- demand 2, of check
 
-laid-out : (road yard tree : List ℕ) (words : ℕ) → SoundBooks road yard → workWords ≤ words → SoundTreeBook road tree → SoundBeside road yard tree words
+pub laid-out : (road yard tree : List ℕ) (words : ℕ) → SoundBooks road yard → workWords ≤ words → SoundTreeBook road tree → SoundBeside road yard tree words
 laid-out road yard tree words b w s =
     record { roads = sound-roads road yard b; yards = sound-yards road yard b; shape = sound-tree road tree s; counts = s .counts; full = w }
 

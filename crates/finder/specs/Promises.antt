@@ -8,7 +8,7 @@
 -- statements here are about these, for all lists.
 use mathlib.Core.Path.{_≡_}
 use mathlib.Core.Logic.{_≢_, _↔_}
-use mathlib.Core.List.{List, [], _∷_, _++_}
+use mathlib.Core.List.{List, [], _∷_, _++_, List·Memᴰ as Mem}
 use Prim.Native.Nat.{ℕ, _*_, _≤_, _<_}
 use lib.ListN.{length, drop}
 use Rattle.book.specs.Open.{version}
@@ -21,13 +21,13 @@ use Rattle.road.specs.Facts.{Passing}
 use Rattle.road.specs.Tests.{roadTests, CutOff}
 use Rattle.yard.specs.Yards.{YardLayout, yardCount, yardAt, yardsOf}
 use Rattle.yard.specs.Tests.{yardTestsIn}
-use Rattle.tree_layout.specs.Values.{Tree}
+use Rattle.tree_layout.specs.Values.{Element, Mark, Region, Tree}
 use Rattle.tree_layout.specs.Decode.{junctionCount, decode}
 use Rattle.tree_layout.specs.Facts.{TreeLayout}
 use Rattle.tree.specs.Facts.{TreeShape}
 use Rattle.tree.specs.Theorems.{TreeFacts}
 use Rattle.tree.specs.Tests.{treeTests}
-use Rattle.tree_encode.specs.Encode.{encode, treeRoom}
+use Rattle.tree_encode.specs.Encode.{encode, inVersion2, treeRoom}
 use Rattle.check_tree.specs.Check.{checkAnswer}
 use Rattle.check_tree.specs.Facts.{HoldsEach, TrueTotals, TrueBytes}
 use Rattle.build_tree.specs.Build.{buildAnswer, builtTree, builtLength, treeAfter}
@@ -287,8 +287,8 @@ abbrev pub SearchesTrue : Type 0
 SearchesTrue = (calls : List Call) → OfBytes calls → (first : Lent) → Promised calls first
 
 -- Beside it: what holds of every search, on a tree that "check would refuse by 9" too; that the work area's contents
--- never matter; that the two kinds of search agree; and that a version 1 tree is searched as the version 2 tree with
--- 255 throughout.
+-- never matter; that the two kinds of search agree; and that trees which differ in their version alone are searched
+-- alike, one of version 1 by the steps without kinds.
 abbrev pub SearchesDecided : Type 0
 SearchesDecided = AnyTree × WorkUnread × SearchesAgree × VersionsAgree
 
@@ -302,3 +302,34 @@ SearchesDecided = AnyTree × WorkUnread × SearchesAgree × VersionsAgree
 -- it changes nothing in what is held: so "Lists and counts come out as they did", by the same steps.
 abbrev pub YardsMeasured : Type 0
 YardsMeasured = MeasuresTrue × AboveKept
+
+-- ---- version 1
+--
+-- "Version 1 books are read with kind 255 throughout", and for them all is as it was before there were kinds.
+
+-- every kind byte of a tree is 255
+pub record AnyKind (t : Tree) : Type 0 where
+  pub regions : (r : Region) → Mem r (t .regions) → r .kinds ≡ 255
+  pub lists : (r : Region) → Mem r (t .regions) → (m : Mark) → Mem m (r .marks) → (e : Element) → Mem e (m .list)
+      → e .kinds ≡ 255
+
+-- a tree book's tree as a version 2 book
+abbrev pub version2 : (tree : List ℕ) → List ℕ
+version2 tree = encode (inVersion2 (decode tree))
+
+-- the same call on it
+abbrev pub onVersion2 : Call → Call
+onVersion2 c = record { road = c .road; tree = version2 (c .tree); query = c .query; want = c .want }
+
+pub record VersionOne : Type 0 where
+  -- no kind byte of a version 1 tree that holds the yards of a version 1 yard book is false: its check is what it was
+  pub checked : (road yard tree : List ℕ) → SoundBooks road yard → SoundTreeBook road tree → version yard ≡ 1
+      → version tree ≡ 1 → YardsHeld yard tree → KindsTrue yard tree
+  -- a version 1 tree, written as a version 2 book, is accepted, is read back, and has 255 throughout
+  pub accepted : (tree : List ℕ) → TreeFacts tree → version tree ≡ 1 → TreeFacts (version2 tree)
+  pub back : (tree : List ℕ) → TreeFacts tree → version tree ≡ 1
+      → decode (version2 tree) ≡ inVersion2 (decode tree)
+  pub any : (tree : List ℕ) → TreeFacts tree → version tree ≡ 1 → AnyKind (decode (version2 tree))
+  -- and the search of a version 1 tree is the search of that version 2 tree
+  pub searched : (c : Call) (a : Lent) → TreeFacts (c .tree) → version (c .tree) ≡ 1
+      → (foundOn c a ≡ foundOn (onVersion2 c) a) × (callOn c a ≡ callOn (onVersion2 c) a)

@@ -1,27 +1,26 @@
--- "Version 1 books are read with kind 255 throughout": trees that differ at most in their version are searched alike, and in version 1 each yard is wanted.
+-- "Version 1 books are read with kind 255 throughout": trees that differ at most in their version are searched alike, in version 1 as without kinds.
 -- Assumes nothing.
 use mathlib.Core.Path.{_≡_, refl, sym, ap, _∙_}
 use mathlib.Core.List.{List}
-use Prim.Native.Nat.{ℕ, _%_, _≤_, _<_}
-use native.Mathlib.Omega.{arith}
+use Prim.Native.Nat.{ℕ, _≤_, _<_}
 use lib.ListN.{length}
-use lib.Bits.{bitAnd, and-mask}
-use lib.Dec.{T}
 use Rattle.book.specs.Open.{version}
 use Rattle.book.proofs.Lists.{kept-all}
 use Rattle.work_area.specs.Work.{workAfter}
 use Rattle.road_layout.specs.Road.{junctions}
 use Rattle.kinds.specs.Kinds.{shares}
-use Rattle.kinds.proofs.Laws.{some-shares}
 use Rattle.tree_layout.specs.Decode.{junctionCount, treeYardCount, decode}
 use Rattle.tree_layout.proofs.Places.{decode-version, decode-junctions, decode-yards}
 use Rattle.tree.specs.Shape.{treeRefusal}
 use Rattle.tree.specs.Yards.{kindsOf}
 use Rattle.tree.proofs.YardKinds.{accepted-any}
 use Rattle.query.specs.Query.{kOf, limitOf, crewsOf}
+use Rattle.search_rules.specs.Instance.{withoutKinds}
+use Rattle.search_rules.specs.Run.{run, answer}
 use Rattle.search_rules.proofs.Versions.{answer-alike}
+use Rattle.search_rules.proofs.WithoutKinds.{any-kind, version-1-run, version-1-answer}
 use Rattle.search_call.specs.Call.{Want, askingBy, mostBy, mostYards, treeRefusalIn, searchRefusal, searchAnswer, searchFound, resultsAfter, Call, Areas, Search, foundOn, callOn}
-use Rattle.search_call.specs.Demand.{NotRefused, yards, wantedYards, Alike, VersionsAgree}
+use Rattle.search_call.specs.Demand.{NotRefused, yards, wantedYards, instanceOf, limit, Alike, VersionsAgree}
 use Rattle.search_call.proofs.Calls.{on-tests}
 
 -- ---- two tree books that are accepted, of one road book, query and want
@@ -75,21 +74,34 @@ module _ (c d : Call) (a : Areas) (er : c .road ≡ d .road) (eq : c .query ≡ 
 
 -- ---- version 1
 
--- any wanted byte shares a bit with 255
-any-kind : (w : ℕ) → 1 ≤ w → w < 256 → T (shares w 255)
-any-kind w h l =
-    let e : bitAnd w 255 ≡ w % 256 = and-mask w 8 in
-    some-shares w 255 (omega (arith, e))
+module _ (s : Search) (n : NotRefused s) (h : s .call .want .kinds < 256) (v : version (s .call .tree) ≡ 1) where
+  shaped : treeRefusal (s .call .tree) ≡ 0
+  shaped = on-tests (s .call) (s .areas) n .shape
 
-every-yard : (s : Search) → NotRefused s → s .call .want .kinds < 256 → version (s .call .tree) ≡ 1 → wantedYards s ≡ yards s
-every-yard s n h v =
-    let t = on-tests (s .call) (s .areas) n in
-    let w = s .call .want .kinds in
-    kept-all (λ y. shares w (kindsOf (decode (s .call .tree)) y)) (yards s) (λ y k.
-    rw (accepted-any (s .call .tree) (t .shape) (decode-version (s .call .tree) ∙ v) y k) (any-kind w (t .some-kind) h))
+  first-version : decode (s .call .tree) .version ≡ 1
+  first-version = decode-version (s .call .tree) ∙ v
+
+  some-kind : 1 ≤ s .call .want .kinds
+  some-kind = on-tests (s .call) (s .areas) n .some-kind
+
+  every-yard : wantedYards s ≡ yards s
+  every-yard =
+      let w = s .call .want .kinds in
+      kept-all (λ y. shares w (kindsOf (decode (s .call .tree)) y)) (yards s) (λ y k.
+      rw (accepted-any (s .call .tree) shaped first-version y k) (any-kind w some-kind h))
+
+  same-steps : (k : ℕ) → run (instanceOf s) k ≡ run (withoutKinds (instanceOf s)) k
+  same-steps = version-1-run (s .call .road) (s .call .tree) (askingBy (s .call .query) (s .call .want)) (crewsOf (s .call .query)) shaped first-version
+      some-kind h
+
+  same-answers : answer (instanceOf s) (limit s) ≡ answer (withoutKinds (instanceOf s)) (limit s)
+  same-answers = version-1-answer (s .call .road) (s .call .tree) (askingBy (s .call .query) (s .call .want)) (crewsOf (s .call .query)) shaped first-version
+      some-kind h (limit s)
 
 pub versions-agree : VersionsAgree
 versions-agree = record {
   same = λ c d a er eq ew ok ok′ alike. (found-same c d a er eq ew ok ok′ alike, call-same c d a er eq ew ok ok′ alike);
+  steps = same-steps;
+  answers = same-answers;
   every = every-yard;
 }

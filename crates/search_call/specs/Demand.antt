@@ -22,12 +22,12 @@ use Rattle.tree.specs.Yards.{treeYards, kindsOf, inners}
 use Rattle.check_rules.specs.Facts.{Same}
 use Rattle.check_tree.specs.Check.{checkAnswer}
 use Rattle.query.specs.Query.{aggregateOf, kOf, limitOf, crewsOf}
-use Rattle.search_rules.specs.Instance.{Instance, size, leaf}
+use Rattle.search_rules.specs.Instance.{Instance, withoutKinds, size, leaf}
 use Rattle.search_rules.specs.Bounds.{chosen, yardBound}
 use Rattle.search_rules.specs.Order.{Entry}
 use Rattle.search_rules.specs.Queue.{unqueued, wordAt}
 use Rattle.search_rules.specs.Held.{greatestHeld}
-use Rattle.search_rules.specs.Run.{words, run}
+use Rattle.search_rules.specs.Run.{words, run, answer}
 use Rattle.search_rules.specs.Theorems.{Sorted}
 use Rattle.search_rules.specs.Walks.{AggregateLeast, FirstYards, DriveYards}
 use Rattle.search_call.specs.Call.{Found, refused, Call, Areas, Search, searchIn, searchAnswer, overStart}
@@ -252,11 +252,17 @@ pub record Alike (s t : Tree) : Type 0 where
   pub landmarks : s .landmarks ≡ t .landmarks
   pub regions : s .regions ≡ t .regions
 
--- "Version 1 books are read with kind 255 throughout": a search of a version 1 tree is the search of a version 2 tree
--- with 255 throughout; and every yard of a version 1 tree is wanted
+-- "Version 1 books are read with kind 255 throughout"
 pub record VersionsAgree : Type 0 where
+  -- a search of a version 1 tree is the search of a version 2 tree with 255 throughout
   pub same : (c d : Call) (a : Areas) → c .road ≡ d .road → c .query ≡ d .query → c .want ≡ d .want
       → treeRefusal (c .tree) ≡ 0 → treeRefusal (d .tree) ≡ 0 → Alike (decode (c .tree)) (decode (d .tree))
       → (foundOn c a ≡ foundOn d a) × (callOn c a ≡ callOn d a)
+  -- it takes the steps that it took before there were kinds, whatever byte it wants, and answers what it answered
+  pub steps : (s : Search) → NotRefused s → s .call .want .kinds < 256 → version (s .call .tree) ≡ 1
+      → (n : ℕ) → run (instanceOf s) n ≡ run (withoutKinds (instanceOf s)) n
+  pub answers : (s : Search) → NotRefused s → s .call .want .kinds < 256 → version (s .call .tree) ≡ 1
+      → answer (instanceOf s) (limit s) ≡ answer (withoutKinds (instanceOf s)) (limit s)
+  -- and every yard is wanted
   pub every : (s : Search) → NotRefused s → s .call .want .kinds < 256 → version (s .call .tree) ≡ 1
       → wantedYards s ≡ yards s

@@ -24,6 +24,7 @@ pub mod ByKinds
 pub mod Walks
 pub mod Agreeing
 pub mod Versions
+pub mod WithoutKinds
 pub mod Turns
 pub mod Equations
 pub mod Steps

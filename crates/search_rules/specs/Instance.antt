@@ -1,6 +1,6 @@
 -- What is searched: a tree, the crews, the aggregate, the rule, the distance, and what is wanted. Assumes nothing:
 -- these are definitions.
-use mathlib.Core.Bool.{Bool}
+use mathlib.Core.Bool.{Bool, true}
 use mathlib.Core.List.{List}
 use Prim.Native.Nat.{ℕ}
 use lib.ListN.{length}
@@ -22,6 +22,18 @@ pub record Instance : Type 0 where
   pub d : ℕ → ℕ → ℕ
   pub admits : ℕ → Bool
   pub wants : ℕ → Bool
+
+-- the same search without kinds: every region may enter the queue, and every yard is wanted
+abbrev pub withoutKinds : Instance → Instance
+withoutKinds i = record {
+  code = i .code;
+  rule = i .rule;
+  crews = i .crews;
+  tree = i .tree;
+  d = i .d;
+  admits = λ r. true;
+  wants = λ y. true;
+}
 
 module _ (i : Instance) where
   -- how many regions (tree nodes) there are

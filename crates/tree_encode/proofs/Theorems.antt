@@ -22,7 +22,7 @@ use Rattle.tree.proofs.ForestLaws.{Sane, sum, sum-none, sum-first, sum-split, l
 use Rattle.tree.proofs.Shaping.{facts-shaped, root-forest, root-yards}
 use Rattle.tree.proofs.Sums.{sum-all}
 use Rattle.tree.proofs.Theorems.{sane-of, facts-tree, tree-facts}
-use Rattle.tree_encode.specs.Encode.{encode, treeRoom}
+use Rattle.tree_encode.specs.Encode.{inVersion2, encode, treeRoom}
 use Rattle.tree_encode.specs.code.Facts.{SoundTree, sizeOf, WrittenTree}
 use Rattle.tree_encode.proofs.Sizes.{body-length, encode-length, encode-sizes, room-one, room-two, room-most}
 use Rattle.tree_encode.proofs.Back.{header-back, encode-regions, decode-encode}
@@ -196,3 +196,24 @@ book-sound b e =
       values = rw (decode-junctions b) (l .values);
       shape = f .shape;
     }
+
+-- a sound tree is sound in version 2 too
+pub sound-2 : (t : Tree) → SoundTree t → SoundTree (inVersion2 t)
+sound-2 t s = record {
+  limits = record {
+    version = (omega arith, omega arith);
+    junctions = s .limits .junctions;
+    regions = s .limits .regions;
+    yards = s .limits .yards;
+    landmarks = s .limits .landmarks;
+  };
+  formed = λ r k. let f = s .formed r k in record {
+    count = f .count;
+    lists = f .lists;
+    spans = f .spans;
+    any = λ e. absurd (omega arith);
+    any-listed = λ e. absurd (omega arith);
+  };
+  values = s .values;
+  shape = let h = s .shape in record { one-tree = h .one-tree; ranges = h .ranges; sums = h .sums; leaves = h .leaves; root = h .root };
+}

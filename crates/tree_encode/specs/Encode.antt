@@ -61,6 +61,11 @@ encodeBody t = t .version ∷ (u16Bytes (t .junctions) ++ (u16Bytes (length (t .
 unfoldable pub encode : Tree → List ℕ
 encode t = u32Bytes (length (encodeBody t)) ++ encodeBody t
 
+-- a tree in version 2, with the values that it has
+abbrev pub inVersion2 : Tree → Tree
+inVersion2 t =
+    record { version = 2; junctions = t .junctions; yards = t .yards; landmarks = t .landmarks; regions = t .regions }
+
 -- "a built tree's area below 21,981 bytes"; "The version 2 build area must hold 23,516 bytes."
 unfoldable pub treeRoom : (version : ℕ) → ℕ
 treeRoom version = choose (eqb version 1) 21981 23516
