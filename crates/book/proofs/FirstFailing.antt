@@ -7,7 +7,7 @@ use Prim.Native.Nat.{ℕ, _+_, _≤_}
 use native.Mathlib.Omega.{arith}
 use lib.ListN.{length}
 use lib.Dec.{T, T-not, leb, eqb, leb→le, le→leb, eqb→eq}
-use Rattle.book.specs.Bytes.{u8At, u32At}
+use Rattle.book.specs.Bytes.{u32At}
 use Rattle.book.specs.Choose.{refuse, firstOf}
 use Rattle.book.specs.Open.{version, openRefusal}
 use Rattle.book.specs.Tests.{Test, test, FirstFailing, openTests}

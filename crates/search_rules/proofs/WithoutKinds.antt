@@ -9,7 +9,7 @@ use lib.ListN.{length, getD, set}
 use lib.Bits.{bitAnd, and-mask}
 use lib.Dec.{T, ltb, eqb→eq}
 use Rattle.book.specs.Choose.{choose}
-use Rattle.book.proofs.Choosing.{choose-case, T-true}
+use Rattle.book.proofs.Choosing.{T-true}
 use Rattle.book.proofs.Lists.{kept-all}
 use Rattle.kinds.specs.Kinds.{shares}
 use Rattle.kinds.proofs.Laws.{some-shares}

@@ -1,6 +1,5 @@
 -- The kinds of a book's yards by junction. Assumes nothing.
 use mathlib.Core.Path.{_≡_, refl, sym, ap, _∙_}
-use mathlib.Core.Logic.{_⊎_, inl, inr}
 use mathlib.Core.List.{List, List·Memᴰ as Mem}
 use Prim.Native.Nat.{ℕ, zero, suc, _+_, _-_, _≤_, _<_}
 use native.Mathlib.Omega.{arith}
@@ -9,10 +8,9 @@ use lib.ListN.{length, getD, set, replicate, length-set, length-replicate}
 use lib.Seq.{getD-set-same, getD-set-other}
 use Rattle.book.specs.Bytes.{Bytes}
 use Rattle.book.specs.Open.{version}
-use Rattle.book.proofs.Choosing.{lt-or-ge}
 use Rattle.book.proofs.Lists.{mem-getD}
 use Rattle.kinds.proofs.Reading.{kind-any, kind-small}
-use Rattle.yard.specs.Yards.{yardCount, yardPlace, yardAt, yardKind, yardsOf, yardRefusal, kindsFrom, kindTable, kindOf, HasKinds, YardLayout}
+use Rattle.yard.specs.Yards.{yardCount, yardPlace, yardAt, yardKind, yardsOf, yardRefusal, kindsFrom, kindTable, kindOf, HasKinds}
 use Rattle.yard.proofs.YardLayout.{layout, yards-at, rising-yards, yards-length}
 
 -- ---- a loop over the yards, of which `count - i` are left

@@ -2,7 +2,7 @@
 -- definitions.
 use mathlib.Core.Path.{_≡_}
 use mathlib.Core.List.{List, [], _∷_, _++_}
-use Prim.Native.Nat.{ℕ, _+_, _*_, _≤_, _<_}
+use Prim.Native.Nat.{ℕ, _+_, _≤_, _<_}
 use lib.ListN.{length}
 use Rattle.book.specs.Tests.{Test, test, openTests}
 use Rattle.yard.specs.Yards.{latestYards, yardCount, yardPlace, yardAt, yardKind}

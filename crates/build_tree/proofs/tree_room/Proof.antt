@@ -1,4 +1,3 @@
-use mathlib.Core.Path.{sym}
 use native.Mathlib.Omega.{arith}
 use Rattle.tree_encode.proofs.Sizes.{room-one, room-two}
 use Rattle.build_tree.proofs.tree_room.Statement.{statement}

@@ -1,4 +1,3 @@
-use native.Mathlib.Omega.{arith}
 use Rattle.text.proofs.Appending.{append-as}
 use Rattle.outline.proofs.Outlining.{region-is, five}
 use borrow.Author.Needs.{needs}

@@ -2,8 +2,8 @@ use borrow.Author.Needs.{needs}
 use mathlib.Core.Path.{_≡_, sym, ap, _∙_}
 use Prim.Native.Nat.{ℕ, _-_, _≤_, _<_}
 use native.Mathlib.Omega.{arith}
-use lib.ListN.{length, length-set, length-replicate, getD}
-use Rattle.yard.specs.Yards.{yardCount, yardAt, yardRefusal, kindsFrom, kindTable}
+use lib.ListN.{length, length-set, length-replicate}
+use Rattle.yard.specs.Yards.{yardCount, yardRefusal, kindsFrom, kindTable}
 use Rattle.yard.proofs.YardLayout.{layout, yards-at}
 use Rattle.yard.proofs.Tables.{begins, one-more, table-end}
 use Rattle.yard.proofs.kind_table.Statement.{statement}

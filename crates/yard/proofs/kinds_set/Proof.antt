@@ -6,7 +6,7 @@ use native.Mathlib.Omega.{arith}
 use lib.ListN.{length}
 use Rattle.book.specs.Open.{version}
 use Rattle.kinds.specs.Kinds.{kindSize}
-use Rattle.yard.specs.Yards.{yardPlace, kindsSet}
+use Rattle.yard.specs.Yards.{kindsSet}
 use Rattle.yard.proofs.Places.{place-room, place-most}
 use Rattle.yard.proofs.Rising.{kinds-on, unset, kinds-end}
 use Rattle.yard.proofs.YardLayout.{read-kind-at}
