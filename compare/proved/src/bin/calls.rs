@@ -1,7 +1,7 @@
-//! The command `calls`: how long the proved calls take beside the plain ones, on the grid district with 256 yards, there
-//! also for yards of a wanted kind, and on full books of each kind; searches also beside the plain one with no ceiling ever, with the junctions that each
-//! measured yard's walk walks on from, and beside brute force, in Rust and, where LEMON is installed, with its Dijkstra
-//! in C++.
+//! The command `calls`: how long the proved calls take beside the plain ones, on the grid district with 256 yards,
+//! there also for yards of a wanted kind, and on full books of each kind; searches also beside the plain one with no
+//! ceiling ever, with the junctions that each measured yard's walk walks on from, and beside brute force, in Rust and,
+//! where LEMON is installed, with its Dijkstra in C++.
 #![forbid(unsafe_code)]
 
 use std::fs;
