@@ -1,14 +1,15 @@
 -- The test of kinds holds of a tree with the yard book's yards exactly if each kind byte is the yard book's, and each region's has the bits of its yards.
 -- Assumes nothing.
-use mathlib.Core.Path.{_≡_, refl, sym, ap, _∙_}
+use mathlib.Core.Path.{_≡_, sym, ap, _∙_}
 use mathlib.Core.Logic.{_↔_}
 use mathlib.Core.Bool.{true}
-use mathlib.Core.List.{List, [], _∷_, List·Memᴰ as Mem, List·Memᴰ·head as head, List·Memᴰ·not-nil as not-nil}
-use Prim.Native.Nat.{ℕ, _≤_, _<_}
+use mathlib.Core.List.{List, [], List·Memᴰ as Mem, List·Memᴰ·not-nil as not-nil}
+use Prim.Native.Nat.{ℕ, _<_}
 use native.Mathlib.Decide.{ℕ-discrete}
 use native.Mathlib.Omega.{arith}
-use lib.ListN.{length}
+use lib.ListN.{length, getD}
 use Rattle.book.specs.Open.{version}
+use Rattle.book.proofs.Lists.{getD-mem}
 use Rattle.yard.specs.Yards.{yardsOf, kindOf, HasKinds, yardRefusal}
 use Rattle.yard.proofs.Tables.{has-kinds, yards-had, had-any}
 use Rattle.tree_layout.specs.Values.{Element, Mark, Region, Tree, regionAt}
@@ -85,11 +86,8 @@ module _ (yard tree : List ℕ) (yok : yardRefusal yard ≡ 0) (tok : treeRefusa
   -- a region has a yard
   some-below : (r : ℕ) → r < length rs → (y : ℕ) × Mem y (yardsBelow rs r)
   some-below r h =
-      first (yardsBelow rs r) (omega (arith, accepted-whole tree tok .holdings .count r h, tree-facts tree tok .layout .values (regionAt rs r) (at-mem rs r h) .some))
-    where
-      first : (ys : List ℕ) → 1 ≤ length ys → (y : ℕ) × Mem y ys
-      first [] n = absurd (omega arith)
-      first (y ∷ ys) n = (y, head refl)
+      let v = tree-facts tree tok .layout .values (regionAt rs r) (at-mem rs r h) in
+      (getD (yardsBelow rs r) 0 0, getD-mem (yardsBelow rs r) 0 0 (omega (arith, accepted-whole tree tok .holdings .count r h, v .some)))
 
   module _ (first : version yard ≡ 1) (first-tree : version tree ≡ 1) where
     any-below : (r : ℕ) → r < length rs → (y : ℕ) → Mem y (yardsBelow rs r) → HasKinds yard y 255

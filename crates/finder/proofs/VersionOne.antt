@@ -43,8 +43,8 @@ searched-2 c a ok = versions-agree .same c (onVersion2 c) a refl refl refl ok (a
 pub version-one : VersionOne
 version-one = record {
   checked = λ road yard tree b s v w h. version-1-kinds road yard tree workWords (laid-out road yard tree workWords b (omega arith) s) h v w;
-  accepted = λ tree f v. accepted-iff (version2 tree) .0 (accepted-2 tree (accepted-iff tree .1 f));
-  back = λ tree f v. back-2 tree (accepted-iff tree .1 f);
+  accepted = λ tree f. accepted-iff (version2 tree) .0 (accepted-2 tree (accepted-iff tree .1 f));
+  back = λ tree f. back-2 tree (accepted-iff tree .1 f);
   any = λ tree f v. any-2 tree (accepted-iff tree .1 f) v;
-  searched = λ c a f v. searched-2 c a (accepted-iff (c .tree) .1 f);
+  searched = λ c a f. searched-2 c a (accepted-iff (c .tree) .1 f);
 }

@@ -325,11 +325,10 @@ pub record VersionOne : Type 0 where
   -- no kind byte of a version 1 tree that holds the yards of a version 1 yard book is false: its check is what it was
   pub checked : (road yard tree : List ℕ) → SoundBooks road yard → SoundTreeBook road tree → version yard ≡ 1
       → version tree ≡ 1 → YardsHeld yard tree → KindsTrue yard tree
-  -- a version 1 tree, written as a version 2 book, is accepted, is read back, and has 255 throughout
-  pub accepted : (tree : List ℕ) → TreeFacts tree → version tree ≡ 1 → TreeFacts (version2 tree)
-  pub back : (tree : List ℕ) → TreeFacts tree → version tree ≡ 1
-      → decode (version2 tree) ≡ inVersion2 (decode tree)
+  -- a tree, written as a version 2 book, is accepted and read back; one of version 1 then has 255 throughout
+  pub accepted : (tree : List ℕ) → TreeFacts tree → TreeFacts (version2 tree)
+  pub back : (tree : List ℕ) → TreeFacts tree → decode (version2 tree) ≡ inVersion2 (decode tree)
   pub any : (tree : List ℕ) → TreeFacts tree → version tree ≡ 1 → AnyKind (decode (version2 tree))
-  -- and the search of a version 1 tree is the search of that version 2 tree
-  pub searched : (c : Call) (a : Lent) → TreeFacts (c .tree) → version (c .tree) ≡ 1
+  -- and its search is the search of that version 2 tree
+  pub searched : (c : Call) (a : Lent) → TreeFacts (c .tree)
       → (foundOn c a ≡ foundOn (onVersion2 c) a) × (callOn c a ≡ callOn (onVersion2 c) a)

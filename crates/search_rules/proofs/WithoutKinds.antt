@@ -37,10 +37,10 @@ use Rattle.search_rules.specs.Run.{Outcome, advance, run, report, answer
 use Rattle.search_rules.proofs.Bounds.{chosen-mem}
 
 -- two choices by one test are equal if their sides are, each where it is chosen
-both-sides : {A : Type 0} (b : Bool) {x y v w : A} → (T b → x ≡ v) → (T (not b) → y ≡ w) → choose b x y ≡ choose b v w
+choose-same : {A : Type 0} (b : Bool) {x y v w : A} → (T b → x ≡ v) → (T (not b) → y ≡ w) → choose b x y ≡ choose b v w
 unfolding choose
-both-sides true p q = p tt
-both-sides false p q = q tt
+choose-same true p q = p tt
+choose-same false p q = q tt
 
 module _ (i : Instance) (root : T (i .admits 0)) (enter : (r c : ℕ) → Mem c (childrenOf (i .tree .regions) r) → T (i .admits c))
     (wanted : (r : ℕ) → T (leaf i r) → (e : Element) → Mem e (chosen i r .list) → T (i .wants (e .yard))) where
@@ -97,7 +97,7 @@ module _ (i : Instance) (root : T (i .admits 0)) (enter : (r c : ℕ) → Mem c 
 
   same-region : (st : SearchState) (r a : ℕ) → takeRegion i st r a ≡ takeRegion all st r a
   unfolding takeRegion leaf
-  same-region st r a = both-sides (leaf i r) (same-leaf st r) (λ t. same-inner st r a)
+  same-region st r a = choose-same (leaf i r) (same-leaf st r) (λ t. same-inner st r a)
 
   same-step : (st : SearchState) → step i st ≡ step all st
   unfolding step nextRegion nextYard size takeYard keep entry total over
@@ -112,7 +112,7 @@ module _ (i : Instance) (root : T (i .admits 0)) (enter : (r c : ℕ) → Mem c 
   unfolding startSearch rootKeys size bound over markBound lower upper tableAt marks
   same-start = rw (T-true (i .admits 0) root) refl
 
-  pub same-run : (steps : ℕ) → run i steps ≡ run all steps
+  same-run : (steps : ℕ) → run i steps ≡ run all steps
   unfolding run advance settled leastKey nextRegion nextYard size enough
   same-run zero = λ j. record { state = same-start j; taken = 0 }
   same-run (suc steps) = λ j.
@@ -120,7 +120,7 @@ module _ (i : Instance) (root : T (i .admits 0)) (enter : (r c : ℕ) → Mem c 
       choose (settled i (o .state)) o (record { state = same-step (o .state) j; taken = suc (o .taken) })
 
   -- so is its answer
-  pub same-answer : (limit : ℕ) → answer i limit ≡ answer all limit
+  same-answer : (limit : ℕ) → answer i limit ≡ answer all limit
   unfolding answer report settled leastKey nextRegion nextYard size enough
   same-answer limit = ap (λ (o : Outcome). report i o) (same-run limit)
 
