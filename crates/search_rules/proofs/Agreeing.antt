@@ -13,7 +13,7 @@ use Rattle.search_rules.specs.Order.{Entry}
 use Rattle.search_rules.specs.Rule.{Rule, nearest, inDrive}
 use Rattle.search_rules.specs.Instance.{Instance}
 use Rattle.search_rules.specs.Books.{searchOf, Passed}
-use Rattle.search_rules.specs.Bounds.{over, total}
+use Rattle.search_rules.specs.Bounds.{over, total, furthest}
 use Rattle.search_rules.specs.Held.{insert, lastDistance, entry, ranked}
 use Rattle.search_rules.specs.Keeping.{upTo, front}
 use Rattle.search_rules.specs.Run.{answer}
@@ -24,9 +24,9 @@ use Rattle.search_rules.proofs.Fronts.{up-take}
 use Rattle.search_rules.proofs.Theorems.{answer-listing}
 use Rattle.search_rules.proofs.Walks.{listed-front}
 
--- yards are ranked by their aggregates alone
-ranked-same : (i j : Instance) → ((y : ℕ) → total i y ≡ total j y) → (ys : List ℕ) → ranked i ys ≡ ranked j ys
-unfolding ranked entry
+-- yards are ranked by their entries alone
+ranked-same : (i j : Instance) → ((y : ℕ) → entry i y ≡ entry j y) → (ys : List ℕ) → ranked i ys ≡ ranked j ys
+unfolding ranked
 ranked-same i j h [] = refl
 ranked-same i j h (y ∷ ys) = rw (h y, ranked-same i j h ys) refl
 
@@ -35,10 +35,10 @@ module _ (road tree : List ℕ) (code kinds : ℕ) (crews : List ℕ) where
   abbrev by : Rule → Instance
   by r = searchOf road tree (record { code = code; rule = r; wanted = kinds }) crews
 
-  -- aggregates, and which yards are wanted, don't depend on it
-  rule-total : (r s : Rule) (y : ℕ) → total (by r) y ≡ total (by s) y
-  unfolding searchOf total over
-  rule-total r s y = refl
+  -- a yard's numbers, and which yards are wanted, don't depend on it
+  rule-entry : (r s : Rule) (y : ℕ) → entry (by r) y ≡ entry (by s) y
+  unfolding searchOf entry total over furthest
+  rule-entry r s y = refl
 
   rule-wants : (r s : Rule) → by r .wants ≡ by s .wants
   unfolding searchOf
@@ -63,7 +63,7 @@ module _ (road tree : List ℕ) (code kinds : ℕ) (crews : List ℕ) where
     unfolding front all ys
     drive-is = listed-front road tree _ crews p far most u
         ∙ (ap (λ (w : ℕ → Bool). upTo seconds (ranked (by (inDrive seconds)) (keepIf w (treeYards (decode tree))))) (rule-wants (inDrive seconds) (nearest k))
-        ∙ ap (upTo seconds) (ranked-same _ _ (rule-total (inDrive seconds) (nearest k)) ys))
+        ∙ ap (upTo seconds) (ranked-same _ _ (rule-entry (inDrive seconds) (nearest k)) ys))
 
     pub lists-first : seconds ≡ lastDistance 0 list → take k (answer (by (inDrive seconds)) most .listed) ≡ list
     lists-first e = ap (take k) drive-is ∙ up-take seconds k all near ∙ sym first-is

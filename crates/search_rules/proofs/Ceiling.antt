@@ -12,8 +12,8 @@ use Rattle.search_rules.specs.Order.{Entry, yardFirst}
 use Rattle.search_rules.specs.Held.{insert, hold, greatestHeld}
 use Rattle.search_rules.specs.Keeping.{keepBy}
 use Rattle.search_rules.specs.Ceiling.{exceeds, ceilingBy, AboveKept}
-use Rattle.search_rules.proofs.Order.{first-before}
-use Rattle.search_rules.proofs.Held.{before-le, greatestHeld-le}
+use Rattle.search_rules.proofs.Order.{first-before, before-le}
+use Rattle.search_rules.proofs.Held.{greatestHeld-le}
 
 -- a yard further than all of a list goes after its last
 insert-past : (e : Entry) (l : List Entry) → ((h : Entry) → Mem h l → h .distance < e .distance) → take (length l) (insert e l) ≡ l

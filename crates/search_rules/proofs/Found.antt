@@ -13,14 +13,15 @@ use Rattle.book.specs.Lists.{Distinct}
 use Rattle.search_rules.specs.Order.{Entry, YardBefore}
 use Rattle.search_rules.specs.Rule.{Rule, nearest, inDrive}
 use Rattle.search_rules.specs.Instance.{Instance}
-use Rattle.search_rules.specs.Bounds.{total}
+use Rattle.search_rules.specs.Bounds.{total, furthest}
 use Rattle.search_rules.specs.Held.{entry, ranked}
 use Rattle.search_rules.specs.Keeping.{front}
 use Rattle.search_rules.specs.Step.{SearchState, settled}
 use Rattle.search_rules.specs.Run.{run}
 use Rattle.search_rules.specs.Facts.{Below, WellFormed, SoundInstance}
 use Rattle.search_rules.specs.Theorems.{Sorted, Out, LeftOut, Allowed, TreeYards, Listing, Complete}
-use Rattle.search_rules.proofs.Held.{before-not, ranked-mem, ranked-in, ranked-sorted, greatestHeld-le}
+use Rattle.search_rules.proofs.Order.{before-not}
+use Rattle.search_rules.proofs.Held.{ranked-mem, ranked-in, ranked-sorted, greatestHeld-le}
 use Rattle.search_rules.proofs.Fronts.{front-mem, front-sorted, front-allowed, front-rest}
 use Rattle.search_rules.proofs.Stepping.{Past, past-more, past-out, settled-regions, settled-yards}
 use Rattle.search_rules.proofs.Kept.{Kept, run-kept}
@@ -132,10 +133,15 @@ module _ (i : Instance) where
   unfolding entry
   entry-total h e = ap (λ (x : Entry). x .distance) e
 
+  entry-furthest : (h : Entry) → h ≡ entry i (h .yard) → h .furthest ≡ furthest i (h .yard)
+  unfolding entry
+  entry-furthest h e = ap (λ (x : Entry). x .furthest) e
+
   pub kept-listing : (st : SearchState) → Kept i st → Listing i (st .held)
   kept-listing st was = rw (was .first-ranked) (record {
     sorted = sort;
     distances = λ h k. entry-total h (is h k);
+    furthests = λ h k. entry-furthest h (is h k);
     distinct = sorted-one i (front (i .rule) all) is;
     in-tree = λ h k. was .measured-in (h .yard) (ranked-mem i h (st .measured) (front-mem (i .rule) h all k) .0);
     allowed = front-allowed (i .rule) all;
@@ -177,12 +183,16 @@ module _ (i : Instance) where
   abbrev TreeYard : Entry → Type 0
   TreeYard h = (h ≡ entry i (h .yard)) × Below i 0 (h .yard)
 
+  pub entry-same : {h : Entry} → h .distance ≡ total i (h .yard) → h .furthest ≡ furthest i (h .yard) → h ≡ entry i (h .yard)
+  unfolding entry
+  entry-same {h} p q = λ j. record { distance = p j; furthest = q j; yard = h .yard }
+
   listing-asked : (held : List Entry) → Listing i held → ((y : ℕ) → Below i 0 y → Mem (entry i y) held ⊎ LeftOut (i .rule) held (entry i y))
       → Asked TreeYard (i .rule) held
   unfolding entry
   listing-asked held l rest = record {
     sorted = l .sorted;
-    among = λ h k. (ap (λ x. record { distance = x; yard = h .yard }) (l .distances h k), l .in-tree h k);
+    among = λ h k. (entry-same (l .distances h k) (l .furthests h k), l .in-tree h k);
     allowed = l .allowed;
     rest = λ h p. rw (p .0) (rest (h .yard) (p .1));
   }

@@ -17,8 +17,8 @@ use Rattle.search_rules.specs.Held.{insert, hold, greatestHeld}
 use Rattle.search_rules.specs.Keeping.{keepBy, upTo, front}
 use Rattle.search_rules.specs.Theorems.{Sorted, LeftOut, Allowed, NotPast}
 use Rattle.search_rules.proofs.Choices.{choose-two}
-use Rattle.search_rules.proofs.Order.{first-before, before-first}
-use Rattle.search_rules.proofs.Held.{before-le, take-mem, take-sorted, take-rest, take-insert}
+use Rattle.search_rules.proofs.Order.{first-before, before-first, before-le}
+use Rattle.search_rules.proofs.Held.{take-mem, take-sorted, take-rest, take-insert}
 
 -- ---- within the seconds
 

@@ -12,7 +12,7 @@ use Rattle.book.proofs.Choosing.{choose-yes, choose-no, T-true}
 use Rattle.tree_layout.specs.Values.{Element, Mark, regionAt}
 use Rattle.tree.specs.Yards.{childrenOf}
 use Rattle.search_rules.specs.Instance.{Instance, size, children, leaf}
-use Rattle.search_rules.specs.Bounds.{bound, chosen, total, yardBound, f}
+use Rattle.search_rules.specs.Bounds.{bound, chosen, total, furthest, yardBound, f}
 use Rattle.search_rules.specs.Queue.{unqueued, queued, wordAt, pick}
 use Rattle.search_rules.specs.Keeping.{keepBy, enoughBy, keep, enough}
 use Rattle.search_rules.specs.Held.{entry}
@@ -100,7 +100,7 @@ module _ (i : Instance) where
 
   -- ---- what is taken
 
-  pub entry-is : (y : ℕ) → entry i y ≡ record { distance = total i y; yard = y }
+  pub entry-is : (y : ℕ) → entry i y ≡ record { distance = total i y; furthest = furthest i y; yard = y }
   unfolding entry
   entry-is y = refl
 

@@ -15,7 +15,7 @@ use Rattle.tree_leaf.specs.Leaf.{names, once, inRange, namedBy, firstList, agre
 use Rattle.tree.specs.Shape.{childFits, siblings, subtree}
 use Rattle.tree.specs.Yards.{endOf, starts, childrenOf}
 use Rattle.search_rules.specs.Instance.{Instance, size, children, marks, leaf}
-use Rattle.search_rules.specs.Bounds.{absDiff, combine, aggregate, greatestOf, leastFrom, leastOf, crewBound, tableAt, lower, upper, over, total}
+use Rattle.search_rules.specs.Bounds.{absDiff, combine, aggregate, greatestOf, leastFrom, leastOf, crewBound, tableAt, lower, upper, over, total, furthest}
 use Rattle.search_rules.specs.Bounds.{markBound}
 use Rattle.search_rules.specs.Bounds.{bound, weight, best, bestOf, chosen, listAbsDiff, f, yardBound}
 use Rattle.tree_layout.specs.Values.{noMark}
@@ -64,17 +64,18 @@ pub starred : row (netN 0 2 (0 ∷ 2 ∷ [])) 4 ∷ row (netN 0 2 (0 ∷ 2 ∷ [
     ∷ (1 ∷ 2 ∷ 1 ∷ 0 ∷ 0 ∷ []) ∷ (1 ∷ 4 ∷ 2 ∷ 0 ∷ 1 ∷ []) ∷ []
 unfolding row onChain at leafOf netN oneJunction three from0 from2 twoLeaves eight choose leafMark innerMark firstDistance lastFrom noRegion regionAt all
     yardFirst keep enough keepBy enoughBy names once inRange namedBy firstList agreeing sameYards leafOk siblings subtree endOf starts childrenOf size keepIf children marks leaf
-    absDiff combine aggregate greatestOf leastFrom leastOf crewBound noMark tableAt lower upper over total markBound bound weight best bestOf chosen
+    absDiff combine aggregate greatestOf leastFrom leastOf crewBound noMark tableAt lower upper over total furthest markBound bound weight best bestOf chosen
     listAbsDiff f yardBound queued wordAt pick insert hold lastDistance greatestHeld entry left noElement againKey passed waiting nextPlace nextF queueChildren openInner
     queueNext closeLeaf openLeaf takeRegion takeYard nextRegion nextYard leastKey step settled rootKeys startSearch words advance run report answer
 starred = refl
 
--- limit 0 is spent with no step taken; a tree of two leaves, where three yards tie at 12 and the lower numbers are held
+-- limit 0 is spent with no step taken; a tree of two leaves, where yards 1, 2 and 5 tie at 12 and the furthest crew is 11, 9 and 9 away: 2 and 5 are held, and
+-- under a limit of one step less it is spent
 pub limits : row (netN 0 2 (0 ∷ 2 ∷ [])) 0 ∷ row twoLeaves 9 ∷ row twoLeaves 7 ∷ []
-    ≡ (0 ∷ 0 ∷ 0 ∷ []) ∷ (1 ∷ 8 ∷ 3 ∷ 1 ∷ 12 ∷ 2 ∷ 12 ∷ []) ∷ (0 ∷ 7 ∷ 2 ∷ []) ∷ []
+    ≡ (0 ∷ 0 ∷ 0 ∷ []) ∷ (1 ∷ 8 ∷ 3 ∷ 2 ∷ 12 ∷ 5 ∷ 12 ∷ []) ∷ (0 ∷ 7 ∷ 2 ∷ []) ∷ []
 unfolding row onChain at leafOf netN oneJunction three from0 from2 twoLeaves eight choose leafMark innerMark firstDistance lastFrom noRegion regionAt all
     yardFirst keep enough keepBy enoughBy names once inRange namedBy firstList agreeing sameYards leafOk siblings subtree endOf starts childrenOf size keepIf children marks leaf
-    absDiff combine aggregate greatestOf leastFrom leastOf crewBound noMark tableAt lower upper over total markBound bound weight best bestOf chosen
+    absDiff combine aggregate greatestOf leastFrom leastOf crewBound noMark tableAt lower upper over total furthest markBound bound weight best bestOf chosen
     listAbsDiff f yardBound queued wordAt pick insert hold lastDistance greatestHeld entry left noElement againKey passed waiting nextPlace nextF queueChildren openInner
     queueNext closeLeaf openLeaf takeRegion takeYard nextRegion nextYard leastKey step settled rootKeys startSearch words advance run report answer
 limits = refl
@@ -119,7 +120,7 @@ pub ties : run (three (from0 ∷ [])) 1 .state .gone ∷ run (three (from2 ∷ f
     ≡ (true ∷ false ∷ false ∷ []) ∷ (false ∷ false ∷ true ∷ []) ∷ []
 unfolding onChain at leafOf three from0 from2 choose leafMark innerMark firstDistance lastFrom noRegion regionAt all yardFirst keep enough keepBy enoughBy names once inRange
     namedBy firstList agreeing sameYards leafOk siblings subtree endOf starts childrenOf size keepIf children marks leaf absDiff combine aggregate greatestOf
-    leastFrom leastOf crewBound noMark tableAt lower upper over total markBound bound weight best bestOf chosen listAbsDiff f yardBound queued wordAt pick
+    leastFrom leastOf crewBound noMark tableAt lower upper over total furthest markBound bound weight best bestOf chosen listAbsDiff f yardBound queued wordAt pick
     insert hold lastDistance greatestHeld entry left noElement againKey passed waiting nextPlace nextF queueChildren openInner queueNext closeLeaf openLeaf takeRegion takeYard
     nextRegion nextYard leastKey step settled rootKeys startSearch advance run
 ties = refl
@@ -127,7 +128,7 @@ ties = refl
 pub orders : run (three (from0 ∷ [])) 2 .state .measured ∷ run twoLeaves 6 .state .measured ∷ [] ≡ [] ∷ (1 ∷ []) ∷ []
 unfolding onChain at leafOf three from0 from2 twoLeaves eight choose leafMark innerMark firstDistance lastFrom noRegion regionAt all yardFirst keep enough keepBy enoughBy
     names once inRange namedBy firstList agreeing sameYards leafOk siblings subtree endOf starts childrenOf size keepIf children marks leaf absDiff combine aggregate
-    greatestOf leastFrom leastOf crewBound noMark tableAt lower upper over total markBound bound weight best bestOf chosen listAbsDiff f yardBound queued
+    greatestOf leastFrom leastOf crewBound noMark tableAt lower upper over total furthest markBound bound weight best bestOf chosen listAbsDiff f yardBound queued
     wordAt pick insert hold lastDistance greatestHeld entry left noElement againKey passed waiting nextPlace nextF queueChildren openInner queueNext closeLeaf openLeaf takeRegion
     takeYard nextRegion nextYard leastKey step settled rootKeys startSearch advance run
 orders = refl

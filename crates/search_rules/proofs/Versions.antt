@@ -11,7 +11,7 @@ use Rattle.tree.specs.Yards.{kindsFrom, kindsOf}
 use Rattle.search_rules.specs.Rule.{Asking}
 use Rattle.search_rules.specs.Books.{searchOf}
 use Rattle.search_rules.specs.Instance.{Instance, size, children, marks, leaf}
-use Rattle.search_rules.specs.Bounds.{tableAt, lower, upper, over, total, markBound, bound, weight, best, bestOf, chosen, listAbsDiff, f, yardBound}
+use Rattle.search_rules.specs.Bounds.{tableAt, lower, upper, over, total, furthest, markBound, bound, weight, best, bestOf, chosen, listAbsDiff, f, yardBound}
 use Rattle.search_rules.specs.Held.{entry}
 use Rattle.search_rules.specs.Keeping.{keep, enough}
 use Rattle.search_rules.specs.Step.{passed, waiting, nextPlace, nextF, queueChildren, openInner, queueNext, closeLeaf, openLeaf, takeRegion, takeYard}
@@ -37,7 +37,7 @@ reversioned v i = record {
 }
 
 pub answer-reversioned : (i : Instance) (v limit : ℕ) → answer (reversioned v i) limit ≡ answer i limit
-unfolding size children marks leaf tableAt lower upper over total markBound bound weight best bestOf chosen listAbsDiff f yardBound entry keep enough passed
+unfolding size children marks leaf tableAt lower upper over total furthest markBound bound weight best bestOf chosen listAbsDiff f yardBound entry keep enough passed
     waiting nextPlace nextF queueChildren openInner queueNext closeLeaf openLeaf takeRegion takeYard nextRegion nextYard leastKey step settled rootKeys
     startSearch advance run report answer
 answer-reversioned i v limit = refl

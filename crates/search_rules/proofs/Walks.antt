@@ -19,16 +19,17 @@ use Rattle.tree.specs.Yards.{treeYards}
 use Rattle.search_rules.specs.Rule.{Asking, nearest, inDrive}
 use Rattle.search_rules.specs.Instance.{Instance}
 use Rattle.search_rules.specs.Books.{searchOf, Passed}
-use Rattle.search_rules.specs.Bounds.{aggregate, over, total}
+use Rattle.search_rules.specs.Bounds.{aggregate, over, total, furthest}
 use Rattle.search_rules.specs.Held.{entry, ranked}
 use Rattle.search_rules.specs.Keeping.{front}
 use Rattle.search_rules.specs.Run.{answer}
 use Rattle.search_rules.specs.Facts.{Below, SoundInstance}
 use Rattle.search_rules.specs.Order.{Entry, YardBefore}
 use Rattle.search_rules.specs.Theorems.{Sorted, LeftOut, Allowed, TreeYards, Listing}
-use Rattle.search_rules.specs.Walks.{AggregateLeast, none, more, FirstYards, DriveYards}
-use Rattle.search_rules.proofs.Held.{before-not, ranked-length}
-use Rattle.search_rules.proofs.Found.{run-complete}
+use Rattle.search_rules.specs.Walks.{AggregateLeast, none, more, TrueEntry, FirstYards, DriveYards}
+use Rattle.search_rules.proofs.Order.{before-not}
+use Rattle.search_rules.proofs.Held.{ranked-length}
+use Rattle.search_rules.proofs.Found.{entry-same, run-complete}
 use Rattle.search_rules.proofs.Theorems.{answer-settled, answer-listed, answer-listing, answer-exact}
 use Rattle.search_rules.proofs.Asked.{asked-yards, asked-there}
 
@@ -80,6 +81,25 @@ module _ (road tree : List ℕ) (a : Asking) (crews : List ℕ) (p : Passed road
   pub total-one : (y s : ℕ) → y < junctions road → AggregateLeast (net road) (a .code) y crews s → s ≡ total i y
   total-one y s h l = aggregate-one road (p .roads) (a .code) y h (p .there) l ∙ sym (total-is y)
 
+  furthest-is : (y : ℕ) → furthest i y ≡ aggregate 1 (λ q. dist road q y) crews
+  unfolding furthest searchOf
+  furthest-is y = refl
+
+  -- a yard's true numbers are those of its entry, and no others are
+  pub entry-true : (y : ℕ) → y < junctions road → TrueEntry (net road) (a .code) crews (entry i y)
+  unfolding entry
+  entry-true y h = record {
+    total = total-least y h;
+    furthest = rw furthest-is (aggregate-least road (p .roads) 1 y h crews (p .there));
+  }
+
+  pub true-entry : (e : Entry) → e .yard < junctions road → TrueEntry (net road) (a .code) crews e → e ≡ entry i (e .yard)
+  unfolding entry
+  true-entry e h t =
+      let p₁ : e .distance ≡ total i (e .yard) = total-one (e .yard) (e .distance) h (t .total) in
+      let p₂ : e .furthest ≡ furthest i (e .yard) = aggregate-one road (p .roads) 1 (e .yard) h (p .there) (t .furthest) ∙ sym (furthest-is (e .yard)) in
+      λ j. record { distance = p₁ j; furthest = p₂ j; yard = e .yard }
+
   -- ---- a settled search of true books
 
   module _ (sound : SoundInstance i) (limit : ℕ) (t : T (answer i limit .settled)) where
@@ -92,19 +112,18 @@ module _ (road tree : List ℕ) (a : Asking) (crews : List ℕ) (p : Passed road
     l : Listing i (answer i limit .listed)
     l = answer-listing i (sound .well) limit t
 
-    pub listed-distances : (e : Entry) → Mem e (answer i limit .listed) → AggregateLeast (net road) (a .code) (e .yard) crews (e .distance)
-    listed-distances e k = rw (l .distances e k) (total-least (e .yard) (yard-there (e .yard) (l .in-tree e k)))
+    pub listed-entries : (e : Entry) → Mem e (answer i limit .listed) → TrueEntry (net road) (a .code) crews e
+    listed-entries e k = rw (entry-same i (l .distances e k) (l .furthests e k)) (entry-true (e .yard) (yard-there (e .yard) (l .in-tree e k)))
 
     pub listed-yards : (e : Entry) → Mem e (answer i limit .listed) → Mem (e .yard) wanted
     listed-yards e k = ys .every (e .yard) (l .in-tree e k)
 
-    -- a wanted yard with its aggregate is listed, or the rule leaves it out
-    pub listed-rest : (h : Entry) → Mem (h .yard) wanted → AggregateLeast (net road) (a .code) (h .yard) crews (h .distance)
+    -- a wanted yard with its numbers is listed, or the rule leaves it out
+    pub listed-rest : (h : Entry) → Mem (h .yard) wanted → TrueEntry (net road) (a .code) crews h
         → Mem h (answer i limit .listed) ⊎ LeftOut (a .rule) (answer i limit .listed) h
-    unfolding searchOf entry
+    unfolding searchOf
     listed-rest h k s = let b = ys .below (h .yard) k in
-        rw (answer-listed i limit t, total-one (h .yard) (h .distance) (yard-there (h .yard) b) s) (run-complete i sound limit (rw (answer-settled i limit) at t)
-        .rest (h .yard) b)
+        rw (answer-listed i limit t, true-entry h (yard-there (h .yard) b) s) (run-complete i sound limit (rw (answer-settled i limit) at t) .rest (h .yard) b)
 
     pub listed-once : Distinct (map (λ (e : Entry). e .yard) (answer i limit .listed))
     listed-once = yards-distinct (answer i limit .listed) (l .sorted) (l .distinct)
@@ -130,7 +149,7 @@ module _ (road tree : List ℕ) (code k kinds : ℕ) (crews : List ℕ) where
   unfolding front
   first-yards p sound limit t = record {
     sorted = answer-listing k-search (sound .well) limit t .sorted;
-    distances = listed-distances road tree k-asked crews p sound limit t;
+    entries = listed-entries road tree k-asked crews p sound limit t;
     yards = listed-yards road tree k-asked crews p sound limit t;
     number = ap length (listed-front road tree k-asked crews p sound limit t) ∙ length-take k _ ∙ ap (min k) (ranked-length _ (keepIf (k-search .wants) (treeYards (decode tree))));
     rest = listed-rest road tree k-asked crews p sound limit t;
@@ -148,7 +167,7 @@ module _ (road tree : List ℕ) (code seconds kinds : ℕ) (crews : List ℕ) wh
       → DriveYards (net road) code seconds crews (keepIf (drive-search .wants) (treeYards (decode tree))) (answer drive-search limit .listed)
   drive-yards p sound limit t = record {
     sorted = answer-listing drive-search (sound .well) limit t .sorted;
-    distances = listed-distances road tree drive-asked crews p sound limit t;
+    entries = listed-entries road tree drive-asked crews p sound limit t;
     yards = listed-yards road tree drive-asked crews p sound limit t;
     once = listed-once road tree drive-asked crews p sound limit t;
     inside = listed-allowed road tree drive-asked crews p sound limit t;

@@ -27,7 +27,7 @@ use Rattle.tree.proofs.YardKinds.{accepted-any}
 use Rattle.search_rules.specs.Rule.{Asking}
 use Rattle.search_rules.specs.Books.{searchOf}
 use Rattle.search_rules.specs.Instance.{Instance, withoutKinds, size, children, marks, leaf}
-use Rattle.search_rules.specs.Bounds.{tableAt, lower, upper, over, total, markBound, bound, weight, best, bestOf, chosen, listAbsDiff, f, yardBound}
+use Rattle.search_rules.specs.Bounds.{tableAt, lower, upper, over, total, furthest, markBound, bound, weight, best, bestOf, chosen, listAbsDiff, f, yardBound}
 use Rattle.search_rules.specs.Held.{entry}
 use Rattle.search_rules.specs.Keeping.{keep, enough}
 use Rattle.search_rules.specs.Queue.{queued, wordAt, pick}
@@ -100,7 +100,7 @@ module _ (i : Instance) (root : T (i .admits 0)) (enter : (r c : ℕ) → Mem c 
   same-region st r a = choose-same (leaf i r) (same-leaf st r) (λ t. same-inner st r a)
 
   same-step : (st : SearchState) → step i st ≡ step all st
-  unfolding step nextRegion nextYard size takeYard keep entry total over
+  unfolding step nextRegion nextYard size takeYard keep entry total over furthest
   same-step st = λ j.
       let r = nextRegion i st in
       let y = nextYard i st in

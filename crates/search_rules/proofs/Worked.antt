@@ -8,7 +8,7 @@ use Rattle.tree_leaf.specs.Leaf.{names, once, inRange, namedBy, firstList, agre
 use Rattle.tree.specs.Shape.{siblings, subtree}
 use Rattle.tree.specs.Yards.{endOf, starts, childrenOf}
 use Rattle.search_rules.specs.Instance.{size, children, marks, leaf}
-use Rattle.search_rules.specs.Bounds.{absDiff, combine, aggregate, greatestOf, leastFrom, leastOf, crewBound, tableAt, lower, upper, over, total}
+use Rattle.search_rules.specs.Bounds.{absDiff, combine, aggregate, greatestOf, leastFrom, leastOf, crewBound, tableAt, lower, upper, over, total, furthest}
 use Rattle.search_rules.specs.Bounds.{markBound, bound, weight, best, bestOf, chosen, listAbsDiff, f, yardBound}
 use Rattle.search_rules.specs.Queue.{queued, wordAt, pick}
 use Rattle.search_rules.specs.Order.{yardFirst}
@@ -24,7 +24,7 @@ use Rattle.search_rules.specs.Examples.{regionKeysAfter, yardKeysAfter, 
 pub worked : Worked
 unfolding onChain at found leafOf three from0 from2 heavy near six across driven wanting fourOnly inVain noneWanted netFor ended counts lists regionKeysAfter yardKeysAfter measuredAfter choose leafMark innerMark firstDistance lastFrom
     noRegion regionAt noMark all comes names once inRange namedBy firstList agreeing sameYards leafOk siblings subtree endOf starts childrenOf size keepIf children
-    marks leaf absDiff combine aggregate greatestOf leastFrom leastOf crewBound tableAt lower upper over total markBound bound weight best bestOf chosen
+    marks leaf absDiff combine aggregate greatestOf leastFrom leastOf crewBound tableAt lower upper over total furthest markBound bound weight best bestOf chosen
     listAbsDiff f yardBound queued wordAt pick yardFirst insert hold lastDistance greatestHeld entry keep enough keepBy enoughBy left noElement againKey passed waiting nextPlace nextF
     queueChildren openInner queueNext closeLeaf openLeaf takeRegion takeYard nextRegion nextYard leastKey step settled rootKeys startSearch advance run report answer
     anyWanted barren barrenFrom barrens

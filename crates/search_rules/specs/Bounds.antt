@@ -59,6 +59,10 @@ module _ (i : Instance) where
   unfoldable pub total : ℕ → ℕ
   total p = over (λ q. i .d q p)
 
+  -- the distance of its furthest crew: the greatest of these (code 1 is the maximum's)
+  unfoldable pub furthest : ℕ → ℕ
+  furthest p = aggregate 1 (λ q. i .d q p) (i .crews)
+
   -- "With a region's least distance A and greatest B from landmark l .., the crew's bound": of crew q for landmark m
   unfoldable pub markBound : ℕ → Mark → ℕ
   markBound q m = crewBound (lower (m .place) q) (upper (m .place) q) (m .least) (m .greatest)

@@ -24,14 +24,15 @@ unfoldable pub ceilingBy : Rule → List Entry → Option ℕ
 ceilingBy (nearest k) held = choose (eqb (length held) k) (some (greatestHeld held)) none
 ceilingBy (inDrive seconds) held = some seconds
 
--- what measuring a yard answers
+-- what measuring a yard answers: both its numbers, or that its aggregate is above
 pub data Measured : Type 0 where
-  exact : ℕ → Measured
+  exact : (aggregate furthest : ℕ) → Measured
   above : Measured
 
--- "either the true aggregate or "above", which it gives exactly when the aggregate exceeds the ceiling"
-unfoldable pub measuredBy : (ceiling : Option ℕ) → ℕ → Measured
-measuredBy ceiling n = choose (exceeds ceiling n) above (exact n)
+-- "either the true aggregate or "above", which it gives exactly when the aggregate exceeds the ceiling"; with the
+-- aggregate the distance of the furthest crew, since a yard whose aggregate equals the ceiling may still enter
+unfoldable pub measuredBy : (ceiling : Option ℕ) → (aggregate furthest : ℕ) → Measured
+measuredBy ceiling n m = choose (exceeds ceiling n) above (exact n m)
 
 -- a yard that is above changes nothing in what is held, by either rule
 abbrev pub AboveKept : Type 0

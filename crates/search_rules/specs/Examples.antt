@@ -34,9 +34,9 @@ onChain along code k crews yards regions = record {
 unfoldable pub at : (distance yard : ℕ) → Element
 at distance yard = record { distance = distance; yard = yard; kinds = 255 }
 
--- a yard with its aggregate
-unfoldable pub found : (distance yard : ℕ) → Entry
-found distance yard = record { distance = distance; yard = yard }
+-- a yard with its aggregate and the distance of its furthest crew
+unfoldable pub found : (distance furthest yard : ℕ) → Entry
+found distance furthest yard = record { distance = distance; furthest = furthest; yard = yard }
 
 -- a leaf of junctions from first up to after
 unfoldable pub leafOf : (first after : ℕ) → List Mark → List Element → Region
@@ -192,10 +192,10 @@ pub record Worked : Type 0 where
       ≡ (1 ∷ []) ++ 1 ∷ unqueued ∷ unqueued ∷ []
   -- "each yard whose aggregate is at most a given number of seconds": on the chain of six yards 3, 4 and 5 are 8, 10
   -- and 18 from the crew. Within 10: a key that equals the seconds is taken, and an aggregate that does is listed.
-  pub drive-of-10 : lists (driven 10 six) 9 ≡ found 8 3 ∷ found 10 4 ∷ []
+  pub drive-of-10 : lists (driven 10 six) 9 ≡ found 8 8 3 ∷ found 10 10 4 ∷ []
   -- "settled when the queue is empty or every queued key is above the seconds": within 9 after step 4, when yard 4 is
   -- queued at 10; within 7 before the first step, the root's key being 8
-  pub drive-of-9 : lists (driven 9 six) 9 ≡ found 8 3 ∷ []
+  pub drive-of-9 : lists (driven 9 six) 9 ≡ found 8 8 3 ∷ []
   pub stops-above : counts (driven 9 six) 9 ++ counts (driven 7 six) 9 ≡ (4 ∷ 1 ∷ []) ++ 0 ∷ 0 ∷ []
   -- a yard measured above the seconds is measured and not held
   pub measured-above : lists (driven 1 across) 9 ≡ []
@@ -210,7 +210,7 @@ pub record Worked : Type 0 where
       ≡ (unqueued ∷ unqueued ∷ unqueued ∷ []) ++ unqueued ∷ unqueued ∷ unqueued ∷ unqueued ∷ 10 ∷ unqueued ∷ []
   -- Step 3 measures it, and the queue is empty.
   pub wanted-3 : measuredAfter fourOnly 3 ++ counts fourOnly 9 ≡ (4 ∷ []) ++ 3 ∷ 1 ∷ []
-  pub wanted-list : lists fourOnly 9 ≡ found 10 4 ∷ []
+  pub wanted-list : lists fourOnly 9 ≡ found 10 10 4 ∷ []
   -- "its next yard, the next f and whether any remain concern wanted ones alone": on net N the leaf's first key is 2,
   -- and yards 1, 3 and 4 have the f 5, 13 and 15. Yard 1 leaves; the leaf is queued again at 13, or at 15 without yard
   -- 3.
@@ -227,7 +227,7 @@ pub record Worked : Type 0 where
   pub vain-4 : regionKeysAfter (driven 18 inVain) 4 ++ yardKeysAfter (driven 18 inVain) 4
       ≡ (unqueued ∷ unqueued ∷ unqueued ∷ []) ++ unqueued ∷ unqueued ∷ unqueued ∷ unqueued ∷ unqueued ∷ unqueued ∷ []
   pub vain-counts : counts (driven 18 inVain) 9 ++ counts inVain 9 ≡ (4 ∷ 1 ∷ []) ++ 3 ∷ 1 ∷ []
-  pub vain-list : lists (driven 18 inVain) 9 ≡ found 10 4 ∷ []
+  pub vain-list : lists (driven 18 inVain) 9 ≡ found 10 10 4 ∷ []
   pub vain-leaves : barrens inVain ∷ barrens fourOnly ∷ barrens six ∷ [] ≡ 1 ∷ 0 ∷ 0 ∷ []
   -- "such a root settles empty with 0 taken", under the limit 0 too
   pub none-queued : regionKeysAfter noneWanted 0 ≡ unqueued ∷ unqueued ∷ unqueued ∷ []

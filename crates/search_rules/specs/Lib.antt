@@ -12,4 +12,5 @@ pub mod Facts
 pub mod Theorems
 pub mod Ceiling
 pub mod Walks
+pub mod Fairness
 pub mod Examples

@@ -12,7 +12,7 @@ use Rattle.tree_layout.specs.Values.{Element, Mark}
 use Rattle.tree.specs.Yards.{inners}
 use Rattle.search_rules.specs.Rule.{Rule, nearest, inDrive}
 use Rattle.search_rules.specs.Instance.{Instance, size, marks, leaf}
-use Rattle.search_rules.specs.Bounds.{lower, upper, bound, total, weight, chosen, f, yardBound}
+use Rattle.search_rules.specs.Bounds.{lower, upper, bound, total, furthest, weight, chosen, f, yardBound}
 use Rattle.search_rules.specs.Queue.{unqueued, wordAt}
 use Rattle.search_rules.specs.Order.{Entry, YardBefore}
 use Rattle.search_rules.specs.Held.{greatestHeld, entry, ranked}
@@ -23,15 +23,22 @@ use Rattle.search_rules.specs.Facts.{Below}
 
 -- ---- lists of yards
 
--- "Yard order": each element comes before all that follow it
-abbrev pub Sorted : List Entry → Type 0
-Sorted [] = Unit {0}
-Sorted (h ∷ hs) = ((g : Entry) → Mem g hs → YardBefore h g) × Sorted hs
+-- in some order each element comes before all that follow it
+abbrev pub SortedBy : (Entry → Entry → Type 0) → List Entry → Type 0
+SortedBy before [] = Unit {0}
+SortedBy before (h ∷ hs) = ((g : Entry) → Mem g hs → before h g) × SortedBy before hs
 
--- a yard is left out of the first k: they are k, and it comes after every one of them
-pub record Out (k : ℕ) (first : List Entry) (h : Entry) : Type 0 where
+-- a yard is left out of the first k in some order: they are k, and it comes after every one of them
+pub record OutBy (before : Entry → Entry → Type 0) (k : ℕ) (first : List Entry) (h : Entry) : Type 0 where
   pub full : length first ≡ k
-  pub after : (g : Entry) → Mem g first → YardBefore g h
+  pub after : (g : Entry) → Mem g first → before g h
+
+-- both in yard order
+abbrev pub Sorted : List Entry → Type 0
+Sorted l = SortedBy YardBefore l
+
+abbrev pub Out : ℕ → List Entry → Entry → Type 0
+Out k first h = OutBy YardBefore k first h
 
 -- a yard is left out by a rule: of the first k as above, of a drive because it is further than the seconds
 abbrev pub LeftOut : Rule → List Entry → Entry → Type 0
@@ -80,6 +87,7 @@ barrens i = barrenFrom i (size i) 0
 pub record Listing (i : Instance) (list : List Entry) : Type 0 where
   pub sorted : Sorted list
   pub distances : (h : Entry) → Mem h list → h .distance ≡ total i (h .yard)
+  pub furthests : (h : Entry) → Mem h list → h .furthest ≡ furthest i (h .yard)
   pub distinct : (h g : Entry) → Mem h list → Mem g list → h .yard ≡ g .yard → h ≡ g
   pub in-tree : (h : Entry) → Mem h list → Below i 0 (h .yard)
   pub allowed : Allowed (i .rule) list

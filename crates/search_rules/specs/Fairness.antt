@@ -1,0 +1,61 @@
+-- "Ties go to the fairer yard": yard order is total, and how it stands to the order that was before it. Assumes nothing:
+-- these are statements.
+use mathlib.Core.Path.{_≡_}
+use mathlib.Core.Logic.{_⊎_, _≢_, _↔_}
+use mathlib.Core.List.{List, map, List·Memᴰ as Mem}
+use Prim.Native.Nat.{ℕ, _<_}
+use Rattle.book.specs.Lists.{Distinct}
+use Rattle.road_layout.specs.Road.{junctions}
+use Rattle.adjacency.specs.Arcs.{Arc, net}
+use Rattle.road.specs.Facts.{Passing}
+use Rattle.search_rules.specs.Order.{Entry, YardBefore}
+use Rattle.search_rules.specs.Walks.{TrueEntry, FirstBy, DriveBy}
+
+-- what yard order was before: "by aggregate, then junction number"
+abbrev pub NumberBefore : Entry → Entry → Type 0
+NumberBefore e g = (e .distance < g .distance) ⊎ ((e .distance ≡ g .distance) × (e .yard < g .yard))
+
+-- one of two holds, and the other does not
+abbrev pub ExactlyOne : Type 0 → Type 0 → Type 0
+ExactlyOne A B = (A × (B → ⊥)) ⊎ (B × (A → ⊥))
+
+-- the aggregates of some yards, place by place
+abbrev pub aggregates : List Entry → List ℕ
+aggregates list = map (λ (e : Entry). e .distance) list
+
+-- ---- the order
+
+pub record TotalOrder : Type 0 where
+  -- "of two different yards exactly one comes first"
+  pub one-first : (e g : Entry) → e .yard ≢ g .yard → ExactlyOne (YardBefore e g) (YardBefore g e)
+  -- no yard comes before itself, and what comes before another comes before all that come after that one
+  pub not-itself : (e : Entry) → YardBefore e e → ⊥
+  pub onward : (e g h : Entry) → YardBefore e g → YardBefore g h → YardBefore e h
+
+-- ---- the lists of before, in the order that was, beside the lists of now
+
+-- of the first k of some yards, and of those within a drive; whatever the roads
+pub record AsBefore (arcs : List Arc) (crews ys : List ℕ) : Type 0 where
+  -- under the maximum (code 1) the order is what it was: of two yards with their true numbers, and so of lists
+  pub maximum : (e g : Entry) → TrueEntry arcs 1 crews e → TrueEntry arcs 1 crews g
+      → YardBefore e g ↔ NumberBefore e g
+  pub maximum-first : (k : ℕ) (list : List Entry)
+      → FirstBy YardBefore arcs 1 k crews ys list ↔ FirstBy NumberBefore arcs 1 k crews ys list
+  pub maximum-drive : (seconds : ℕ) (list : List Entry)
+      → DriveBy YardBefore arcs 1 seconds crews ys list ↔ DriveBy NumberBefore arcs 1 seconds crews ys list
+  -- under the sum (code 0, and any other) the lists of before and of now have the same aggregates, place by place
+  pub first : (code k : ℕ) (now before : List Entry) → FirstBy YardBefore arcs code k crews ys now
+      → FirstBy NumberBefore arcs code k crews ys before → aggregates now ≡ aggregates before
+  pub drive : (code seconds : ℕ) (now before : List Entry) → DriveBy YardBefore arcs code seconds crews ys now
+      → DriveBy NumberBefore arcs code seconds crews ys before → aggregates now ≡ aggregates before
+
+-- there are such lists of before: of yards, each once, and crews at the junctions of a road book that passes
+pub record WereListed (road : List ℕ) (code : ℕ) (crews ys : List ℕ) : Type 0 where
+  pub first : (k : ℕ) → (before : List Entry) × FirstBy NumberBefore (net road) code k crews ys before
+  pub drive : (seconds : ℕ) → (before : List Entry) × DriveBy NumberBefore (net road) code seconds crews ys before
+
+abbrev pub TiesFair : Type 0
+TiesFair = TotalOrder × ((arcs : List Arc) (crews ys : List ℕ) → AsBefore arcs crews ys)
+    × ((road : List ℕ) → Passing road → (code : ℕ) (crews ys : List ℕ)
+    → ((q : ℕ) → Mem q crews → q < junctions road) → Distinct ys → ((y : ℕ) → Mem y ys → y < junctions road)
+    → WereListed road code crews ys)
