@@ -19,7 +19,7 @@ use Rattle.search_rules.specs.Keeping.{front}
 use Rattle.search_rules.specs.Step.{SearchState, settled}
 use Rattle.search_rules.specs.Run.{run}
 use Rattle.search_rules.specs.Facts.{Below, WellFormed, SoundInstance}
-use Rattle.search_rules.specs.Theorems.{Sorted, Out, LeftOut, Allowed, TreeYards, Listing, Complete}
+use Rattle.search_rules.specs.Theorems.{SortedBy, Sorted, Out, LeftOut, Allowed, TreeYards, Listing, Complete}
 use Rattle.search_rules.proofs.Order.{before-not}
 use Rattle.search_rules.proofs.Held.{ranked-mem, ranked-in, ranked-sorted, greatestHeld-le}
 use Rattle.search_rules.proofs.Fronts.{front-mem, front-sorted, front-allowed, front-rest}
@@ -54,9 +54,9 @@ module _ {A : Type 0} where
 
 -- ---- what a rule asks for of some elements, in yard order, is one list
 
-sorted-distinct : (l : List Entry) → Sorted l → Distinct l
-sorted-distinct [] s = tt
-sorted-distinct (h ∷ l) s = ((λ k. before-not (s .0 h k) (s .0 h k)), sorted-distinct l (s .1))
+pub sorted-distinct : (A : Entry → Entry → Type 0) → ((e : Entry) → A e e → ⊥) → (l : List Entry) → SortedBy A l → Distinct l
+sorted-distinct A n [] s = tt
+sorted-distinct A n (h ∷ l) s = ((λ k. n h (s .0 h k)), sorted-distinct A n l (s .1))
 
 -- Two lists in yard order with the same members are equal.
 sorted-same : (l m : List Entry) → Sorted l → Sorted m → ((h : Entry) → Mem h l → Mem h m) → ((h : Entry) → Mem h m → Mem h l) → l ≡ m
@@ -86,7 +86,7 @@ sorted-same (x ∷ l) (y ∷ m) s t f g = cc (
     back h k (inr j) = j
 
 -- l has what a rule asks for, in yard order, of the elements that P holds of.
-record Asked (P : Entry → Type 0) (r : Rule) (l : List Entry) : Type 0 where
+pub record Asked (P : Entry → Type 0) (r : Rule) (l : List Entry) : Type 0 where
   pub sorted : Sorted l
   pub among : (h : Entry) → Mem h l → P h
   pub allowed : Allowed r l
@@ -110,7 +110,7 @@ asked-sub P (nearest k) l m a b h j = go (b .rest h (a .among h j))
       arith,
       o .full,
       a .allowed,
-      fewer (h ∷ m) l ((λ x. before-not (o .after h x) (o .after h x)), sorted-distinct m (b .sorted)) (λ g
+      fewer (h ∷ m) l ((λ x. before-not (o .after h x) (o .after h x)), sorted-distinct YardBefore (λ e x. before-not x x) m (b .sorted)) (λ g
           x. spread o g (cases-cons x)),
     ))
 asked-sub P (inDrive s) l m a b h j = go (b .rest h (a .among h j))
@@ -120,7 +120,7 @@ asked-sub P (inDrive s) l m a b h j = go (b .rest h (a .among h j))
     go (inr f) = absurd (omega (arith, a .allowed h j))
 
 -- There is one such list.
-asked-one : (P : Entry → Type 0) (r : Rule) (l m : List Entry) → Asked P r l → Asked P r m → l ≡ m
+pub asked-one : (P : Entry → Type 0) (r : Rule) (l m : List Entry) → Asked P r l → Asked P r m → l ≡ m
 asked-one P r l m a b = sorted-same l m (a .sorted) (b .sorted) (asked-sub P r l m a b) (asked-sub P r m l b a)
 
 -- two elements of a list in yard order that name one yard at one distance are one

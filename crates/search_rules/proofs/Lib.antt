@@ -22,6 +22,9 @@ pub mod Theorems
 pub mod Asked
 pub mod ByKinds
 pub mod Walks
+pub mod AsBefore
+pub mod WereListed
+pub mod Fairness
 pub mod Agreeing
 pub mod Versions
 pub mod WithoutKinds
@@ -32,4 +35,5 @@ pub mod Taking
 pub mod Measures
 pub mod Vectors
 pub mod Worked
+pub mod WorkedTies
 pub mod Example

@@ -25,7 +25,7 @@ use Rattle.search_rules.specs.Keeping.{front}
 use Rattle.search_rules.specs.Run.{answer}
 use Rattle.search_rules.specs.Facts.{Below, SoundInstance}
 use Rattle.search_rules.specs.Order.{Entry, YardBefore}
-use Rattle.search_rules.specs.Theorems.{Sorted, LeftOut, Allowed, TreeYards, Listing}
+use Rattle.search_rules.specs.Theorems.{SortedBy, LeftOut, Allowed, TreeYards, Listing}
 use Rattle.search_rules.specs.Walks.{AggregateLeast, none, more, TrueEntry, FirstYards, DriveYards}
 use Rattle.search_rules.proofs.Order.{before-not}
 use Rattle.search_rules.proofs.Held.{ranked-length}
@@ -33,16 +33,16 @@ use Rattle.search_rules.proofs.Found.{entry-same, run-complete}
 use Rattle.search_rules.proofs.Theorems.{answer-settled, answer-listed, answer-listing, answer-exact}
 use Rattle.search_rules.proofs.Asked.{asked-yards, asked-there}
 
--- yards of a list in yard order whose equal yards are one are distinct
-pub yards-distinct : (l : List Entry) → Sorted l → ((h g : Entry) → Mem h l → Mem g l → h .yard ≡ g .yard → h ≡ g) → Distinct (map (λ (e : Entry). e .yard) l)
-yards-distinct [] s d = tt
-yards-distinct (h ∷ l) s d = (
+-- yards of a list in some order whose equal yards are one are distinct
+pub yards-distinct : (A : Entry → Entry → Type 0) → ((e : Entry) → A e e → ⊥) → (l : List Entry) → SortedBy A l
+    → ((h g : Entry) → Mem h l → Mem g l → h .yard ≡ g .yard → h ≡ g) → Distinct (map (λ (e : Entry). e .yard) l)
+yards-distinct A n [] s d = tt
+yards-distinct A n (h ∷ l) s d = (
   (λ m.
       let (g, j, e) = map-mem (λ (x : Entry). x .yard) l (h .yard) m in
-      let b : YardBefore h g = s .0 g j in
-      let c : YardBefore h h = rw (← d h g (head refl) (tail j) e) at b in
-      before-not c c),
-  yards-distinct l (s .1) (λ x g a b. d x g (tail a) (tail b)),
+      let b : A h g = s .0 g j in
+      n h (rw (← d h g (head refl) (tail j) e) at b)),
+  yards-distinct A n l (s .1) (λ x g a b. d x g (tail a) (tail b)),
 )
 
 -- ---- an aggregate of distances is that of the walks' least totals, and no other number is
@@ -126,7 +126,7 @@ module _ (road tree : List ℕ) (a : Asking) (crews : List ℕ) (p : Passed road
         rw (answer-listed i limit t, true-entry h (yard-there (h .yard) b) s) (run-complete i sound limit (rw (answer-settled i limit) at t) .rest (h .yard) b)
 
     pub listed-once : Distinct (map (λ (e : Entry). e .yard) (answer i limit .listed))
-    listed-once = yards-distinct (answer i limit .listed) (l .sorted) (l .distinct)
+    listed-once = yards-distinct YardBefore (λ e b. before-not b b) (answer i limit .listed) (l .sorted) (l .distinct)
 
     pub listed-front : answer i limit .listed ≡ front (a .rule) (ranked i wanted)
     unfolding searchOf

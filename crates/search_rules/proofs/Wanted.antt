@@ -72,7 +72,7 @@ distinct-map f (x ∷ l) d h = (
   distinct-map f l (d .1) (λ u v k j. h u v (tail k) (tail j)),
 )
 
-length-map : {A B : Type 0} (f : A → B) (l : List A) → length (map f l) ≡ length l
+pub length-map : {A B : Type 0} (f : A → B) (l : List A) → length (map f l) ≡ length l
 length-map f [] = refl
 length-map f (x ∷ l) = ap suc (length-map f l)
 

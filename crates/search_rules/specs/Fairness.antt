@@ -36,14 +36,14 @@ pub record TotalOrder : Type 0 where
 
 -- of the first k of some yards, and of those within a drive; whatever the roads
 pub record AsBefore (arcs : List Arc) (crews ys : List ℕ) : Type 0 where
-  -- under the maximum (code 1) the order is what it was: of two yards with their true numbers, and so of lists
+  -- under the maximum (code 1) the order is what it was, of any two yards with their true numbers, and so are the lists
   pub maximum : (e g : Entry) → TrueEntry arcs 1 crews e → TrueEntry arcs 1 crews g
       → YardBefore e g ↔ NumberBefore e g
-  pub maximum-first : (k : ℕ) (list : List Entry)
-      → FirstBy YardBefore arcs 1 k crews ys list ↔ FirstBy NumberBefore arcs 1 k crews ys list
-  pub maximum-drive : (seconds : ℕ) (list : List Entry)
-      → DriveBy YardBefore arcs 1 seconds crews ys list ↔ DriveBy NumberBefore arcs 1 seconds crews ys list
-  -- under the sum (code 0, and any other) the lists of before and of now have the same aggregates, place by place
+  pub maximum-first : (k : ℕ) (now before : List Entry) → FirstBy YardBefore arcs 1 k crews ys now
+      → FirstBy NumberBefore arcs 1 k crews ys before → now ≡ before
+  pub maximum-drive : (seconds : ℕ) (now before : List Entry) → DriveBy YardBefore arcs 1 seconds crews ys now
+      → DriveBy NumberBefore arcs 1 seconds crews ys before → now ≡ before
+  -- under the sum (code 0; under any) the lists of before and of now have the same aggregates, place by place
   pub first : (code k : ℕ) (now before : List Entry) → FirstBy YardBefore arcs code k crews ys now
       → FirstBy NumberBefore arcs code k crews ys before → aggregates now ≡ aggregates before
   pub drive : (code seconds : ℕ) (now before : List Entry) → DriveBy YardBefore arcs code seconds crews ys now
