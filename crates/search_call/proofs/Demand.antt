@@ -22,6 +22,7 @@ use Rattle.search_rules.specs.Run.{words, run, answer}
 use Rattle.search_rules.specs.Facts.{Below, WellFormed, SoundInstance}
 use Rattle.search_rules.specs.Rule.{Rule, nearest, inDrive, Asking}
 use Rattle.search_rules.specs.Instance.{Instance}
+use Rattle.search_rules.specs.Order.{YardBefore}
 use Rattle.search_rules.specs.Books.{searchOf}
 use Rattle.search_rules.specs.Walks.{FirstYards, DriveYards}
 use Rattle.search_rules.specs.Theorems.{NotPast, Listing, Decided as RulesDecided}
@@ -31,7 +32,9 @@ use Rattle.search_rules.proofs.ByKinds.{asked-wanted, asked-in, asked-out, aske
 use Rattle.search_rules.proofs.Asked.{asked-rule, asked-covers, asked-there, asked-ends, asked-settles}
 use Rattle.search_rules.proofs.Theorems.{decided, answer-taken, answer-measured, answer-listed, answer-listing, answer-spent, words-length, unrooted-answer}
 use Rattle.search_rules.proofs.Level.{run-bound-within}
-use Rattle.search_rules.proofs.Walks.{yards-distinct, total-least, first-yards, drive-yards}
+use Rattle.search_rules.proofs.Order.{before-not}
+use Rattle.search_rules.proofs.Found.{entry-same}
+use Rattle.search_rules.proofs.Walks.{yards-distinct, entry-true, first-yards, drive-yards}
 use Rattle.search_rules.proofs.Fronts.{nearest-allowed, drive-allowed, nearest-not-past, drive-not-past}
 use Rattle.search_call.specs.Call.{ruleBy, askingBy, accepted, Call, Areas, Search, searches}
 use Rattle.search_call.specs.Demand.{OnPassing, NotRefused, Settled, ForYards, ForDrive, code, k, crews, arcs, limit, yards, wantedYards, innerRegions, instanceOf, list, Full, lastDistance, measured}
@@ -110,9 +113,9 @@ module _ (s : Search) where
     true-list t =
         let l : Listing (instanceOf s) (list s) = answer-listing (instanceOf s) well (limit s) t in
         record {
-          distances = λ e j. rw (l .distances e j)
-              (total-least road tree asking (crews s) p (e .yard) (asked-there road tree asking (crews s) p (e .yard) (l .in-tree e j)));
-          distinct = yards-distinct (list s) (l .sorted) (l .distinct);
+          entries = λ e j. rw (entry-same (instanceOf s) (l .distances e j) (l .furthests e j))
+              (entry-true road tree asking (crews s) p (e .yard) (asked-there road tree asking (crews s) p (e .yard) (l .in-tree e j)));
+          distinct = yards-distinct YardBefore (λ e b. before-not b b) (list s) (l .sorted) (l .distinct);
           sorted = l .sorted;
           in-tree = λ e j. covers (e .yard) (l .in-tree e j);
           few = λ e. nearest-allowed (instanceOf s .rule) (k s) (list s) (for-yards e) (l .allowed);

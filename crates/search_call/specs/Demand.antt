@@ -29,7 +29,7 @@ use Rattle.search_rules.specs.Queue.{unqueued, wordAt}
 use Rattle.search_rules.specs.Held.{greatestHeld}
 use Rattle.search_rules.specs.Run.{words, run, answer}
 use Rattle.search_rules.specs.Theorems.{Sorted}
-use Rattle.search_rules.specs.Walks.{AggregateLeast, FirstYards, DriveYards}
+use Rattle.search_rules.specs.Walks.{TrueEntry, FirstYards, DriveYards}
 use Rattle.search_call.specs.Call.{Found, refused, Call, Areas, Search, searchIn, searchAnswer, overStart}
 use Rattle.search_call.specs.Call.{foundOn, callOn, searches, areasAfter}
 
@@ -143,8 +143,8 @@ overwritten (l ∷ ls) results = overwritten ls (overStart (words l) results)
 -- of any list of calls, and what the two areas hold before the first
 pub record Promised (calls : List Call) (first : Areas) : Type 0 where
   -- "each settled search on a tree that passes has listed exactly the first k of the tree's" wanted "yards, or all if
-  -- fewer, by aggregate least distance and then junction number, each with that distance; so no yard left out comes
-  -- before one listed"
+  -- fewer, by aggregate least distance", then the distance of the furthest crew, "and then junction number, each with
+  -- that distance; so no yard left out comes before one listed"
   pub exact : (s : Search) → Mem s (searches calls first) → OnPassing s → Settled s → ForYards s
       → FirstYards (arcs s) (code s) (k s) (crews s) (wantedYards s) (list s)
   -- "a settled list holds exactly the tree's" wanted "yards within the drive", in yard order, each with its distance
@@ -175,7 +175,7 @@ Demand3 = (calls : List Call) → OfBytes calls → (first : Areas) → Promised
 -- what a settled list has on any tree: "true distances, distinct yards and yard order"; its yards are wanted ones
 -- of the tree, and no more than k, or within the seconds
 pub record TrueList (s : Search) : Type 0 where
-  pub distances : (e : Entry) → Mem e (list s) → AggregateLeast (arcs s) (code s) (e .yard) (crews s) (e .distance)
+  pub entries : (e : Entry) → Mem e (list s) → TrueEntry (arcs s) (code s) (crews s) e
   pub distinct : Distinct (map (λ (e : Entry). e .yard) (list s))
   pub sorted : Sorted (list s)
   pub in-tree : (e : Entry) → Mem e (list s) → Mem (e .yard) (wantedYards s)

@@ -22,6 +22,7 @@ pub mod Theorems
 pub mod Asked
 pub mod ByKinds
 pub mod Walks
+pub mod SameSteps
 pub mod AsBefore
 pub mod WereListed
 pub mod Fairness

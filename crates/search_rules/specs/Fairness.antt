@@ -2,13 +2,23 @@
 -- these are statements.
 use mathlib.Core.Path.{_≡_}
 use mathlib.Core.Logic.{_⊎_, _≢_, _↔_}
-use mathlib.Core.List.{List, map, List·Memᴰ as Mem}
+use mathlib.Core.Bool.{Bool, _&&_, _||_}
+use mathlib.Core.List.{List, [], _∷_, map, List·Memᴰ as Mem}
 use Prim.Native.Nat.{ℕ, _<_}
+use lib.ListN.{take}
+use lib.Dec.{ltb, leb, eqb}
+use Rattle.book.specs.Choose.{choose}
 use Rattle.book.specs.Lists.{Distinct}
 use Rattle.road_layout.specs.Road.{junctions}
 use Rattle.adjacency.specs.Arcs.{Arc, net}
 use Rattle.road.specs.Facts.{Passing}
+use Rattle.search_rules.specs.Rule.{Rule, nearest, inDrive}
+use Rattle.search_rules.specs.Instance.{Instance}
 use Rattle.search_rules.specs.Order.{Entry, YardBefore}
+use Rattle.search_rules.specs.Held.{entry}
+use Rattle.search_rules.specs.Keeping.{enoughBy}
+use Rattle.search_rules.specs.Run.{run}
+use Rattle.search_rules.specs.Ceiling.{ceilingBy}
 use Rattle.search_rules.specs.Walks.{TrueEntry, FirstBy, DriveBy}
 
 -- what yard order was before: "by aggregate, then junction number"
@@ -54,8 +64,38 @@ pub record WereListed (road : List ℕ) (code : ℕ) (crews ys : List ℕ) : Typ
   pub first : (k : ℕ) → (before : List Entry) × FirstBy NumberBefore (net road) code k crews ys before
   pub drive : (seconds : ℕ) → (before : List Entry) × DriveBy NumberBefore (net road) code seconds crews ys before
 
+-- ---- the steps, on any tree
+
+-- the order that was, as a test
+unfoldable pub numberFirst : Entry → Entry → Bool
+numberFirst e g = ltb (e .distance) (g .distance) || (eqb (e .distance) (g .distance) && ltb (e .yard) (g .yard))
+
+-- e put before the first that it came before
+unfoldable pub insertBefore : Entry → List Entry → List Entry
+insertBefore e [] = e ∷ []
+insertBefore e (h ∷ hs) = choose (numberFirst e h) (e ∷ h ∷ hs) (h ∷ insertBefore e hs)
+
+-- what was held of some measured yards, the last one first: "the k least so far", or each within the seconds
+unfoldable pub heldBefore : Rule → List Entry → List Entry
+heldBefore rule [] = []
+heldBefore (nearest k) (e ∷ es) = take k (insertBefore e (heldBefore (nearest k) es))
+heldBefore (inDrive seconds) (e ∷ es) =
+    let held = heldBefore (inDrive seconds) es in
+    choose (leb (e .distance) seconds) (insertBefore e held) held
+
+-- A step reads what is held by its aggregates alone, and these are what they were: so searches take the steps that they
+-- took, measure the yards that they measured and settle when they did, and their lists have the same aggregates, on a
+-- tree "that check would refuse by 9" too.
+pub record SameSteps : Type 0 where
+  pub enough : (rule : Rule) (now before : List Entry) (key : ℕ) → aggregates now ≡ aggregates before
+      → enoughBy rule now key ≡ enoughBy rule before key
+  pub ceiling : (rule : Rule) (now before : List Entry) → aggregates now ≡ aggregates before
+      → ceilingBy rule now ≡ ceilingBy rule before
+  pub held : (i : Instance) (steps : ℕ) → aggregates (run i steps .state .held)
+      ≡ aggregates (heldBefore (i .rule) (map (entry i) (run i steps .state .measured)))
+
 abbrev pub TiesFair : Type 0
-TiesFair = TotalOrder × ((arcs : List Arc) (crews ys : List ℕ) → AsBefore arcs crews ys)
+TiesFair = TotalOrder × SameSteps × ((arcs : List Arc) (crews ys : List ℕ) → AsBefore arcs crews ys)
     × ((road : List ℕ) → Passing road → (code : ℕ) (crews ys : List ℕ)
     → ((q : ℕ) → Mem q crews → q < junctions road) → Distinct ys → ((y : ℕ) → Mem y ys → y < junctions road)
     → WereListed road code crews ys)

@@ -36,8 +36,8 @@ use Rattle.search_state.proofs.Newest.{newest-none}
 use Rattle.search_bounds.specs.code.Bounds.{rowsBound}
 use Rattle.search_bounds.proofs.Searching.{bound-of}
 use Rattle.search_leaf.specs.code.Ready.{Ready, Cached, unopened}
-use Rattle.search_step.specs.code.Children.{wantedIn}
-use Rattle.search_step.proofs.Queueing.{wanted-is}
+use Rattle.search_inner.specs.code.Children.{wantedIn}
+use Rattle.search_inner.proofs.Queueing.{wanted-is}
 use Rattle.search_step.proofs.Opening.{cached-by, regions-of, junctions-are}
 use Rattle.search_step.proofs.Taking.{some-region}
 use Rattle.search_run.specs.code.Answers.{putRoot}

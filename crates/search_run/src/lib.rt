@@ -3,7 +3,6 @@ use search_bounds::regions;
 use search_held::Asked;
 use search_held::Kept;
 use search_step::Progress;
-use search_step::inner;
 use tree_layout::Region;
 use tree_layout::records;
 ghost use mathlib.Core.Path.{_≡_};
@@ -20,7 +19,7 @@ ghost use Rattle.search_held.specs.code.Rules.{ruleOf, askingOf, countBy, Fits,
 ghost use Rattle.search_bounds.specs.code.Rows.{Rows};
 ghost use Rattle.search_bounds.specs.code.Bounds.{rowsBound, Crews};
 ghost use Rattle.search_state.specs.code.State.{wordCount, valueCount};
-ghost use Rattle.search_step.specs.code.Children.{wantedIn, Ended};
+ghost use Rattle.search_inner.specs.code.Children.{wantedIn, Ended};
 ghost use Rattle.search_leaf.specs.code.Ready.{Ready};
 ghost use Rattle.search_step.specs.code.Prepared.{IsPrepared};
 ghost use Rattle.search_run.specs.code.Answers.{putRoot, answerOf};
@@ -61,7 +60,7 @@ fn queue_root(
     let h = records::header(tree);
     let rows = h.landmarks as usize;
     let root = Region { number: 0 };
-    if !inner::wanted(tree, places, asked.wanted, root) {
+    if !search_inner::wanted(tree, places, asked.wanted, root) {
         return;
     }
     let w = regions::region_bound(tree, places, table, rows, asked.aggregate, crews, root);

@@ -1,3 +1,2 @@
 pub mod Opening
 pub mod Taking
-pub mod Queueing

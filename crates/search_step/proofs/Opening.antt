@@ -30,8 +30,8 @@ use Rattle.search_bounds.specs.code.Bounds.{rowsBound}
 use Rattle.search_bounds.proofs.Searching.{bound-of}
 use Rattle.search_state.specs.code.State.{regionKeysIn, yardKeysIn, firstsIn, picksIn, fsIn, boundsIn, goneIn, stateOf}
 use Rattle.search_state.proofs.Cells.{Parts, parts-of, store-key, state-by, counts-of}
-use Rattle.search_step.specs.code.Children.{wantedIn, keyOf, putKeys, Slots}
-use Rattle.search_step.proofs.Queueing.{wanted-is, key-of, put-parts}
+use Rattle.search_inner.specs.code.Children.{wantedIn, keyOf, putKeys, Slots}
+use Rattle.search_inner.proofs.Queueing.{wanted-is, key-of, put-parts}
 use Rattle.search_leaf.specs.code.Ready.{Ready, Cached, Leafed}
 use Rattle.search_leaf.proofs.Landmarks.{size-of, tree-junctions}
 use Rattle.search_step.specs.code.Regions.{RegionQueued}

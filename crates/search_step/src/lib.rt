@@ -1,5 +1,4 @@
 // One step of a search.
-pub mod inner; // inner.rt: an inner region is taken: it queues its children.
 mod measuring; // measuring.rt: a yard is taken
 mod regions; // regions.rt: a region is taken
 
@@ -16,7 +15,7 @@ ghost use Rattle.search_rules.specs.Books.{searchOf};
 ghost use Rattle.search_rules.specs.Step.{step};
 ghost use Rattle.search_held.specs.code.Rules.{ruleOf, askingOf, heldBy, countBy, Fits};
 ghost use Rattle.search_state.specs.code.State.{wordCount, picksIn, fsIn, boundsIn, stateOf};
-ghost use Rattle.search_step.specs.code.Children.{Ended};
+ghost use Rattle.search_inner.specs.code.Children.{Ended};
 ghost use Rattle.search_leaf.specs.code.Ready.{Ready, Cached};
 ghost use Rattle.search_step.specs.code.Prepared.{IsPrepared};
 ghost use Rattle.search_step.specs.code.Regions.{Going, FirstLeast};

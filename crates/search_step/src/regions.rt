@@ -1,5 +1,4 @@
 // A region is taken: a leaf queues its next yard and itself, an inner region its children.
-use crate::inner;
 use search_held::Asked;
 use tree_layout::Region;
 ghost use mathlib.Core.Path.{_≡_};
@@ -12,7 +11,7 @@ ghost use Rattle.search_rules.specs.Step.{takeRegion};
 ghost use Rattle.search_rules.specs.Order.{Entry};
 ghost use Rattle.search_held.specs.code.Rules.{askingOf};
 ghost use Rattle.search_state.specs.code.State.{picksIn, fsIn, boundsIn, stateOf};
-ghost use Rattle.search_step.specs.code.Children.{Ended};
+ghost use Rattle.search_inner.specs.code.Children.{Ended};
 ghost use Rattle.search_leaf.specs.code.Ready.{Ready, Readied, Cached};
 ghost use Rattle.search_step.specs.code.Regions.{RegionQueued};
 
@@ -60,5 +59,5 @@ pub fn take(
         search_leaf::take(tree, places, table, drives, crews, asked, words, values, r);
         return;
     }
-    inner::open_inner(tree, places, ends, table, crews, asked, words, r, a);
+    search_inner::open_inner(tree, places, ends, table, crews, asked, words, r, a);
 }

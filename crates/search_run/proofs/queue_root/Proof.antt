@@ -5,7 +5,7 @@ use native.Mathlib.Omega.{arith}
 use lib.ListN.{length-set}
 use Rattle.book.proofs.Choosing.{true-T, false-T}
 use Rattle.tree.proofs.Fielding.{laid-header, laid-few}
-use Rattle.search_step.proofs.Queueing.{counted}
+use Rattle.search_inner.proofs.Queueing.{counted}
 use Rattle.search_run.proofs.Starts.{some-place, put-out, root-put}
 use Rattle.search_run.proofs.queue_root.Statement.{statement}
 use Rattle.search_run.proofs.queue_root.Tie as tie

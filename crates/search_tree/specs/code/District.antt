@@ -10,7 +10,7 @@ use Rattle.road.specs.Refusal.{roadRefusal}
 use Rattle.tree_layout.specs.Decode.{junctionCount}
 use Rattle.tree.specs.Shape.{treeRefusal}
 use Rattle.tree.specs.Arrays.{Laid}
-use Rattle.search_step.specs.code.Children.{Ended}
+use Rattle.search_inner.specs.code.Children.{Ended}
 use Rattle.search_call.specs.Call.{treeRefusalIn}
 
 -- the number of the first test that turns one of the two books back, or 0: 1 to 6; then 1 to 5, 7 and 8

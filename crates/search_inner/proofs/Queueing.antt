@@ -28,7 +28,7 @@ use Rattle.search_rules.proofs.Steps.{queue-none, queue-more}
 use Rattle.search_bounds.specs.code.Bounds.{rowsBound}
 use Rattle.search_state.specs.code.State.{wordCount, firstsAt}
 use Rattle.search_state.proofs.Cells.{Parts, store-key, store-first}
-use Rattle.search_step.specs.code.Children.{wantedIn, keyOf, putKeys, Ended, Slots}
+use Rattle.search_inner.specs.code.Children.{wantedIn, keyOf, putKeys, Ended, Slots}
 
 -- whether a region's byte shares a bit, by its fields
 pub wanted-of : (tree : List ℕ) (w c : ℕ) (f : Fields) (r : Bool) → f ≡ fieldsOf tree c → r ≡ shares w (f .kinds) → r ≡ wantedIn tree w c

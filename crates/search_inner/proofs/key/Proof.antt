@@ -1,7 +1,7 @@
-use Rattle.search_step.proofs.Queueing.{key-of}
+use Rattle.search_inner.proofs.Queueing.{key-of}
 use borrow.Author.Needs.{needs}
-use Rattle.search_step.proofs.inner.key.Statement.{statement}
-use Rattle.search_step.proofs.inner.key.Tie as tie
+use Rattle.search_inner.proofs.key.Statement.{statement}
+use Rattle.search_inner.proofs.key.Tie as tie
 
 region-bound-requires : tie.Need-region-bound-requires
 region-bound-requires c κs = search needs

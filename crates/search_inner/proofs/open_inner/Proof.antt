@@ -8,10 +8,10 @@ use Rattle.book.proofs.Choosing.{true-T, false-T}
 use Rattle.tree_layout.specs.Decode.{junctionCount, landmarkCount}
 use Rattle.tree.proofs.Fielding.{laid-header, laid-few}
 use Rattle.tree.proofs.Recursing.{children-is}
-use Rattle.search_step.specs.code.Children.{wantedIn, keyOf}
-use Rattle.search_step.proofs.Queueing.{Counted, counted, Queueing, queueing-none, queueing-on, queueing-over, queueing-all, Next, next-slot, key-rows}
-use Rattle.search_step.proofs.inner.open_inner.Statement.{statement}
-use Rattle.search_step.proofs.inner.open_inner.Tie as tie
+use Rattle.search_inner.specs.code.Children.{wantedIn, keyOf}
+use Rattle.search_inner.proofs.Queueing.{Counted, counted, Queueing, queueing-none, queueing-on, queueing-over, queueing-all, Next, next-slot, key-rows}
+use Rattle.search_inner.proofs.open_inner.Statement.{statement}
+use Rattle.search_inner.proofs.open_inner.Tie as tie
 
 abbrev Inv-loop : tie.InvT-loop
 Inv-loop tree places ends table crews asked words₀ a rows firsts i n c₀ k₀ words c k =

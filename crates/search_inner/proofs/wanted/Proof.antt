@@ -1,7 +1,7 @@
-use Rattle.search_step.proofs.Queueing.{wanted-of}
+use Rattle.search_inner.proofs.Queueing.{wanted-of}
 use borrow.Author.Needs.{needs}
-use Rattle.search_step.proofs.inner.wanted.Statement.{statement}
-use Rattle.search_step.proofs.inner.wanted.Tie as tie
+use Rattle.search_inner.proofs.wanted.Statement.{statement}
+use Rattle.search_inner.proofs.wanted.Tie as tie
 
 fields-requires : tie.Need-fields-requires
 fields-requires c κs = search needs

@@ -14,7 +14,7 @@ ghost use Rattle.tree.specs.Yards.{childrenOf};
 ghost use Rattle.search_rules.specs.Queue.{unqueued};
 ghost use Rattle.search_bounds.specs.code.Rows.{Rows};
 ghost use Rattle.search_bounds.specs.code.Bounds.{Crews};
-ghost use Rattle.search_step.specs.code.Children.{wantedIn, keyOf, putKeys, Ended, Slots};
+ghost use Rattle.search_inner.specs.code.Children.{wantedIn, keyOf, putKeys, Ended, Slots};
 
 // Whether a region's byte shares a bit with the wanted byte.
 pub fn wanted(tree: &[u8], places: &[usize], kinds: u8, c: Region) -> bool
