@@ -37,6 +37,7 @@ use Rattle.build_tree.proofs.Theorems.{build-refusals, build-exact}
 use Rattle.build_tree.proofs.FirstFailing.{build-tests}
 use Rattle.query.proofs.Reading.{query-exact}
 use Rattle.search_rules.proofs.Ceiling.{above-kept}
+use Rattle.search_rules.proofs.Fairness.{ties-fair}
 use Rattle.search_measure.proofs.Measuring.{measures-true}
 use Rattle.search_call.specs.Call.{Want, mostYards, Call, Areas, treeRefusalIn, foundOn}
 use Rattle.search_call.proofs.Refusing.{counts-agree, long-enough, by-areas}
@@ -48,7 +49,7 @@ use Rattle.search_call.proofs.Agreeing.{searches-agree}
 use Rattle.search_call.proofs.Versions.{versions-agree}
 use Rattle.finder.specs.Promises.{SoundBooks, SoundTreeBook, FirstRefusal, AcceptedCheck, CheckSafe, CheckTrue, FirstBuildRefusal, BuildAccepted}
 use Rattle.finder.specs.Promises.{BuildSafe}
-use Rattle.finder.specs.Promises.{BuildTrue, FirstSearchRefusal, SearchAccepted, SearchSafe, SearchesTrue, SearchesDecided, YardsMeasured}
+use Rattle.finder.specs.Promises.{BuildTrue, FirstSearchRefusal, SearchAccepted, SearchSafe, SearchesTrue, SearchesDecided, YardsOrdered, YardsMeasured}
 use Rattle.finder.specs.Promises.{checkTests, buildTests, searchTests}
 
 -- ---- sound books are those that no test turns back
@@ -272,6 +273,9 @@ searches-true = demand-3
 
 pub searches-decided : SearchesDecided
 searches-decided = (any-tree, work-unread, searches-agree, versions-agree)
+
+pub yards-ordered : YardsOrdered
+yards-ordered = ties-fair
 
 pub yards-measured : YardsMeasured
 yards-measured = (measures-true, above-kept)

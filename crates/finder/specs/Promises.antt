@@ -36,6 +36,7 @@ use Rattle.build_tree.specs.Facts.{InRange, BuildAreas, writtenBook}
 use Rattle.query.specs.Query.{QueryLayout}
 use Rattle.query.specs.Tests.{queryTests}
 use Rattle.search_rules.specs.Ceiling.{AboveKept}
+use Rattle.search_rules.specs.Fairness.{TiesFair}
 use Rattle.search_measure.specs.Facts.{MeasuresTrue}
 use Rattle.search_call.specs.Call.{Want, mostYards, Call, Found, foundOn, callOn, Areas as Lent, refused as refusedWith}
 use Rattle.search_call.specs.Demand.{Promised, OfBytes, AnyTree, WorkUnread, SearchesAgree, VersionsAgree}
@@ -279,10 +280,10 @@ SearchSafe = (c : Call) (a : Lent) → SearchKept c a (foundOn c a) (callOn c a)
 -- Any list of searches of both kinds, mixed, on one work area and one result area, which hold anything at first: each
 -- is given both areas as the one before left them, and brings its own books. `Promised`
 -- (crates/search_call/specs/Demand.antt) has the demand's four sentences: a settled search on a tree that passes lists
--- exactly the first k wanted yards, or exactly those within its drive; none of these measured a yard whose bound
--- exceeds the last listed distance of a full list, or the seconds; enough steps always settle; at the end the result
--- area is what it held at first with all the settled lists written over its start in turn. A tree book is asked to be
--- of bytes, which a lent book is.
+-- exactly the first k wanted yards, or exactly those within its drive, in yard order; none of these measured a yard
+-- whose bound exceeds the last listed distance of a full list, or the seconds; enough steps always settle; at the end
+-- the result area is what it held at first with all the settled lists written over its start in turn. A tree book is
+-- asked to be of bytes, which a lent book is.
 abbrev pub SearchesTrue : Type 0
 SearchesTrue = (calls : List Call) → OfBytes calls → (first : Lent) → Promised calls first
 
@@ -292,12 +293,24 @@ SearchesTrue = (calls : List Call) → OfBytes calls → (first : Lent) → Prom
 abbrev pub SearchesDecided : Type 0
 SearchesDecided = AnyTree × WorkUnread × SearchesAgree × VersionsAgree
 
+-- ---- yard order
+--
+-- "Of two yards with the same sum, the one whose furthest crew is nearer now comes first, and only then the lower
+-- junction number. Yard order, and demand 3's order with it, reads so everywhere": `YardBefore`
+-- (crates/search_rules/specs/Order.antt), by which demand 3's lists go, with both numbers by the walks' own least
+-- totals (`TrueEntry`, of crates/search_rules/specs/Walks.antt). It is total: of two different yards exactly one comes
+-- first. Beside the order that was before (`NumberBefore`): under the maximum the lists are the same, and under the sum
+-- they have the same aggregates, place by place, by the same steps (crates/search_rules/specs/Fairness.antt).
+abbrev pub YardsOrdered : Type 0
+YardsOrdered = TiesFair
+
 -- ---- measuring
 --
 -- "measuring finds distances by walks of its own, also takes a ceiling and answers either the true aggregate or
 -- "above", which it gives exactly when the aggregate exceeds the ceiling. .. Each of its walks keeps in its state the
 -- junctions it has walked on from, and none of them is further than the ceiling along that walk.": `Measures`
--- (crates/search_measure/specs/Facts.antt) has these sentences, by the walks' own least totals. "Search uses the k-th
+-- (crates/search_measure/specs/Facts.antt) has these sentences, by the walks' own least totals; with the aggregate
+-- stands the distance of the furthest crew, since a yard whose aggregate equals the ceiling still competes. "Search uses the k-th
 -- held distance, or no ceiling until k are held; the drive search its seconds." (`ceilingBy`), and a yard that is above
 -- it changes nothing in what is held: so "Lists and counts come out as they did", by the same steps.
 abbrev pub YardsMeasured : Type 0

@@ -18,7 +18,7 @@ use Rattle.search_rules.specs.Step.{left, noElement, againKey, passed, w
 use Rattle.search_rules.specs.Step.{takeRegion, takeYard, nextRegion, nextYard, leastKey, step, settled, rootKeys, startSearch}
 use Rattle.search_rules.specs.Run.{advance, run, report, answer}
 use Rattle.search_rules.specs.Examples.{onChain, at, found, leafOf, driven, wanting, ended, counts, lists, measuredAfter}
-use Rattle.search_rules.specs.Ties.{between, three-way, WorkedTies}
+use Rattle.search_rules.specs.TieExamples.{between, three-way, WorkedTies}
 
 pub worked-ties : WorkedTies
 unfolding between three-way onChain at found leafOf driven wanting ended counts lists measuredAfter choose leafMark innerMark firstDistance lastFrom

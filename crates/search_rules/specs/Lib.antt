@@ -14,4 +14,4 @@ pub mod Ceiling
 pub mod Walks
 pub mod Fairness
 pub mod Examples
-pub mod Ties
+pub mod TieExamples
