@@ -26,7 +26,7 @@ use Rattle.search_state.proofs.Choosing.{picked-word}
 use Rattle.search_state.proofs.Settling.{settled-of}
 use Rattle.search_leaf.specs.code.Ready.{Ready, Cached}
 use Rattle.search_leaf.proofs.Landmarks.{well}
-use Rattle.search_step.specs.declared.Progress.{Progress}
+use Rattle.search_yard.specs.declared.Progress.{Progress}
 use Rattle.search_step.specs.code.Regions.{Going, FirstLeast}
 use Rattle.search_step.proofs.Opening.{regions-of, junctions-are}
 use Rattle.search_step.proofs.Taking.{some-region, some-junction}
@@ -45,7 +45,7 @@ pub record Steps (tree : List ℕ) (a : Asking) (crews drives places table : Lis
   pub size : length words ≡ wordCount (length places) (junctionCount tree)
   pub value-size : length values ≡ valueCount
   pub same : length measured ≡ room
-  pub list-size : length list ≡ 512
+  pub list-size : length list ≡ 768
   pub runs : (road : List ℕ) → Ready road tree a crews drives places table
       → Runs (searchOf road tree a crews) (length places) (junctionCount tree) words values
       (stateOf (length places) (junctionCount tree) words (heldBy (a .rule) (progress .kept) list) measured (progress .measured)) taken

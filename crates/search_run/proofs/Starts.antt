@@ -133,7 +133,7 @@ pub steps-start : (tree : List ℕ) (a : Asking) (crews drives places table : Li
     → words₀ ≡ replicate (wordCount (length places) (junctionCount tree)) unqueued
     → words ≡ putRoot (wantedIn tree (a .wanted) 0) (length places) (junctionCount tree)
     (rowsBound table (landmarkCount tree) (a .code) crews (regionAt (decode tree .regions) 0 .marks)) words₀
-    → length values ≡ valueCount → length list ≡ 512 → Small (a .rule) → (kept .held .count ≡ 0) × (kept .listed ≡ 0)
+    → length values ≡ valueCount → length list ≡ 768 → Small (a .rule) → (kept .held .count ≡ 0) × (kept .listed ≡ 0)
     → Steps tree a crews drives places table limit (length measured) words values list measured (record { kept = kept; measured = 0 }) 0
 steps-start tree a crews drives places table limit words₀ words values list measured kept z e v h small none = record {
   size = ap length e ∙ (put-length _ (length places) (junctionCount tree) _ words₀ ∙ (ap length z ∙ length-replicate _ unqueued));

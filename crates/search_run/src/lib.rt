@@ -2,7 +2,7 @@
 use search_bounds::regions;
 use search_held::Asked;
 use search_held::Kept;
-use search_step::Progress;
+use search_yard::Progress;
 use tree_layout::Region;
 use tree_layout::records;
 ghost use mathlib.Core.Path.{_≡_};
@@ -86,7 +86,7 @@ fn steps(
 ) -> Outcome
     requires { ⌜ IsPrepared (now adj) (now tree) (askingOf asked)
         (now crews) (now drives) (now places) (now table)
-        × Ended (now tree) (now ends) × (length (now list) ≡ 512) × (256 ≤ length (now measured))
+        × Ended (now tree) (now ends) × (length (now list) ≡ 768) × (256 ≤ length (now measured))
         × Small (ruleOf (asked .rule))
         × (now words ≡ replicate (wordCount (length (now places)) (junctionCount (now tree))) unqueued)
         × (length (now values) ≡ valueCount) ⌝ }
@@ -161,7 +161,7 @@ pub fn run(
 ) -> Outcome
     requires { ⌜ IsPrepared (now adj) (now tree) (askingOf asked)
         (now crews) (now drives) (now places) (now table)
-        × Ended (now tree) (now ends) × (length (now list) ≡ 512) × Small (ruleOf (asked .rule)) ⌝ }
+        × Ended (now tree) (now ends) × (length (now list) ≡ 768) × Small (ruleOf (asked .rule)) ⌝ }
     ensures answer { λ o. ⌜ ((road : List ℕ)
         → Ready road (now (tree .entry)) (askingOf asked)
         (now (crews .entry)) (now (drives .entry)) (now (places .entry)) (now (table .entry))

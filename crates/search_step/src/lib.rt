@@ -1,10 +1,9 @@
 // One step of a search.
-mod measuring; // measuring.rt: a yard is taken
 mod regions; // regions.rt: a region is taken
 
 use book::Junction;
 use search_held::Asked;
-use search_held::Kept;
+use search_yard::Progress;
 use tree_layout::Region;
 ghost use mathlib.Core.Path.{_≡_};
 ghost use mathlib.Core.List.{List};
@@ -19,12 +18,6 @@ ghost use Rattle.search_inner.specs.code.Children.{Ended};
 ghost use Rattle.search_leaf.specs.code.Ready.{Ready, Cached};
 ghost use Rattle.search_step.specs.code.Prepared.{IsPrepared};
 ghost use Rattle.search_step.specs.code.Regions.{Going, FirstLeast};
-
-// What a search has come to beside its words: what it keeps, and the number of the measured yards.
-pub struct Progress {
-    pub kept: Kept,
-    pub measured: usize,
-}
 
 // "One step takes the least key; at equal keys a region precedes a yard, then lower number first.": number p has it.
 pub fn step(
@@ -57,7 +50,7 @@ pub fn step(
         × FirstLeast (length (now places)) (junctionCount (now tree)) (now words) p
         × (256 ≤ length (now measured)) × (progress .measured ≤ 256)
         × Fits (ruleOf (asked .rule)) (progress .kept)
-        × (countBy (ruleOf (asked .rule)) (progress .kept) ≤ progress .measured) × (length (now list) ≡ 512) ⌝ }
+        × (countBy (ruleOf (asked .rule)) (progress .kept) ≤ progress .measured) × (length (now list) ≡ 768) ⌝ }
     ensures cached { λ _. ⌜ ((road : List ℕ)
         → Ready road (now (tree .entry)) (askingOf asked)
         (now (crews .entry)) (now (drives .entry)) (now (places .entry)) (now (table .entry))
@@ -100,5 +93,5 @@ pub fn step(
     let yard = Junction {
         number: (p - r) as u16,
     };
-    measuring::take(adj, crews, asked, list, measured, progress, yard)
+    search_yard::take(adj, crews, asked, list, measured, progress, yard)
 }

@@ -22,7 +22,7 @@ const CREWS: usize = 16;
 
 // "Settled writes (yard, distance) words into the result area and nothing after them; spent writes nothing there."
 fn report(list: &[u32], rule: Rule, o: Outcome, results: &mut [u32]) -> Found
-    requires { ⌜ Fits (ruleOf rule) (o .kept) × (countBy (ruleOf rule) (o .kept) ≤ 256) × (length (now list) ≡ 512)
+    requires { ⌜ Fits (ruleOf rule) (o .kept) × (countBy (ruleOf rule) (o .kept) ≤ 256) × (length (now list) ≡ 768)
         × (2 * countBy (ruleOf rule) (o .kept) ≤ length (now results)) × (o .measured ≤ 256) ⌝ }
     ensures found { λ r. ⌜ foundOf r ≡ accepted (answerOf (ruleOf rule) (now (list .entry)) o) ⌝ }
     ensures results { λ _. ⌜ now (results .exit)

@@ -1,23 +1,29 @@
 // A yard is taken: it is measured, and held if the search's rule keeps it.
-use crate::Progress;
 use book::Junction;
 use search_held::Asked;
 use search_held::Kept;
 use search_measure::Measured;
+use search_order::Entry;
 ghost use mathlib.Core.Path.{_≡_};
 ghost use mathlib.Core.List.{List, _∷_};
 ghost use Prim.Native.Nat.{ℕ, _+_, _≤_, _<_};
 ghost use lib.ListN.{length};
 ghost use Rattle.road.specs.code.Queue.{state};
-ghost use Rattle.search_rules.specs.Order.{entryOf};
 ghost use Rattle.search_rules.specs.Keeping.{keepBy};
 ghost use Rattle.search_rules.specs.Ceiling.{ceilingBy};
 ghost use Rattle.search_rules.specs.Theorems.{Sorted};
 ghost use Rattle.search_measure.specs.Measuring.{walkRun};
 ghost use Rattle.search_measure.specs.Facts.{Measures};
-ghost use Rattle.search_measure.specs.code.Cases.{measuredOf, Measurable, IsMeasurable, totalOf};
+ghost use Rattle.search_measure.specs.code.Cases.{measuredOf, Measurable, IsMeasurable};
 ghost use Rattle.search_held.specs.code.Rules.{ruleOf, heldBy, countBy, Fits};
 ghost use Rattle.search_state.specs.code.State.{newest};
+ghost use Rattle.search_yard.specs.code.Entries.{entryOn};
+
+// What a search has come to beside its words: what it keeps, and the number of the measured yards.
+pub struct Progress {
+    pub kept: Kept,
+    pub measured: usize,
+}
 
 // A walk's distances and marks have a place for each of 1,024 junctions.
 const JUNCTIONS: usize = 1024;
@@ -62,14 +68,14 @@ pub fn take(
     requires { ⌜ IsMeasurable (now adj) (now crews) (y .number)
         × (progress .measured < 256) × (256 ≤ length (now measured))
         × Fits (ruleOf (asked .rule)) (progress .kept)
-        × (countBy (ruleOf (asked .rule)) (progress .kept) ≤ progress .measured) × (length (now list) ≡ 512)
+        × (countBy (ruleOf (asked .rule)) (progress .kept) ≤ progress .measured) × (length (now list) ≡ 768)
         × Sorted (heldBy (ruleOf (asked .rule)) (progress .kept) (now list)) ⌝ }
     ensures count { λ o. ⌜ o .measured ≡ progress .measured + 1 ⌝ }
     ensures measured { λ _. ⌜ newest (now (measured .exit)) (progress .measured + 1)
         ≡ y .number ∷ newest (now (measured .entry)) (progress .measured) ⌝ }
     ensures held { λ o. ⌜ ((road : List ℕ) → Measurable road (now (adj .entry)) (now (crews .entry)) (y .number)
         → heldBy (ruleOf (asked .rule)) (o .kept) (now (list .exit)) ≡ keepBy (ruleOf (asked .rule))
-        (entryOf (totalOf road (asked .aggregate) (now (crews .entry)) (y .number)) (y .number))
+        (entryOn road (asked .aggregate) (now (crews .entry)) (y .number))
         (heldBy (ruleOf (asked .rule)) (progress .kept) (now (list .entry)))) ⌝ }
     ensures room { λ o. ⌜ Fits (ruleOf (asked .rule)) (o .kept)
         × (countBy (ruleOf (asked .rule)) (o .kept) ≤ o .measured) ⌝ }
@@ -82,13 +88,18 @@ pub fn take(
     let mut row = [0u32; JUNCTIONS];
     let mut done = [false; JUNCTIONS];
     let answer = under_ceiling(adj, &mut row, &mut done, crews, asked, so_far, y);
-    let Measured::Exact(total) = answer else {
+    let Measured::Exact(numbers) = answer else {
         return Progress {
             kept: so_far,
             measured: so_many,
         };
     };
-    let kept = search_held::keep(so_far, list, rule, y, total);
+    let entry = Entry {
+        distance: numbers.total,
+        furthest: numbers.furthest,
+        yard: y.number as u32,
+    };
+    let kept = search_held::keep(so_far, list, rule, entry);
     Progress {
         kept,
         measured: so_many,

@@ -5,8 +5,8 @@ use Rattle.search_measure.specs.code.Cases.{measuredOf}
 use Rattle.search_measure.proofs.Totals.{answer-exact, answer-above}
 use Rattle.search_state.proofs.Newest.{newest-put}
 use Rattle.search_step.proofs.Taking.{held-by, held-above}
-use Rattle.search_step.proofs.measuring.take.Statement.{statement}
-use Rattle.search_step.proofs.measuring.take.Tie as tie
+use Rattle.search_yard.proofs.take.Statement.{statement}
+use Rattle.search_yard.proofs.take.Tie as tie
 
 mul-measured : tie.Need-mul-measured
 mul-measured c = search needs

@@ -1,6 +1,6 @@
 use borrow.Author.Needs.{needs}
-use Rattle.search_step.proofs.measuring.under_ceiling.Statement.{statement}
-use Rattle.search_step.proofs.measuring.under_ceiling.Tie as tie
+use Rattle.search_yard.proofs.under_ceiling.Statement.{statement}
+use Rattle.search_yard.proofs.under_ceiling.Tie as tie
 
 ceiling-requires : tie.Need-ceiling-requires
 ceiling-requires c κs = search needs
