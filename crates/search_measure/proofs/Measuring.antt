@@ -21,10 +21,11 @@ use Rattle.road.proofs.Picking.{walked-start}
 use Rattle.road.proofs.UnderWay.{rounds-under-way, round-walked}
 use Rattle.search_rules.specs.Bounds.{combine, aggregate}
 use Rattle.search_rules.specs.Ceiling.{exceeds, exact, above, measuredBy}
+use Rattle.search_rules.specs.Walks.{AggregateLeast}
 use Rattle.search_rules.proofs.Bounds.{aggregate-mono}
 use Rattle.search_rules.proofs.Equations.{aggregate-same, combine-max}
 use Rattle.search_rules.proofs.Walks.{aggregate-one}
-use Rattle.search_measure.specs.Measuring.{reckoned, reckoning, reached, decided, walkStep, walkSteps, walkRun, measureYard}
+use Rattle.search_measure.specs.Measuring.{reckoned, reckoning, furthestSoFar, reached, decided, walkStep, walkSteps, walkRun, measureYard}
 use Rattle.search_measure.specs.Facts.{Measures, MeasuresTrue}
 
 -- ---- aggregates
@@ -81,11 +82,11 @@ neither false b t u = u
 -- ---- the answer
 
 -- what exceeds a ceiling is above it, and so is what is greater
-above-both : (ceiling : Option ℕ) (a b : ℕ) → a ≤ b → T (exceeds ceiling a) → measuredBy ceiling a ≡ measuredBy ceiling b
+above-both : (ceiling : Option ℕ) (a b m n : ℕ) → a ≤ b → T (exceeds ceiling a) → measuredBy ceiling a m ≡ measuredBy ceiling b n
 unfolding exceeds measuredBy
-above-both none a b h t = absurd t
-above-both (some c) a b h t =
-    choose-yes (ltb c a) above (exact a) t ∙ sym (choose-yes (ltb c b) above (exact b) (lt→ltb c b (omega (arith, ltb→lt c a t))))
+above-both none a b m n h t = absurd t
+above-both (some c) a b m n h t =
+    choose-yes (ltb c a) above (exact a m) t ∙ sym (choose-yes (ltb c b) above (exact b n) (lt→ltb c b (omega (arith, ltb→lt c a t))))
 
 not-above : (ceiling : Option ℕ) (c a : ℕ) → ceiling ≡ some c → T (not (exceeds ceiling a)) → a ≤ c
 unfolding exceeds
@@ -112,9 +113,12 @@ module _ (road : List ℕ) (roads : Passing road) (code : ℕ) (crews : List ℕ
   pub way : (k : ℕ) → UnderWay (net road) n yard k (at-round k)
   way k = rounds-under-way (net road) n yard small sound inside k
 
-  -- a yard's aggregate
+  -- a yard's aggregate, and the distance of its furthest crew
   abbrev total : ℕ
   total = aggregate code (λ q. dist road q yard) crews
+
+  abbrev furthest : ℕ
+  furthest = aggregate 1 (λ q. dist road q yard) crews
 
   leg : (q : ℕ) → q < n → Least (net road) yard q (dist road q yard)
   leg q h = rw (symmetric road (roads .layout) q yard h inside) (metric road roads .least yard q inside h)
@@ -132,23 +136,35 @@ module _ (road : List ℕ) (roads : Passing road) (code : ℕ) (crews : List ℕ
     unfolding reckoning
     reckoning-low = aggregate-mono code _ _ crews (λ q m. reckoned-low q (there q m))
 
-    -- a crew that is reached is at the distance it is reckoned
-    reckoned-is : (q : ℕ) → q < n → at (st .ds) q ≤ frontier n st → reckoned road st q ≡ dist road q yard
-    unfolding reckoned
-    reckoned-is q h near =
+    -- a crew that is reached is at its distance so far
+    near-is : (q : ℕ) → q < n → at (st .ds) q ≤ frontier n st → at (st .ds) q ≡ dist road q yard
+    near-is q h near =
         let low = way k .floor q (dist road q yard) (leg q h .walk) in
         let most = metric road roads .bounded q yard h inside in
-        let e : at (st .ds) q ≡ dist road q yard = least-unique (way k .known q near (omega arith)) (leg q h) in
-        omega arith
+        least-unique (way k .known q near (omega arith)) (leg q h)
 
-    reckoning-is : T (reached road crews st) → reckoning road code crews st ≡ total
-    unfolding reckoning reached
-    reckoning-is t = aggregate-same code _ _ crews (λ q m. reckoned-is q (there q m) (omega (arith, leb→le (aggregate 1 (at (st .ds)) crews) (frontier n st) t, greatest-each (at (st .ds)) crews q m)))
+    -- every crew is reached: an aggregate of the distances so far, be they reckoned or not, is that of the true ones
+    module _ (t : T (reached road crews st)) where
+      near-each : (q : ℕ) → Mem q crews → at (st .ds) q ≤ frontier n st
+      unfolding reached furthestSoFar
+      near-each q m = omega (arith, leb→le (aggregate 1 (at (st .ds)) crews) (frontier n st) t, greatest-each (at (st .ds)) crews q m)
+
+      near-all : (c : ℕ) (g : ℕ → ℕ) → ((q : ℕ) → at (st .ds) q ≤ frontier n st → g q ≡ at (st .ds) q)
+          → aggregate c g crews ≡ aggregate c (λ q. dist road q yard) crews
+      near-all c g e = aggregate-same c _ _ crews (λ q m. e q (near-each q m) ∙ near-is q (there q m) (near-each q m))
+
+      reckoning-is : reckoning road code crews st ≡ total
+      unfolding reckoning reckoned
+      reckoning-is = near-all code _ (λ q h. omega arith)
+
+      furthest-is : furthestSoFar crews st ≡ furthest
+      unfolding furthestSoFar
+      furthest-is = near-all 1 _ (λ q h. refl)
 
     module _ (t : T (not (decided road code crews ceiling st))) where
       -- while it is not decided, some crew is beyond the frontier
       out : frontier n st < aggregate 1 (at (st .ds)) crews
-      unfolding decided reached
+      unfolding decided reached furthestSoFar
       out = nleb→lt (aggregate 1 (at (st .ds)) crews) (frontier n st) (neither-right (exceeds ceiling (reckoning road code crews st)) (reached road crews st) t)
 
       -- so there is a junction to walk on from
@@ -170,15 +186,16 @@ module _ (road : List ℕ) (roads : Passing road) (code : ℕ) (crews : List ℕ
           low : reckoning road code crews st ≤ c
           low = not-above ceiling c (reckoning road code crews st) e below
 
-    -- once it is decided, the answer is that of the aggregate
-    answered : T (decided road code crews ceiling st) → measuredBy ceiling (reckoning road code crews st) ≡ measuredBy ceiling total
+    -- once it is decided, the answer is that of the yard's two numbers
+    answered : T (decided road code crews ceiling st)
+        → measuredBy ceiling (reckoning road code crews st) (furthestSoFar crews st) ≡ measuredBy ceiling total furthest
     unfolding decided
     answered t = go (or-cases (exceeds ceiling (reckoning road code crews st)) (reached road crews st) t)
       where
         go : T (exceeds ceiling (reckoning road code crews st)) ⊎ T (reached road crews st)
-            → measuredBy ceiling (reckoning road code crews st) ≡ measuredBy ceiling total
-        go (inr u) = ap (measuredBy ceiling) (reckoning-is u)
-        go (inl u) = above-both ceiling _ _ reckoning-low u
+            → measuredBy ceiling (reckoning road code crews st) (furthestSoFar crews st) ≡ measuredBy ceiling total furthest
+        go (inr u) = λ j. measuredBy ceiling (reckoning-is u j) (furthest-is u j)
+        go (inl u) = above-both ceiling _ _ _ _ reckoning-low u
 
   -- ---- the run
 
@@ -282,7 +299,7 @@ module _ (road : List ℕ) (roads : Passing road) (code : ℕ) (crews : List ℕ
   pub measures : Measures road code crews ceiling yard (measureYard road code crews ceiling yard) (walkRun road code crews ceiling yard)
   unfolding measureYard walkRun
   measures = record {
-    answers = λ t a. rw (c .is, aggregate-one road roads code yard inside there a) (answered (c .count) done);
+    answers = λ t m a b. rw (c .is, one code a, one 1 b) (answered (c .count) done);
     within = λ s e v t. c .held s e v (at (end .ds) v) (rw (c .is) at t) (least v t);
     least = least;
   }
@@ -295,6 +312,9 @@ module _ (road : List ℕ) (roads : Passing road) (code : ℕ) (crews : List ℕ
 
       done : T (decided road code crews ceiling (at-round (c .count)))
       done = come-decided n end c (omega arith)
+
+      one : (code : ℕ) {s : ℕ} → AggregateLeast (net road) code yard crews s → s ≡ aggregate code (λ q. dist road q yard) crews
+      one code a = aggregate-one road roads code yard inside there a
 
       least : (v : ℕ) → T (walked (walkSteps road code crews ceiling yard n .done) v) → Least (net road) yard v (at (walkSteps road code crews ceiling yard n .ds) v)
       least v t = rw (c .is) (way (c .count) .least (c .few) v (rw (c .is) at t))

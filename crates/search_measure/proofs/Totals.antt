@@ -1,55 +1,55 @@
--- A yard's aggregate: what an answer says of it, and that rows tell it too. Assumes nothing.
-use mathlib.Core.Path.{_≡_, sym, ap, subst, _∙_}
+-- A yard's aggregate and its furthest crew's distance: what an answer says of them, and that rows tell them too. Assumes nothing.
+use mathlib.Core.Path.{_≡_, sym, ap, _∙_}
 use mathlib.Core.List.{List}
 use mathlib.Core.Option.{Option}
 use Prim.Native.Nat.{ℕ, _<_}
+use native.Mathlib.Omega.{arith}
 use lib.ListN.{length, getD}
 use lib.Dec.{T}
 use Rattle.book.proofs.Choosing.{choose-case}
 use Rattle.book.proofs.Lists.{mem-getD}
+use Rattle.adjacency.specs.Arcs.{net}
 use Rattle.road.specs.Dijkstra.{WalkState, dist}
 use Rattle.road.specs.code.Rows.{Rowed}
 use Rattle.search_rules.specs.Rule.{Asking}
 use Rattle.search_rules.specs.Instance.{Instance}
 use Rattle.search_rules.specs.Books.{searchOf}
-use Rattle.search_rules.specs.Bounds.{aggregate, total}
+use Rattle.search_rules.specs.Bounds.{aggregate, total, furthest}
 use Rattle.search_rules.specs.Ceiling.{exceeds, Measured, exact, above, measuredBy}
+use Rattle.search_rules.specs.Walks.{AggregateLeast}
 use Rattle.search_rules.proofs.Equations.{aggregate-same, search-of}
-use Rattle.search_rules.proofs.Measures.{total-is}
+use Rattle.search_rules.proofs.Measures.{total-is, furthest-is}
 use Rattle.search_rules.proofs.Walks.{aggregate-least}
 use Rattle.search_measure.specs.Facts.{Measures}
-use Rattle.search_measure.specs.code.Cases.{Measurable, totalOf}
+use Rattle.search_measure.specs.code.Cases.{Measurable, totalOf, furthestOf}
 
--- it is the search's own
-pub total-of : (road tree : List ℕ) (a : Asking) (crews : List ℕ) (y : ℕ) → totalOf road (a .code) crews y ≡ total (searchOf road tree a crews) y
-unfolding totalOf
-total-of road tree a crews y = sym (total-is (searchOf road tree a crews) y ∙ total-as)
-  where
-    i : Instance
-    i = searchOf road tree a crews
+-- they are the search's own
+module _ (road tree : List ℕ) (a : Asking) (crews : List ℕ) (y : ℕ) where
+  abbrev i : Instance
+  i = searchOf road tree a crews
 
-    total-as : aggregate (i .code) (λ q. i .d q y) (i .crews) ≡ aggregate (a .code) (λ q. dist road q y) crews
-    total-as = ap (λ (x : Instance). aggregate (x .code) (λ q. x .d q y) (x .crews)) (search-of road tree a crews)
+  pub total-of : totalOf road (a .code) crews y ≡ total i y
+  unfolding totalOf
+  total-of = sym (total-is i y ∙ ap (λ (x : Instance). aggregate (x .code) (λ q. x .d q y) (x .crews)) (search-of road tree a crews))
+
+  pub furthest-of : furthestOf road crews y ≡ furthest i y
+  unfolding furthestOf
+  furthest-of = sym (furthest-is i y ∙ ap (λ (x : Instance). aggregate 1 (λ q. x .d q y) (x .crews)) (search-of road tree a crews))
 
 -- two road books with the same rows for the crews have the same
-pub same-total : (road road′ crews drives : List ℕ) (code y : ℕ) → Rowed road crews drives → Rowed road′ crews drives → y < 1024
-    → totalOf road code crews y ≡ totalOf road′ code crews y
-unfolding totalOf
-same-total road road′ crews drives code y a b h = aggregate-same code _ _ crews (λ q m. same q (mem-getD crews 0 q m))
-  where
-    same : (q : ℕ) → (r : ℕ) × (r < length crews) × (q ≡ getD crews r 0) → dist road q y ≡ dist road′ q y
-    same q (r, l, e) = rw e (sym (a .filled r y l h) ∙ b .filled r y l h)
+module _ (road road′ crews drives : List ℕ) where
+  pub same-total : (code y : ℕ) → Rowed road crews drives → Rowed road′ crews drives → y < 1024 → totalOf road code crews y ≡ totalOf road′ code crews y
+  unfolding totalOf
+  same-total code y a b h = aggregate-same code _ _ crews (λ q m. same q (mem-getD crews 0 q m))
+    where
+      same : (q : ℕ) → (r : ℕ) × (r < length crews) × (q ≡ getD crews r 0) → dist road q y ≡ dist road′ q y
+      same q (r, l, e) = rw e (sym (a .filled r y l h) ∙ b .filled r y l h)
+
+  pub same-furthest : (y : ℕ) → Rowed road crews drives → Rowed road′ crews drives → y < 1024 → furthestOf road crews y ≡ furthestOf road′ crews y
+  unfolding totalOf furthestOf
+  same-furthest y a b h = same-total 1 y a b h
 
 -- ---- the two answers
-
--- the number of an exact answer
-value : Measured → ℕ
-value (exact n) = n
-value above = 0
-
-Is-exact : Measured → Type 0
-Is-exact (exact n) = Unit {0}
-Is-exact above = ⊥
 
 -- what an answer says
 module _ {road adj crews : List ℕ} {code y : ℕ} {ceiling : Option ℕ} (s : Measurable road adj crews y) {answer : Measured} {end : WalkState}
@@ -57,14 +57,23 @@ module _ {road adj crews : List ℕ} {code y : ℕ} {ceiling : Option ℕ} (s : 
   abbrev t : ℕ
   t = totalOf road code crews y
 
-  answer-is : answer ≡ measuredBy ceiling t
-  unfolding totalOf
-  answer-is = m .answers (aggregate code (λ q. dist road q y) crews) (aggregate-least road (s .roads) code y (s .junction) crews (s .there))
+  abbrev u : ℕ
+  u = furthestOf road crews y
 
-  pub answer-exact : (n : ℕ) → answer ≡ exact n → n ≡ t
-  unfolding measuredBy value Is-exact
-  answer-exact n e = choose-case (λ (x : Measured). exact n ≡ x → n ≡ t) (exceeds ceiling t) (λ u f. absurd (subst Is-exact f tt)) (λ u f. ap value f) (sym e ∙ answer-is)
+  answer-is : answer ≡ measuredBy ceiling t u
+  unfolding totalOf furthestOf
+  answer-is = m .answers (aggregate code (λ q. dist road q y) crews) (aggregate 1 (λ q. dist road q y) crews) (least code) (least 1)
+    where
+      least : (c : ℕ) → AggregateLeast (net road) c y crews (aggregate c (λ q. dist road q y) crews)
+      least c = aggregate-least road (s .roads) c y (s .junction) crews (s .there)
+
+  -- the numbers of an exact one
+  pub answer-exact : (n f : ℕ) → answer ≡ exact n f → (n ≡ t) × (f ≡ u)
+  unfolding measuredBy
+  answer-exact n f e = choose-case (λ (x : Measured). exact n f ≡ x → (n ≡ t) × (f ≡ u)) (exceeds ceiling t)
+      (λ o d. let z : _≡_ {A = ℕ} 0 1 = cc in absurd (omega arith)) (λ o d. (cc, cc)) (sym e ∙ answer-is)
 
   pub answer-above : answer ≡ above → T (exceeds ceiling t)
-  unfolding measuredBy Is-exact
-  answer-above e = choose-case (λ (x : Measured). x ≡ above → T (exceeds ceiling t)) (exceeds ceiling t) (λ u f. u) (λ u f. absurd (subst Is-exact f tt)) (sym answer-is ∙ e)
+  unfolding measuredBy
+  answer-above e = choose-case (λ (x : Measured). x ≡ above → T (exceeds ceiling t)) (exceeds ceiling t)
+      (λ o d. o) (λ o d. let z : _≡_ {A = ℕ} 0 1 = cc in absurd (omega arith)) (sym answer-is ∙ e)

@@ -22,7 +22,7 @@ use Rattle.road.proofs.Stepping.{walking-sizes, walking-few, walking-frontier}
 use Rattle.search_rules.specs.Bounds.{aggregate}
 use Rattle.search_rules.specs.Ceiling.{exceeds, Measured, exact, above, measuredBy}
 use Rattle.search_bounds.specs.code.Measures.{longest}
-use Rattle.search_measure.specs.Measuring.{reckoned, reckoning, reached, decided, walkStep, walkSteps, walkRun, measureYard}
+use Rattle.search_measure.specs.Measuring.{reckoned, reckoning, furthestSoFar, reached, decided, walkStep, walkSteps, walkRun, measureYard}
 use Rattle.search_measure.specs.Facts.{Measures}
 use Rattle.search_measure.specs.code.Cases.{Measurable, IsMeasurable}
 use Rattle.search_measure.proofs.Measuring.{neither, way, reckoned-low, undecided-left, step-round, start-round, steps-stay, measures}
@@ -86,7 +86,7 @@ module _ (adj crews : List ℕ) (yard : ℕ) (m : IsMeasurable adj crews yard) w
         over road s = ap (exceeds ceiling) (a ∙ reckon-is road s)
 
         all : (road : List ℕ) (s : Measurable road adj crews yard) → leb furthest t ≡ reached road crews (state row done)
-        unfolding reached
+        unfolding reached furthestSoFar
         all road s = rw (f, ahead road s) refl
 
         -- it is decided: the run has come to its end
@@ -98,7 +98,7 @@ module _ (adj crews : List ℕ) (yard : ℕ) (m : IsMeasurable adj crews yard) w
 
         -- by the run's end the answer is right
         right : (road : List ℕ) (s : Measurable road adj crews yard) → T (decided road code crews ceiling (state row done)) → (answer : Measured)
-            → answer ≡ measuredBy ceiling (reckoning road code crews (state row done))
+            → answer ≡ measuredBy ceiling (reckoning road code crews (state row done)) (furthestSoFar crews (state row done))
             → Measures road code crews ceiling yard answer (state row done)
         unfolding measureYard
         right road s d answer e = rw (e, ended road s d) (measures road (s .roads) code crews (s .there) ceiling yard (s .junction))
@@ -126,9 +126,9 @@ module _ (adj crews : List ℕ) (yard : ℕ) (m : IsMeasurable adj crews yard) w
             pub exact-ends : state row done ≡ walkRun road code crews ceiling yard
             exact-ends = ended road s exact-decided
 
-            pub exact-measures : Measures road code crews ceiling yard (exact total) (state row done)
-            unfolding measuredBy
-            exact-measures = right road s exact-decided (exact total) (ap exact (a ∙ reckon-is road s)
+            pub exact-measures : Measures road code crews ceiling yard (exact total furthest) (state row done)
+            unfolding measuredBy furthestSoFar
+            exact-measures = right road s exact-decided (exact total furthest) ((λ j. exact ((a ∙ reckon-is road s) j) (f j))
                 ∙ sym (choose-no (exceeds ceiling (reckoning road code crews (state row done))) above _ (rw (over road s) at x)))
 
           -- another round

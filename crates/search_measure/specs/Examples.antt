@@ -23,12 +23,12 @@ unfoldable pub walked4 : (code : ℕ) (ceiling : Option ℕ) → List Bool
 walked4 code ceiling = take 5 (walkRun netN code (0 ∷ 2 ∷ []) ceiling 4 .done)
 
 pub record WorkedMeasures : Type 0 where
-  -- the sum is 15: without a ceiling and at it exact, one below it above
-  pub no-ceiling : yard4 0 none ≡ exact 15
-  pub at-ceiling : yard4 0 (some 15) ≡ exact 15
+  -- the sum is 15 and the furthest crew, the first, 10 away: without a ceiling and at it exact, one below it above
+  pub no-ceiling : yard4 0 none ≡ exact 15 10
+  pub at-ceiling : yard4 0 (some 15) ≡ exact 15 10
   pub past-ceiling : yard4 0 (some 14) ≡ above
   -- the maximum is 10
-  pub maximum-at : yard4 1 (some 10) ≡ exact 10
+  pub maximum-at : yard4 1 (some 10) ≡ exact 10 10
   pub maximum-past : yard4 1 (some 9) ≡ above
   -- before the third round the frontier is junction 2 at 5 seconds: one crew is there and one is still out, so the sum
   -- is at least 10, and a ceiling of 9 has been exceeded, though junctions 2 and 1 are within its radius
@@ -38,5 +38,12 @@ pub record WorkedMeasures : Type 0 where
   -- the last crew is reached when it is the nearest: its junction is not walked on from
   pub ends-at-the-last : walked4 0 none ≡ (false ∷ true ∷ true ∷ true ∷ true ∷ [])
   -- two crews at one junction are two
-  pub two-at-one : measureYard netN 0 (2 ∷ 2 ∷ []) (some 10) 4 ≡ exact 10
+  pub two-at-one : measureYard netN 0 (2 ∷ 2 ∷ []) (some 10) 4 ≡ exact 10 5
   pub two-past : measureYard netN 0 (2 ∷ 2 ∷ []) (some 9) 4 ≡ above
+  -- the furthest crew is the last of the list, or stands in it between crews that are 5 seconds and 1 second away
+  pub furthest-last : measureYard netN 0 (2 ∷ 0 ∷ []) none 4 ≡ exact 15 10
+  pub furthest-between : measureYard netN 0 (2 ∷ 0 ∷ 3 ∷ []) none 4 ≡ exact 16 10
+  -- crews at junctions 0 and 4 are 2 and 8 seconds from yard 1, and 5 and 5 from yard 2: the same sum, at a ceiling of
+  -- 10 exact, and another furthest crew
+  pub same-sum-further : measureYard netN 0 (0 ∷ 4 ∷ []) (some 10) 1 ≡ exact 10 8
+  pub same-sum-nearer : measureYard netN 0 (0 ∷ 4 ∷ []) (some 10) 2 ≡ exact 10 5

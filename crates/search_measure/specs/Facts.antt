@@ -11,14 +11,16 @@ use Rattle.road.specs.Walk.{Least}
 use Rattle.road.specs.Dijkstra.{at, WalkState, walked}
 use Rattle.road.specs.Facts.{Passing}
 use Rattle.search_rules.specs.Ceiling.{Measured, measuredBy}
-use Rattle.search_rules.specs.Walks.{AggregateLeast}
+use Rattle.search_rules.specs.Walks.{AggregateLeast, FurthestLeast}
 use Rattle.search_measure.specs.Measuring.{walkRun, measureYard}
 
 -- of an answer, and of the walk's state at the end
 pub record Measures (road : List ℕ) (code : ℕ) (crews : List ℕ) (ceiling : Option ℕ) (yard : ℕ) (answer : Measured)
     (end : WalkState) : Type 0 where
-  -- "either the true aggregate or "above", which it gives exactly when the aggregate exceeds the ceiling"
-  pub answers : (t : ℕ) → AggregateLeast (net road) code yard crews t → answer ≡ measuredBy ceiling t
+  -- "either the true aggregate or "above", which it gives exactly when the aggregate exceeds the ceiling"; with the
+  -- aggregate the distance of the furthest crew
+  pub answers : (t m : ℕ) → AggregateLeast (net road) code yard crews t → FurthestLeast (net road) yard crews m
+      → answer ≡ measuredBy ceiling t m
   -- "Each of its walks keeps in its state the junctions it has walked on from, and none of them is further than the
   -- ceiling along that walk."
   pub within : (seconds : ℕ) → ceiling ≡ some seconds → (v : ℕ) → T (walked (end .done) v) → at (end .ds) v ≤ seconds

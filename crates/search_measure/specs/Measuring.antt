@@ -25,9 +25,13 @@ reckoned road st q = min (at (st .ds) q) (frontier (junctions road) st)
 unfoldable pub reckoning : (road : List ℕ) (code : ℕ) (crews : List ℕ) → WalkState → ℕ
 reckoning road code crews st = aggregate code (reckoned road st) crews
 
--- the last crew is reached: none is further than the frontier (code 1 is the maximum's)
+-- the greatest of the crews' distances so far (code 1 is the maximum's)
+unfoldable pub furthestSoFar : (crews : List ℕ) → WalkState → ℕ
+furthestSoFar crews st = aggregate 1 (at (st .ds)) crews
+
+-- the last crew is reached: none is further than the frontier
 unfoldable pub reached : (road crews : List ℕ) → WalkState → Bool
-reached road crews st = leb (aggregate 1 (at (st .ds)) crews) (frontier (junctions road) st)
+reached road crews st = leb (furthestSoFar crews st) (frontier (junctions road) st)
 
 -- ---- the walk
 
@@ -51,4 +55,4 @@ module _ (road : List ℕ) (code : ℕ) (crews : List ℕ) (ceiling : Option ℕ
 
   -- what measuring a yard answers
   unfoldable pub measureYard : (yard : ℕ) → Measured
-  measureYard yard = measuredBy ceiling (reckoning road code crews (walkRun yard))
+  measureYard yard = measuredBy ceiling (reckoning road code crews (walkRun yard)) (furthestSoFar crews (walkRun yard))

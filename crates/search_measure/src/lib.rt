@@ -23,16 +23,16 @@ pub enum Ceiling {
     Seconds(u32),
 }
 
-// What measuring answers: the true aggregate, or that it exceeds the ceiling.
-pub enum Measured {
-    Exact(u32),
-    Above,
+// What a yard's drives come to: their aggregate over the crews, and the furthest crew's.
+pub struct Numbers {
+    pub total: u32,
+    pub furthest: u32,
 }
 
-// What the crews' distances come to so far, and the greatest of them.
-struct Reckoning {
-    total: u32,
-    furthest: u32,
+// What measuring answers: both true numbers, or that the aggregate exceeds the ceiling.
+pub enum Measured {
+    Exact(Numbers),
+    Above,
 }
 
 // Whether an aggregate exceeds a ceiling.
@@ -56,7 +56,7 @@ fn lesser(distance: u32, frontier: u32) -> u32
 }
 
 // The aggregate of the crews' distances so far, those still out at the frontier, and the furthest of them.
-fn reckon(row: &[u32], crews: &[u16], code: u8, frontier: u32) -> Reckoning
+fn reckon(row: &[u32], crews: &[u16], code: u8, frontier: u32) -> Numbers
     requires { ⌜ (length (now row) ≡ 1024) × Crews (now crews)
         × ((q : ℕ) → Mem q (now crews) → min (at (now row) q) frontier ≤ longest) ⌝ }
     ensures total { λ r. ⌜ r .total
@@ -69,11 +69,12 @@ fn reckon(row: &[u32], crews: &[u16], code: u8, frontier: u32) -> Reckoning
     while j < crews.len() {
         let q = crews[j] as usize;
         let d = row[q];
-        total = numbers::combine(code, total, lesser(d, frontier));
+        let near = lesser(d, frontier);
+        total = numbers::combine(code, total, near);
         furthest = numbers::greater(furthest, d);
         j += 1;
     }
-    Reckoning { total, furthest }
+    Numbers { total, furthest }
 }
 
 // Measures a yard for some crews. The walk's distances and the junctions that it has walked on from stand in row and
@@ -105,7 +106,7 @@ pub fn measure(
             return Measured::Above;
         }
         if reckoning.furthest <= frontier {
-            return Measured::Exact(reckoning.total);
+            return Measured::Exact(reckoning);
         }
         walk::round(adj, row, done, &mut queue);
     }

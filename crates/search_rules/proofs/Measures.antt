@@ -10,7 +10,7 @@ use Rattle.book.specs.Choose.{choose}
 use Rattle.book.proofs.Choosing.{choose-case}
 use Rattle.tree_layout.specs.Values.{Element, Mark}
 use Rattle.search_rules.specs.Instance.{Instance}
-use Rattle.search_rules.specs.Bounds.{absDiff, combine, aggregate, lower, over, total, listAbsDiff, f, yardBound}
+use Rattle.search_rules.specs.Bounds.{absDiff, combine, aggregate, lower, over, total, furthest, listAbsDiff, f, yardBound}
 use Rattle.search_rules.specs.Queue.{unqueued, wordAt, pick}
 use Rattle.search_rules.specs.Step.{left, passed, waiting, nextPlace, nextF}
 
@@ -30,6 +30,10 @@ module _ (i : Instance) where
   pub total-is : (y : ℕ) → total i y ≡ aggregate (i .code) (λ q. i .d q y) (i .crews)
   unfolding total over
   total-is y = refl
+
+  pub furthest-is : (y : ℕ) → furthest i y ≡ aggregate 1 (λ q. i .d q y) (i .crews)
+  unfolding furthest
+  furthest-is y = refl
 
   pub f-is : (m : Mark) (e : Element) → f i m e ≡ aggregate (i .code) (λ q. absDiff (i .d (m .place) q) (e .distance)) (i .crews)
   unfolding f over listAbsDiff

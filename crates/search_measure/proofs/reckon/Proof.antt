@@ -65,12 +65,15 @@ loop-again c =
     let e = c .before .before .lesser .ensures in (
       summed-turn _ _ _ _ _ _ (l .inv .0) less _ _ (lesser-short (s .args .row .now) _ (s .args .frontier) _ _ (s .pre .0) (s .pre .1) (s .pre .2) less e)
           (e ∙ ap (λ (x : ℕ). min x (s .args .frontier)) d) (c .before .combine .ensures),
-      furthest-turn (at (s .args .row .now)) (s .args .crews .now) _ _ _ _ (l .inv .1) less d (c .greater .ensures),
+      furthest-turn (at (s .args .row .now)) (s .args .crews .now) _ _ _ _ (l .inv .1) less d (omega (arith, c .greater .ensures)),
     )
 
 returns : tie.Need-returns Inv-loop μ-loop
 returns c =
-    (summed-all _ _ _ _ _ _ (c .before .loop .inv .0) (c .loop-test .left), furthest-all _ _ _ _ (c .before .loop .inv .1) (c .loop-test .left))
+    let a = c .before .before .before .before .args in
+    let l = c .before .loop in
+    let f = furthest-all (at (a .row .now)) (a .crews .now) (l .j) (l .furthest) (l .inv .1) (c .loop-test .left) in
+    (summed-all _ _ _ _ _ _ (l .inv .0) (c .loop-test .left), omega (arith, f))
 
 pub reckon-spec : {M : Type 1} → statement M
 reckon-spec =

@@ -21,7 +21,7 @@ ceilingOf (Seconds s) = some s
 
 -- the definition's answer
 abbrev pub measuredOf : Answer → Measured
-measuredOf (Exact total) = exact total
+measuredOf (Exact numbers) = exact (numbers .total) (numbers .furthest)
 measuredOf Above = above
 
 -- an array is the adjacency of a road book that passes, and the crews, at most sixteen, and a yard are at its junctions
@@ -40,3 +40,7 @@ pub record IsMeasurable (adj crews : List ℕ) (yard : ℕ) : Type 0 where
 -- a yard's aggregate: of the true distance d(q, p) from each crew q to yard p
 unfoldable pub totalOf : List ℕ → ℕ → List ℕ → ℕ → ℕ
 totalOf road code crews p = aggregate code (λ q. dist road q p) crews
+
+-- the distance of its furthest crew: the greatest of these (code 1 is the maximum's)
+unfoldable pub furthestOf : List ℕ → List ℕ → ℕ → ℕ
+furthestOf road crews p = aggregate 1 (λ q. dist road q p) crews
