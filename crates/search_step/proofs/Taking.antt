@@ -4,7 +4,6 @@ use mathlib.Core.List.{List, _∷_}
 use Prim.Native.Nat.{ℕ, _+_, _-_, _≤_, _<_}
 use native.Mathlib.Omega.{arith}
 use lib.ListN.{length, getD, set}
-use lib.Dec.{T}
 use Rattle.road_layout.specs.Road.{junctions}
 use Rattle.tree_layout.specs.Decode.{junctionCount}
 use Rattle.book.specs.Lists.{keepIf}
@@ -12,7 +11,7 @@ use Rattle.book.proofs.Lists.{kept-length}
 use Rattle.tree.specs.Yards.{treeYards}
 use Rattle.tree.proofs.Fielding.{laid-few}
 use Rattle.search_rules.specs.Rule.{Rule, Asking}
-use Rattle.search_rules.specs.Order.{Entry, entryOf}
+use Rattle.search_rules.specs.Order.{Entry}
 use Rattle.search_rules.specs.Instance.{Instance}
 use Rattle.search_rules.specs.Books.{searchOf}
 use Rattle.search_rules.specs.Queue.{unqueued, wordAt}
@@ -21,33 +20,24 @@ use Rattle.search_rules.specs.Keeping.{keepBy}
 use Rattle.search_rules.specs.Step.{SearchState, nextRegion, nextYard, leastKey, takeRegion, takeYard, step}
 use Rattle.search_rules.specs.Facts.{WellFormed}
 use Rattle.search_rules.specs.Theorems.{Sorted}
-use Rattle.search_rules.specs.Ceiling.{exceeds, ceilingBy}
-use Rattle.search_rules.proofs.Ceiling.{above-kept}
 use Rattle.search_rules.proofs.Found.{run-listing}
 use Rattle.search_rules.proofs.Books.{accepted-of}
 use Rattle.search_rules.proofs.Equations.{search-of}
-use Rattle.search_rules.proofs.Steps.{least-key-is, step-yard, step-region, take-yard-is, entry-is}
+use Rattle.search_rules.proofs.Steps.{least-key-is, step-yard, step-region, take-yard-is}
 use Rattle.search_rules.proofs.Taking.{unsettled-key, measured-room}
 use Rattle.search_rules.proofs.Trees.{Accepted, tree-covers}
 use Rattle.search_state.specs.code.State.{wordCount, regionKeysIn, yardKeysIn, firstsIn, picksIn, fsIn, boundsIn, goneIn, newest, stateOf, Unsettled}
 use Rattle.search_state.proofs.Cells.{Parts, parts-of, store-yard, state-by}
 use Rattle.search_state.proofs.Choosing.{picked-inside, picked-word, picked-region, picked-most, picked-yard, picked-less, region-low}
 use Rattle.search_state.proofs.Newest.{newest-length}
-use Rattle.search_measure.specs.code.Cases.{Measurable, IsMeasurable, totalOf}
-use Rattle.search_measure.proofs.Totals.{total-of, same-total}
+use Rattle.search_measure.specs.code.Cases.{Measurable, IsMeasurable}
+use Rattle.search_yard.specs.code.Entries.{entryOn}
+use Rattle.search_yard.proofs.Numbered.{entry-of, same-entry}
 use Rattle.search_leaf.specs.code.Ready.{Ready, Readied, Cached}
 use Rattle.search_leaf.proofs.Landmarks.{well}
 use Rattle.search_step.specs.code.Regions.{RegionQueued, Going, FirstLeast}
 use Rattle.search_step.specs.code.Prepared.{IsPrepared}
 use Rattle.search_step.proofs.Opening.{cached-by, regions-of, junctions-are}
-
--- what is held after one more yard, by its distance
-pub held-by : (rule : Rule) (d t y : ℕ) (l r : List Entry) → d ≡ t → r ≡ keepBy rule (entryOf d y) l → r ≡ keepBy rule (entryOf t y) l
-held-by rule d t y l r e h = rw (← e) h
-
--- and after one that is above the ceiling
-pub held-above : (rule : Rule) (t y : ℕ) (l : List Entry) → Sorted l → T (exceeds (ceilingBy rule l) t) → l ≡ keepBy rule (entryOf t y) l
-held-above rule t y l s u = sym (above-kept rule l s (entryOf t y) u)
 
 -- ---- the numbers
 
@@ -104,10 +94,11 @@ module _ {adj tree : List ℕ} {a : Asking} {crews drives places table : List �
   pub yard-measurable : (y : ℕ) → y < junctionCount tree → IsMeasurable adj crews y
   yard-measurable y h = record { road = prepared .road; measurable = measurable-in y h }
 
-  -- its aggregate is the same beside every road book that the search is ready beside
-  pub total-same : (road : List ℕ) → Ready road tree a crews drives places table → (y : ℕ) → y < junctionCount tree
-      → totalOf (prepared .road) (a .code) crews y ≡ totalOf road (a .code) crews y
-  total-same road r y h = same-total (prepared .road) road crews drives (a .code) y (rd .driven) (r .driven) (omega (arith, rd .laid .layout .junctions .1))
+  -- what is held by its numbers is the same beside every road book that the search is ready beside
+  pub held-same : (road : List ℕ) → Ready road tree a crews drives places table → (rule : Rule) (y : ℕ) (l r : List Entry) → y < junctionCount tree
+      → r ≡ keepBy rule (entryOn (prepared .road) (a .code) crews y) l → r ≡ keepBy rule (entryOn road (a .code) crews y) l
+  held-same road r rule y l x h e =
+      e ∙ ap (λ (z : Entry). keepBy rule z l) (same-entry (prepared .road) road crews drives (a .code) y (rd .driven) (r .driven) (omega (arith, rd .laid .layout .junctions .1)))
 
 -- ---- what the step does
 
@@ -214,7 +205,7 @@ module _ {road tree : List ℕ} {a : Asking} {crews drives places table : List �
 
       pub yard-is-taken : (measured′ : List ℕ) (held′ : List Entry) (count′ : ℕ) → count′ ≡ count + 1
           → newest measured′ (count + 1) ≡ (p - r) ∷ newest measured count
-          → held′ ≡ keepBy (a .rule) (entryOf (totalOf road (a .code) crews (p - r)) (p - r)) held
+          → held′ ≡ keepBy (a .rule) (entryOn road (a .code) crews (p - r)) held
           → stateOf r n (set words p unqueued) held′ measured′ count′ ≡ step i st
       unfolding y
       yard-is-taken measured′ held′ count′ c q t =
@@ -224,6 +215,5 @@ module _ {road tree : List ℕ} {a : Asking} {crews drives places table : List �
         where
           holds : held′ ≡ keepBy (i .rule) (entry i y) held
           holds =
-              t ∙ (ap (λ (d : ℕ). keepBy (a .rule) (entryOf d y) held) (total-of road tree a crews y)
-              ∙ (ap (λ (x : Entry). keepBy (a .rule) x held) (sym (entry-is i y))
-              ∙ ap (λ (k : Rule). keepBy k (entry i y) held) (sym (ap (λ (z : Instance). z .rule) (search-of road tree a crews)))))
+              t ∙ (ap (λ (x : Entry). keepBy (a .rule) x held) (entry-of road tree a crews y)
+              ∙ ap (λ (k : Rule). keepBy k (entry i y) held) (sym (ap (λ (z : Instance). z .rule) (search-of road tree a crews))))

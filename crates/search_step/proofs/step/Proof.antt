@@ -1,6 +1,6 @@
 use borrow.Author.Needs.{needs}
 use native.Mathlib.Omega.{arith}
-use Rattle.search_step.proofs.Taking.{held-by, readied, picked, measurable-in, yard-measurable, total-same, region-queued, region-is-taken, yard-room, yard-sorted, yard-cached, yard-is-taken}
+use Rattle.search_step.proofs.Taking.{readied, picked, measurable-in, yard-measurable, held-same, region-queued, region-is-taken, yard-room, yard-sorted, yard-cached, yard-is-taken}
 use Rattle.search_step.proofs.step.Statement.{statement}
 use Rattle.search_step.proofs.step.Tie as tie
 
@@ -83,7 +83,7 @@ returns-2 c =
       λ road ready. yard-cached ready _ _ _ _ _ (s .3) (s .2 road ready) _ (s .4) h (λ j. omega (arith, known j)),
       (
         λ road ready. yard-is-taken ready _ _ _ _ _ (s .3) (s .2 road ready) _ (s .4) h (λ j. omega (arith, known j)) _ _ _ (o .0) (o .1 .0)
-            (held-by _ _ _ _ _ _ (total-same (s .0) road ready _ (omega (arith, below))) (o .1 .1 .0 (s .0 .road) (measurable-in (s .0) _ (omega (arith, below))))),
+            (held-same (s .0) road ready _ _ _ _ (omega (arith, below)) (o .1 .1 .0 (s .0 .road) (measurable-in (s .0) _ (omega (arith, below))))),
         (
           o .1 .1 .1 .0,
           o .1 .1 .1 .1,

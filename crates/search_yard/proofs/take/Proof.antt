@@ -4,7 +4,7 @@ use native.Mathlib.Omega.{arith}
 use Rattle.search_measure.specs.code.Cases.{measuredOf}
 use Rattle.search_measure.proofs.Totals.{answer-exact, answer-above}
 use Rattle.search_state.proofs.Newest.{newest-put}
-use Rattle.search_step.proofs.Taking.{held-by, held-above}
+use Rattle.search_yard.proofs.Numbered.{held-exact, held-above}
 use Rattle.search_yard.proofs.take.Statement.{statement}
 use Rattle.search_yard.proofs.take.Tie as tie
 
@@ -43,7 +43,7 @@ returns c =
       (
         newest-put (s .args .measured .now) (s .args .progress .measured) (s .args .y .number) (omega (arith, s .pre .1, s .pre .2)),
         (
-          λ road k. held-above _ _ _ _ (s .pre .6) (answer-above k (c .before .before .before .before .under-ceiling .ensures .0 (s .args .list .now) road k) above),
+          λ road k. held-above _ _ (s .pre .6) (answer-above k (c .before .before .before .before .under-ceiling .ensures .0 (s .args .list .now) road k) above),
           (s .pre .3, omega (arith, s .pre .4)),
         ),
       ),
@@ -67,7 +67,7 @@ returns-2 c =
       refl,
       (
         newest-put (s .args .measured .now) (s .args .progress .measured) (s .args .y .number) (omega (arith, s .pre .1, s .pre .2)),
-        (λ road d. held-by _ _ _ _ _ _ (answer-exact d (m road d) _ exact) (k .0), (k .1 .0, omega (arith, k .1 .1, s .pre .4))),
+        (λ road d. held-exact _ _ _ _ _ (answer-exact d (m road d) _ _ exact) (k .0), (k .1 .0, omega (arith, k .1 .1, s .pre .4))),
       ),
     )
 
