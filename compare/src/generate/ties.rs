@@ -100,8 +100,8 @@ impl Tie {
     }
 }
 
-/// Two yards of 10 seconds, whose furthest crews are at 5 and 8; the root's key is 2 + (10 − 5), each yard's 5 + 5 or 2
-/// + 8. The leaf is taken twice, then yards 2 and 3 are measured. The fairer one has the lower number, then the higher.
+/// Two yards of 10 seconds, whose furthest crews are at 5 and 8; the root's key is 2 + (10 − 5) = 7, each yard's 10. The
+/// leaf is taken twice, then yards 2 and 3 are measured. The fairer one has the lower number, then the higher.
 const TWO: [Tie; 4] = [
     Tie::first(1, &[(5, 5), (2, 8)], &[(2, 10)], [4, 2]),
     Tie::first(2, &[(5, 5), (2, 8)], &[(2, 10), (3, 10)], [4, 2]),
@@ -109,8 +109,9 @@ const TWO: [Tie; 4] = [
     Tie::first(2, &[(2, 8), (5, 5)], &[(3, 10), (2, 10)], [4, 2]),
 ];
 
-/// Three yards of 10 seconds, whose furthest crews are at 5, 6 and 8, in each order of their numbers, for k 1, 2 and 3.
-/// The leaf is taken three times, then yards 2, 3 and 4 are measured, the last under a ceiling that it equals.
+/// Three yards of 10 seconds, whose furthest crews are at 5, 6 and 8, in each order of their numbers; the keys are the
+/// same. The leaf is taken three times, then yards 2, 3 and 4 are measured, the last, for k 1 and 2, under a ceiling
+/// that it equals.
 const THREE: [Tie; 10] = [
     Tie::first(1, &[(5, 5), (4, 6), (2, 8)], &[(2, 10)], [6, 3]),
     Tie::first(1, &[(2, 8), (4, 6), (5, 5)], &[(4, 10)], [6, 3]),
@@ -135,7 +136,7 @@ const THREE: [Tie; 10] = [
 ];
 
 /// Yards of 10 seconds whose furthest crews are at 7, or at 7 and 6: of those at 7, and of those at 6, the lower number
-/// comes first.
+/// comes first. The root's key is 3 + (10 − 7) = 6, each yard's 10: all are measured.
 const EQUAL: [Tie; 4] = [
     Tie::first(1, &[(3, 7), (7, 3), (3, 7)], &[(2, 10)], [6, 3]),
     Tie::first(2, &[(3, 7), (7, 3), (3, 7)], &[(2, 10), (3, 10)], [6, 3]),
@@ -194,8 +195,8 @@ const MAXIMUM: [Tie; 6] = [
 ];
 
 /// Two crews at one junction are two. At junction 0: 3 + 3 + 7 and 4 + 4 + 5, both 13; junction 1 is 9 away, so the
-/// keys are 3 + 3 + 6 = 12 and 13, and yard 3 is measured last, under a ceiling of 13. At junction 1: 6 + 2 + 2 and 2 +
-/// 4 + 4, both 10; it is 6 away, so the keys are 6 + 0 + 0 and 10.
+/// keys are 3 + 3 + 6 = 12 and 13, and yard 3 is measured last, under a ceiling of 13. At junction 1, which is 6 away:
+/// 6 + 2 + 2 and 2 + 4 + 4, both 10; the keys are 6 + 0 + 0 and 10.
 const CREWS: [Tie; 5] = [
     Tie::first(1, &[(3, 7), (4, 5)], &[(3, 13)], [4, 2]).for_crews(&[0, 0, 1]),
     Tie::first(2, &[(3, 7), (4, 5)], &[(3, 13), (2, 13)], [4, 2]).for_crews(&[0, 1, 0]),

@@ -45,12 +45,14 @@ fn examples_are_explained_as_expected() {
     assert!(seen >= 4);
 }
 
+/// What is said last of an example's yard.
+fn last(name: &str, yard: &str) -> String {
+    let text = printed(&["why", told(&example(name)), yard], 0);
+    text.lines().last().unwrap().to_string()
+}
+
 #[test]
 fn one_yard_is_explained() {
-    let last = |name: &str, yard: &str| {
-        let text = printed(&["why", told(&example(name)), yard], 0);
-        text.lines().last().unwrap().to_string()
-    };
     assert_eq!(
         last("net-n", "3"),
         "yard 3, 13 seconds (9 from 0, 4 from 2): place 2; measured in step 4"
@@ -76,6 +78,18 @@ fn one_yard_is_explained() {
         last("none-within", "1"),
         "yard 1, 5 seconds (2 from 0, 3 from 2): 1 above the 4 seconds; never measured"
     );
+    let file = example("net-n");
+    for yard in ["2", "5", "depot", "-1", "+3", ""] {
+        let fault = refused(&["why", told(&file), yard], 2);
+        assert!(
+            fault.contains("expected a yard of the file, not `"),
+            "{fault}"
+        );
+    }
+}
+
+#[test]
+fn a_tie_is_explained() {
     assert_eq!(
         last("fairer-yard", "mill"),
         "yard mill, 10 seconds (2 from depot, 8 from quarry): beaten by yard bridge with the same 10 and the furthest \
@@ -86,14 +100,6 @@ fn one_yard_is_explained() {
         "yard farm, 10 seconds (5 from depot, 5 from quarry): beaten by yard bridge with the same 10, the furthest \
          crew at the same 5, and the lower number; measured in step 6"
     );
-    let file = example("net-n");
-    for yard in ["2", "5", "depot", "-1", "+3", ""] {
-        let fault = refused(&["why", told(&file), yard], 2);
-        assert!(
-            fault.contains("expected a yard of the file, not `"),
-            "{fault}"
-        );
-    }
 }
 
 /// Yard 0 is 8 and 8 seconds from the crews, yard 2 is 8 and 2: by the maximum the number decides.
