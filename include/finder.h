@@ -31,7 +31,7 @@
 extern "C" {
 #endif
 
-#define FINDER_VERSION "2.0.0" /* of this header and the library */
+#define FINDER_VERSION "2.1.0" /* of this header and the library */
 #define FINDER_BOOK_VERSION 1  /* the version byte of a book without kinds; road and query books have no other */
 #define FINDER_KINDS_VERSION 2 /* the version byte of a yard book or a tree book with kinds */
 #define FINDER_ALL_KINDS 255   /* every kind; as the wanted byte of a search: any yard */
@@ -120,13 +120,14 @@ struct finder_found {
  * own kinds decide, and FINDER_ALL_KINDS wants every yard; so does any wanted byte on a version 1 tree.
  *
  * A settled search writes its list over the start of results: for each yard listed two words, the yard (its junction)
- * and its aggregate distance in seconds, the least first, yards of equal distance by junction. The result words after
- * the list stay as they were. A search is spent if it took the query's limit of steps and isn't settled; then all of
- * results stays as it was. On a tree that passes the check, a limit of the tree's inner regions plus twice its wanted
- * yards settles every search; no tree needs more than FINDER_SETTLING_LIMIT. If no yard of it is wanted, the search is
- * settled with no yard listed and no step taken.
+ * and its aggregate distance in seconds, in yard order: the least aggregate first; of equal ones the yard whose
+ * furthest crew is nearer; of those the lower junction. By the maximum the furthest crew's distance is the aggregate,
+ * and equal ones go by junction. The result words after the list stay as they were. A search is spent if it took the
+ * query's limit of steps and isn't settled; then all of results stays as it was. On a tree that passes the check, a
+ * limit of the tree's inner regions plus twice its wanted yards settles every search; no tree needs more than
+ * FINDER_SETTLING_LIMIT. If no yard of it is wanted, the search is settled with no yard listed and no step taken.
  *
- * On a tree that passes the check beside these roads the list is exactly the first k of the tree's wanted yards in this
+ * On a tree that passes the check beside these roads the list is exactly the first k of the tree's wanted yards in yard
  * order, or all of them if there are fewer: no wanted yard left out comes before one listed. A search itself doesn't
  * make the check's test 9. On a tree that a check would refuse by 9 the list's yards are distinct, wanted, in order and
  * with true distances, but a yard may be left out. So check a tree once before searching on it, and again beside other
@@ -141,10 +142,9 @@ struct finder_found finder_search(const uint8_t *road, size_t road_len, const ui
  *
  * The search goes by finder_search's steps, within the query's limit of them, and is settled as soon as no yard or
  * region is left to take whose key is at most the seconds. What it returns and writes is as there: a settled search
- * writes a yard and its aggregate distance for each yard listed, each yard once, the least first, yards of equal
- * distance by junction; a spent one writes nothing. The limits that settle every search are the same. However many
- * yards are wanted or within the seconds, results holds two words for each yard of the tree, or the call is refused by
- * 12.
+ * writes a yard and its aggregate distance for each yard listed, each yard once, in finder_search's yard order; a spent
+ * one writes nothing. The limits that settle every search are the same. However many yards are wanted or within the
+ * seconds, results holds two words for each yard of the tree, or the call is refused by 12.
  *
  * On a tree that passes the check beside these roads the list is exactly the tree's wanted yards within the seconds,
  * and no yard is measured whose bound exceeds them. On a tree that a check would refuse by 9 the list's yards are

@@ -1,6 +1,6 @@
 /* A small planner: builds a tree for net N, checks it, then damaged ones, searches it, for two yards and within drives,
- * does the same with a yard book of two kinds, and prints. In what it prints every returned field has a number of its
- * own somewhere, so that no two can be exchanged unseen. */
+ * also for yards of the same sum, does the same with a yard book of two kinds, and prints. In what it prints every
+ * returned field has a number of its own somewhere, so that no two can be exchanged unseen. */
 #include <stdio.h>
 
 #include "finder.h"
@@ -32,6 +32,7 @@ static uint8_t query[] = {0, 0, 0, 12, FINDER_BOOK_VERSION, FINDER_SUM, 2, 0, 0,
 #define AGGREGATE 5
 #define K 6
 #define LIMIT 10
+#define FIRST_CREW 13
 #define LAST_CREW 15
 
 /* The tree's area, and the work and result areas with words after them that no call may change. A search for two yards
@@ -167,6 +168,27 @@ static void search_all(size_t length)
     query[K] = 2;
 }
 
+/* Searches for crews at 1 and 4, to whom yards 1, 3 and 4 are 0 + 8, 7 + 1 and 8 + 0 seconds away: of the same sum, and
+ * with the furthest crew at 8, 7 and 8. So yard 3 comes first, then yard 1 by its number. Each yard's key is 8, the
+ * root's 0: six steps measure all. By the maximum yard 3 is taken first, and the list is no other. */
+static void search_ties(size_t length)
+{
+    query[FIRST_CREW] = 1;
+    query[LAST_CREW] = 4;
+    query[LIMIT] = 6;
+    search("search for two of three yards of the same sum", length, RESULT_WORDS);
+    within("yards within 8 seconds, all of the same sum", length, 8, WITHIN_WORDS);
+    within("yards within 7 seconds, a second less", length, 7, WITHIN_WORDS);
+    query[AGGREGATE] = FINDER_MAXIMUM;
+    search("search for two of them by the maximum", length, RESULT_WORDS);
+    query[AGGREGATE] = FINDER_SUM;
+    query[LIMIT] = 5;
+    search("search for two of them, of five steps", length, RESULT_WORDS);
+    query[FIRST_CREW] = 0;
+    query[LAST_CREW] = 2;
+    query[LIMIT] = 4;
+}
+
 /* The same tree with its landmark at junction 2, from where the yards are 3, 4 and 5 seconds away. For crews at 0 and
  * 2 each yard's bound is 5 then, and the yards are 5, 13 and 15 seconds away in sum. */
 static void move_landmark(void)
@@ -269,6 +291,7 @@ int main(void)
     check("check of a book cut short", length - 1, FINDER_WORK_WORDS);
 
     search_all(length);
+    search_ties(length);
 
     tree[length - 3] = 11; /* yard 4 is 10 seconds away from junction 0: a second too long */
     check("check of a false distance", length, FINDER_WORK_WORDS);

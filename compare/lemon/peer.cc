@@ -14,6 +14,7 @@
 #include <cstdio>
 #include <cstdlib>
 #include <cstring>
+#include <tuple>
 #include <utility>
 #include <vector>
 
@@ -93,7 +94,18 @@ static void roads()
     }
 }
 
-using Ranked = std::vector<std::pair<uint64_t, unsigned>>;
+// A yard in yard order: the aggregate, then the furthest crew's distance, then the junction.
+struct Place {
+    uint64_t total, furthest;
+    unsigned yard;
+
+    bool operator<(const Place &other) const
+    {
+        return std::tie(total, furthest, yard) < std::tie(other.total, other.furthest, other.yard);
+    }
+};
+
+using Ranked = std::vector<Place>;
 
 // The first k yards of a query, or all within a drive, by a walk from each crew and the yards sorted. The graph is made
 // from the book, as in a call.
@@ -103,16 +115,17 @@ static Ranked listed(const Bytes &road, const Bytes &yard, const Bytes &query, c
     Dijkstra dijkstra(district.graph, district.seconds);
     Ranked ranked;
     for (size_t i = 0; i < u16(yard, 5); i++)
-        ranked.emplace_back(0, u16(yard, 7 + 2 * i));
+        ranked.push_back({0, 0, u16(yard, 7 + 2 * i)});
     for (size_t crew = 0; crew < query.at(11); crew++) {
         dijkstra.run(district.graph.node(u16(query, 12 + 2 * crew)));
-        for (auto &[total, y] : ranked) {
+        for (auto &[total, furthest, y] : ranked) {
             const uint64_t d = dijkstra.dist(district.graph.node(y));
-            total = query.at(5) == 0 ? total + d : std::max(total, d);
+            furthest = std::max(furthest, d);
+            total = query.at(5) == 0 ? total + d : furthest;
         }
     }
     if (drive) {
-        const auto above = [drive](const auto &yard) { return yard.first > *drive; };
+        const auto above = [drive](const Place &place) { return place.total > *drive; };
         ranked.erase(std::remove_if(ranked.begin(), ranked.end(), above), ranked.end());
     }
     std::sort(ranked.begin(), ranked.end());
@@ -135,8 +148,8 @@ static void search(char **arguments, bool within)
         best = std::min<decltype(best)>(best, Clock::now() - start);
     } while (Clock::now() < end);
     printf("%f\n", best.count());
-    for (const auto &[total, y] : ranked)
-        printf("%u %llu\n", y, (unsigned long long)total);
+    for (const Place &place : ranked)
+        printf("%u %llu\n", place.yard, (unsigned long long)place.total);
 }
 
 int main(int count, char **arguments)

@@ -44,16 +44,28 @@ fn aggregate(code: Aggregate, values: &[u64]) -> u64 {
     total
 }
 
-/// "*Yard order* is by aggregate, then junction number": all yards in it, as (aggregate, yard).
+/// "Of two yards with the same sum, the one whose furthest crew is nearer now comes first, and only then the lower
+/// junction number": all yards in yard order, as (aggregate, yard).
 pub fn ranked(all: &[Vec<u64>], yards: &[u16], query: &Query) -> Vec<(u64, u16)> {
     let mut ranked = Vec::new();
     for &yard in yards {
-        let to_crew = |&crew: &u16| all[usize::from(crew)][usize::from(yard)];
-        let values: Vec<u64> = query.crews.iter().map(to_crew).collect();
-        ranked.push((aggregate(query.aggregate, &values), yard));
+        let total = aggregate(query.aggregate, &to_crews(all, yard, query));
+        ranked.push((total, furthest(all, yard, query), yard));
     }
     ranked.sort();
-    ranked
+    let listed = |(total, _, yard)| (total, yard);
+    ranked.into_iter().map(listed).collect()
+}
+
+/// A yard's distance to its furthest crew.
+pub fn furthest(all: &[Vec<u64>], yard: u16, query: &Query) -> u64 {
+    aggregate(Aggregate::Maximum, &to_crews(all, yard, query))
+}
+
+/// A yard's distances to the crews.
+fn to_crews(all: &[Vec<u64>], yard: u16, query: &Query) -> Vec<u64> {
+    let to_crew = |&crew: &u16| all[usize::from(crew)][usize::from(yard)];
+    query.crews.iter().map(to_crew).collect()
 }
 
 /// "exactly the first k of the tree's yards (or all if fewer)".

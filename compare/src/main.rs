@@ -20,7 +20,7 @@ const USAGE: &str = "usage: reference list < BYTES
        reference within ROAD TREE QUERY WANTED SECONDS WORK RESULTS
        reference outline < TREE
        reference roads ROAD|-
-       reference generate grid|random|star|chain|ring|longchain SEED > ROAD
+       reference generate grid|random|star|chain|ring|longchain|even SEED > ROAD
        reference generate yards|kinds N SEED > YARD
 ROAD, YARD, TREE and QUERY are files; WORK and RESULTS are numbers of words, AREA of bytes; WANTED is 0 to 255.";
 

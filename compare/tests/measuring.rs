@@ -6,7 +6,7 @@ use compare::generate::Numbers;
 use compare::query::{self, Aggregate, Query};
 use compare::road::{self, Road, RoadBook};
 use compare::search::measure::Measured::{self, Above, Exact};
-use compare::search::measure::{measure, Walk};
+use compare::search::measure::{measure, Drive, Walk};
 
 const AGGREGATES: [Aggregate; 2] = [Aggregate::Sum, Aggregate::Maximum];
 
@@ -27,6 +27,11 @@ fn net_n() -> RoadBook {
 fn long_chain() -> RoadBook {
     let roads: Vec<(u16, u16, u16)> = (0..1_023).map(|low| (low, low + 1, 1)).collect();
     district_of(&roads)
+}
+
+/// A yard that is measured: the aggregate, and the furthest crew's distance.
+fn exact(distance: u32, furthest: u32) -> Measured {
+    Exact(Drive { distance, furthest })
 }
 
 /// A query for the aggregate over these crews.
@@ -55,9 +60,9 @@ fn measured(
 fn a_sum_stops_before_the_ceilings_radius() {
     let (road, query) = (net_n(), query_for(Aggregate::Sum, &[1, 4]));
     for (ceiling, answer, walked_on) in [
-        (None, Exact(12), &[0, 1, 2, 3][..]),
-        (Some(13), Exact(12), &[0, 1, 2, 3]),
-        (Some(12), Exact(12), &[0, 1, 2, 3]),
+        (None, exact(12, 10), &[0, 1, 2, 3][..]),
+        (Some(13), exact(12, 10), &[0, 1, 2, 3]),
+        (Some(12), exact(12, 10), &[0, 1, 2, 3]),
         (Some(11), Above, &[0, 1, 2, 3]),
         (Some(10), Above, &[0, 1, 2]),
         (Some(7), Above, &[0, 1, 2]),
@@ -76,9 +81,9 @@ fn a_sum_stops_before_the_ceilings_radius() {
 fn a_maximum_stops_at_the_ceilings_radius() {
     let (road, query) = (net_n(), query_for(Aggregate::Maximum, &[1, 4]));
     for (ceiling, answer, walked_on) in [
-        (None, Exact(10), &[0, 1, 2, 3][..]),
-        (Some(11), Exact(10), &[0, 1, 2, 3]),
-        (Some(10), Exact(10), &[0, 1, 2, 3]),
+        (None, exact(10, 10), &[0, 1, 2, 3][..]),
+        (Some(11), exact(10, 10), &[0, 1, 2, 3]),
+        (Some(10), exact(10, 10), &[0, 1, 2, 3]),
         (Some(9), Above, &[0, 1, 2, 3]),
         (Some(8), Above, &[0, 1, 2]),
         (Some(5), Above, &[0, 1, 2]),
@@ -116,9 +121,9 @@ fn two_crews_at_one_junction_are_two() {
     let (road, sum) = (net_n(), query_for(Aggregate::Sum, &[4, 4]));
     assert_eq!(
         measured(&road, &sum, None, 0),
-        (Exact(20), vec![0, 1, 2, 3])
+        (exact(20, 10), vec![0, 1, 2, 3])
     );
-    assert_eq!(measured(&road, &sum, Some(20), 0).0, Exact(20));
+    assert_eq!(measured(&road, &sum, Some(20), 0).0, exact(20, 10));
     assert_eq!(
         measured(&road, &sum, Some(19), 0),
         (Above, vec![0, 1, 2, 3])
@@ -126,7 +131,7 @@ fn two_crews_at_one_junction_are_two() {
     assert_eq!(measured(&road, &sum, Some(17), 0), (Above, vec![0, 1, 2]));
     assert_eq!(measured(&road, &sum, Some(9), 0), (Above, vec![0, 1]));
     let maximum = query_for(Aggregate::Maximum, &[4, 4]);
-    assert_eq!(measured(&road, &maximum, Some(10), 0).0, Exact(10));
+    assert_eq!(measured(&road, &maximum, Some(10), 0).0, exact(10, 10));
     assert_eq!(measured(&road, &maximum, Some(9), 0).0, Above);
 }
 
@@ -135,8 +140,11 @@ fn two_crews_at_one_junction_are_two() {
 fn a_crew_at_the_yard() {
     for aggregate in AGGREGATES {
         let (road, query) = (net_n(), query_for(aggregate, &[2, 4]));
-        assert_eq!(measured(&road, &query, None, 2), (Exact(5), vec![2, 1, 3]));
-        assert_eq!(measured(&road, &query, Some(5), 2).0, Exact(5));
+        assert_eq!(
+            measured(&road, &query, None, 2),
+            (exact(5, 5), vec![2, 1, 3])
+        );
+        assert_eq!(measured(&road, &query, Some(5), 2).0, exact(5, 5));
         assert_eq!(measured(&road, &query, Some(4), 2), (Above, vec![2, 1, 3]));
         assert_eq!(measured(&road, &query, Some(3), 2), (Above, vec![2, 1]));
     }
@@ -148,7 +156,7 @@ fn all_crews_at_the_yard() {
     for aggregate in AGGREGATES {
         let (road, query) = (net_n(), query_for(aggregate, &[3, 3, 3]));
         for ceiling in [None, Some(0), Some(1)] {
-            assert_eq!(measured(&road, &query, ceiling, 3), (Exact(0), vec![]));
+            assert_eq!(measured(&road, &query, ceiling, 3), (exact(0, 0), vec![]));
         }
     }
 }
@@ -159,7 +167,7 @@ fn a_junction_reached_nearer_later() {
     let road = district_of(&[(0, 1, 10), (0, 2, 1), (1, 2, 1), (1, 3, 20)]);
     for aggregate in AGGREGATES {
         let query = query_for(aggregate, &[3]);
-        for (ceiling, answer) in [(15, Above), (21, Above), (22, Exact(22))] {
+        for (ceiling, answer) in [(15, Above), (21, Above), (22, exact(22, 22))] {
             let expected = (answer, vec![0, 2, 1]);
             assert_eq!(measured(&road, &query, Some(ceiling), 0), expected);
         }
@@ -197,7 +205,8 @@ fn assert_walk(walk: &Walk, distances: &[u64], ceiling: Option<u32>) {
     assert_eq!(once.len(), walk.walked_on.len());
 }
 
-/// "answers either the true aggregate or "above", which it gives exactly when the aggregate exceeds the ceiling".
+/// "answers either the true aggregate or "above", which it gives exactly when the aggregate exceeds the ceiling"; with
+/// the aggregate the furthest crew's distance.
 fn assert_measured(
     road: &RoadBook,
     all: &[Vec<u64>],
@@ -206,9 +215,10 @@ fn assert_measured(
     yard: u16,
 ) -> Measured {
     let aggregate = brute::ranked(all, &[yard], query)[0].0 as u32;
+    let furthest = brute::furthest(all, yard, query) as u32;
     let expected = match ceiling {
         Some(ceiling) if aggregate > ceiling => Above,
-        _ => Exact(aggregate),
+        _ => exact(aggregate, furthest),
     };
     let (answer, walk) = measure(road, query, ceiling, yard);
     assert_eq!(answer, expected);

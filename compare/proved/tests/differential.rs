@@ -4,7 +4,8 @@
 use std::collections::BTreeMap;
 
 use compare::build::KINDS_AREA_BYTES;
-use compare::generate::call::{random_build, random_check, random_search, random_within};
+use compare::generate::call::{random_build, random_check, random_search};
+use compare::generate::call::{random_within, tied_search};
 use compare::generate::damage::{self, Call, ASKED, VERSIONS};
 use compare::generate::{standard, Numbers};
 use compare::refusal::WORK_WORDS;
@@ -245,6 +246,21 @@ fn random_districts() {
     }
     tally.assert_all(20);
     assert!(tally.spent.iter().all(|&spent| spent >= 1_000));
+}
+
+/// Searches where many yards have the same sum, so that the furthest crews decide.
+#[test]
+fn tied_districts() {
+    let mut numbers = Numbers::new(30);
+    let mut tally = Tally::default();
+    for turn in 0..20_000 {
+        let most = if turn % 100 == 0 { 400 } else { 40 };
+        tally.make(&tied_search(&mut numbers, most), &mut numbers);
+    }
+    for searches in [&tally.searches, &tally.drives] {
+        assert!(searches[&0] >= 8_000, "{searches:?}");
+    }
+    assert!(tally.spent.iter().all(|&spent| spent >= 100));
 }
 
 #[test]

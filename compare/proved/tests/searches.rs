@@ -2,7 +2,7 @@
 //! settled searches against brute force over the wanted yards.
 
 use compare::build::KINDS_AREA_BYTES;
-use compare::generate::call::{random_search, random_within};
+use compare::generate::call::{random_search, random_within, tied_search};
 use compare::generate::damage::{false_root, sound_query, sound_road, sound_yard, Call, VERSIONS};
 use compare::generate::district::{district, false_tree, query_book, random_tree, wanted};
 use compare::generate::{standard, Numbers};
@@ -105,15 +105,19 @@ impl Books {
     /// queue; in a drive search none above the seconds is listed.
     fn assert_true(&self, list: &[u32]) {
         let ranked = self.ranked_of(brute::entering_yards);
-        let pairs = list.chunks(2).map(|p| (u64::from(p[1]), p[0] as u16));
-        let pairs: Vec<(u64, u16)> = pairs.collect();
-        assert!(pairs.windows(2).all(|pair| pair[0] < pair[1]));
-        assert!(pairs.iter().all(|pair| ranked.contains(pair)));
+        let pairs = pairs(list);
+        assert!(in_turn(&pairs, &ranked));
         match self.asked {
             Asked::FirstK => assert_eq!(pairs.len(), ranked.len().min(self.query[6].into())),
             Asked::Within(seconds) => assert!(pairs.iter().all(|p| p.0 <= u64::from(seconds))),
         }
     }
+}
+
+/// Whether all of a list stand in another, each after the one before it.
+fn in_turn(list: &[(u64, u16)], all: &[(u64, u16)]) -> bool {
+    let mut all = all.iter();
+    list.iter().all(|listed| all.any(|one| one == listed))
 }
 
 /// Of all wanted yards in yard order those that a settled list has: "exactly the first k of the tree's yards (or all if
@@ -127,6 +131,12 @@ fn settled(asked: Asked, k: usize, ranked: &[(u64, u16)]) -> &[(u64, u16)] {
             .count(),
     };
     &ranked[..count]
+}
+
+/// The (distance, yard) pairs of a list's words.
+fn pairs(list: &[u32]) -> Vec<(u64, u16)> {
+    let pairs = list.chunks(2);
+    pairs.map(|p| (u64::from(p[1]), p[0] as u16)).collect()
 }
 
 /// "(yard, distance) words".
@@ -299,7 +309,8 @@ fn full_size() {
 const KINDS: [u8; 5] = [kinds::ALL, 1, 6, kinds::ALL, 0b1001_0010];
 
 /// A tree refused by 9 whose root's key is above 32 bits, in which it would be 4,294,967,277 or 103: no drive reaches
-/// it, and a search for k yards goes on below it.
+/// it, and a search for k yards goes on below it. Yards 1 and 2 are 10 + 81 and 21 + 70 seconds away, so that yard 2,
+/// whose furthest crew is nearer, comes first.
 #[test]
 fn a_root_above_32_bits() {
     for least in [u32::MAX, 2_147_483_708] {
@@ -317,7 +328,7 @@ fn a_root_above_32_bits() {
         assert_eq!(counts(books.ask(&mut areas)), [1, 0, 0, 0]);
         books.asked = Asked::FirstK;
         assert_eq!(counts(books.ask(&mut areas)), [1, 2, 8, 2]);
-        assert_eq!(areas.results()[..4], [1, 91, 2, 91]);
+        assert_eq!(areas.results()[..4], [2, 91, 1, 91]);
     }
 }
 
@@ -352,6 +363,35 @@ fn a_full_list_comes_first() {
     }
     println!("{settled} settled, {longer} of them longer");
     assert!(settled >= 1_000 && longer >= 100);
+}
+
+/// The list's aggregates are, place by place, those of the order by aggregate and number; by the maximum so is the
+/// whole list. By the sum the order is often another, and at times so are the first k yards.
+#[test]
+fn aggregates_are_those_of_the_order_by_number() {
+    let mut numbers = Numbers::new(37);
+    let (mut other_order, mut other_yards) = (0, 0);
+    for _ in 0..20_000 {
+        let books = Books::of(tied_search(&mut numbers, 40));
+        let mut areas = Areas::new(&[7; WORK_WORDS], &[7; 128]);
+        let found = books.ask(&mut areas);
+        if found.settled == 0 || !books.passes() {
+            continue;
+        }
+        let list = pairs(&areas.results()[..2 * found.listed as usize]);
+        let mut by_number = books.ranked();
+        by_number.sort_unstable();
+        let by_number = settled(books.asked, books.query[6].into(), &by_number);
+        let aggregates = |list: &[(u64, u16)]| -> Vec<u64> { list.iter().map(|p| p.0).collect() };
+        assert_eq!(aggregates(&list), aggregates(by_number));
+        if books.query[5] == 1 {
+            assert_eq!(list, by_number);
+        }
+        other_order += u32::from(list != by_number);
+        other_yards += u32::from(list.iter().any(|yard| !by_number.contains(yard)));
+    }
+    println!("{other_order} in another order, {other_yards} of other yards");
+    assert!(other_order >= 3_000 && other_yards >= 400);
 }
 
 /// Fewer steps than a drive search takes to settle leave it spent, on trees that pass and on false ones.

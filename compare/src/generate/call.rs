@@ -2,9 +2,11 @@
 
 use super::change::{changed_query, changed_road, changed_tree, changed_yard};
 use super::damage::{random_damage, Call};
-use super::district::{district, false_tree, query_book, random_tree, wanted, District};
+use super::district::{district, tied_district, District};
+use super::district::{false_tree, query_book, random_tree, tied_query, wanted};
 use super::Numbers;
 use crate::build::{area_bytes, build, AREA_BYTES, KINDS_AREA_BYTES};
+use crate::kinds::ALL;
 use crate::refusal::WORK_WORDS;
 use crate::road::{self, RoadBook};
 use crate::search::Asked;
@@ -74,6 +76,31 @@ fn random_asked(numbers: &mut Numbers, most_junctions: u16, drive: bool) -> Call
         results: area(numbers, 2 * listed),
         query: other_query(numbers, query, d.junctions),
         work: area(numbers, WORK_WORDS),
+    }
+}
+
+/// A search, for k yards or within a drive, where many yards have the same sum; of its books the tree may be false.
+pub fn tied_search(numbers: &mut Numbers, most_junctions: u16) -> Call {
+    let d = tied_district(numbers, most_junctions);
+    let roads = roads_of(&d);
+    let tree = some_tree(numbers, &d, &roads);
+    let query = tied_query(numbers, d.junctions, d.yards.len());
+    let asked = match numbers.once_in(2) {
+        true => Asked::FirstK,
+        false => Asked::Within(seconds(numbers, &roads, &d.yards, &query)),
+    };
+    Call::Search {
+        asked,
+        wanted: if numbers.once_in(4) {
+            wanted(numbers)
+        } else {
+            ALL
+        },
+        tree: tree::write(&tree),
+        results: 2 * d.yards.len(),
+        road: d.road,
+        query,
+        work: WORK_WORDS,
     }
 }
 

@@ -20,10 +20,24 @@ pub struct District {
     pub junctions: u16,
 }
 
+/// The longest road of a district may be so long.
+const MOST_SECONDS: [u16; 6] = [1, 2, 3, 20, 1_000, 65_535];
+
 /// A connected district of at most so many junctions.
 pub fn district(numbers: &mut Numbers, most_junctions: u16) -> District {
+    let most_seconds = MOST_SECONDS[numbers.between(0, 5) as usize];
+    district_of(numbers, most_junctions, most_seconds)
+}
+
+/// The same with roads of 1 or 2 seconds, so that many yards have the same sum.
+pub fn tied_district(numbers: &mut Numbers, most_junctions: u16) -> District {
+    district_of(numbers, most_junctions, 2)
+}
+
+/// A connected district with roads of at most so many seconds.
+fn district_of(numbers: &mut Numbers, most_junctions: u16, most_seconds: u16) -> District {
     let junctions = numbers.between16(1, most_junctions);
-    let road = road::write(junctions, &roads(numbers, junctions));
+    let road = road::write(junctions, &roads(numbers, junctions, most_seconds));
     let yards = yards(numbers, junctions);
     let book = with_kinds(numbers, &yards);
     District {
@@ -70,8 +84,7 @@ pub fn wanted(numbers: &mut Numbers) -> u8 {
 }
 
 /// Each junction is joined to an earlier one, near or any; then some more roads.
-fn roads(numbers: &mut Numbers, junctions: u16) -> Vec<Road> {
-    let most_seconds = [1, 3, 20, 1_000, 65_535][numbers.between(0, 4) as usize];
+fn roads(numbers: &mut Numbers, junctions: u16, most_seconds: u16) -> Vec<Road> {
     let reach = [1, 4, 1_024][numbers.between(0, 2) as usize];
     let mut roads = BTreeMap::new();
     for high in 1..junctions {
@@ -118,6 +131,21 @@ pub fn query_book(numbers: &mut Numbers, junctions: u16) -> Vec<u8> {
         _ => u32::MAX,
     };
     query::write(numbers.between(0, 1) as u8, k as u8, limit, &crews)
+}
+
+/// A query for two to five crews, mostly by the sum and with steps enough, for some of so many yards.
+pub fn tied_query(numbers: &mut Numbers, junctions: u16, yards: usize) -> Vec<u8> {
+    let crews = numbers.between(2, 5);
+    let crews: Vec<u16> = (0..crews)
+        .map(|_| numbers.between16(0, junctions - 1))
+        .collect();
+    let k = numbers.between(1, yards.min(64) as u64) as u8;
+    let limit = match numbers.once_in(8) {
+        true => numbers.between(0, 60) as u32,
+        false => u32::MAX,
+    };
+    let aggregate = u8::from(numbers.once_in(6));
+    query::write(aggregate, k, limit, &crews)
 }
 
 /// A tree that passes, cut at random places, with landmarks at random places or by build's rule.

@@ -5,6 +5,7 @@ pub mod change;
 pub mod damage;
 pub mod district;
 pub mod standard;
+pub mod ties;
 
 /// A source of numbers (splitmix64).
 pub struct Numbers {

@@ -11,38 +11,59 @@ use crate::yard::{self, Yard};
 const JUNCTIONS: u16 = 1_024;
 /// The longest road.
 const MOST_SECONDS: u16 = 65_535;
+/// Each road of the even grid, which no seed changes.
+const EVEN_SECONDS: u16 = 60;
+/// The grids' rows, and the junctions of each.
+const SIDE: u16 = 32;
 
 /// The kinds of road book, by name.
-pub const KINDS: [&str; 6] = ["grid", "random", "star", "chain", "ring", "longchain"];
+pub const KINDS: [&str; 7] = [
+    "grid",
+    "random",
+    "star",
+    "chain",
+    "ring",
+    "longchain",
+    "even",
+];
 
 /// The road book of a kind and a seed; none for an unknown kind.
 pub fn road_book(kind: &str, seed: u32) -> Option<Vec<u8>> {
     let roads = match kind {
-        "grid" => grid(32, seed),
+        "grid" => grid(seeded(seed)),
         "random" => random(seed),
         "star" => joined(seed, |high| (0, high)),
         "chain" => joined(seed, |high| (high - 1, high)),
         "ring" => ring(seed),
         "longchain" => long_chain(),
+        "even" => grid(|| EVEN_SECONDS),
         _ => return None,
     };
     Some(road::write(JUNCTIONS, &roads))
 }
 
-/// "a square grid, junction = row × side + column, roads to the right and lower neighbours in the book's order."
-fn grid(side: u16, seed: u32) -> Vec<Road> {
-    let mut state = seed;
+/// "a square grid, junction = row × side + column, roads to the right and lower neighbours in the book's order." With
+/// the same seconds for each road many yards have the same sum.
+fn grid(mut seconds: impl FnMut() -> u16) -> Vec<Road> {
     let mut roads = Vec::new();
-    for low in 0..side * side {
-        let right = (low % side + 1 < side).then_some(low + 1);
-        let lower = (low / side + 1 < side).then_some(low + side);
+    for low in 0..SIDE * SIDE {
+        let right = (low % SIDE + 1 < SIDE).then_some(low + 1);
+        let lower = (low / SIDE + 1 < SIDE).then_some(low + SIDE);
         for high in right.into_iter().chain(lower) {
-            state = next_state(state);
-            let seconds = (1 + state / 131_072) as u16;
+            let seconds = seconds();
             roads.push(Road { low, high, seconds });
         }
     }
     roads
+}
+
+/// The seconds of one road after the other, from the states that follow from a seed.
+fn seeded(seed: u32) -> impl FnMut() -> u16 {
+    let mut state = seed;
+    move || {
+        state = next_state(state);
+        (1 + state / 131_072) as u16
+    }
 }
 
 /// "the next state, 1,664,525 × state + 1,013,904,223 modulo 4,294,967,296".

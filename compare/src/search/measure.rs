@@ -2,13 +2,31 @@
 
 use std::cmp::Reverse;
 
-use crate::query::Query;
+use crate::query::{Aggregate, Query};
 use crate::road::{Reached, RoadBook, NO_WALK};
 
-/// "either the true aggregate or "above", which it gives exactly when the aggregate exceeds the ceiling".
+/// What yard order goes by before the junction number: the aggregate, then how far the furthest crew is.
+#[derive(Clone, Copy, Debug, PartialEq, Eq, PartialOrd, Ord)]
+pub struct Drive {
+    pub distance: u32,
+    pub furthest: u32,
+}
+
+impl Drive {
+    /// The drive of these true distances to the crews.
+    pub fn over(aggregate: Aggregate, distances: impl Iterator<Item = u32> + Clone) -> Self {
+        Drive {
+            distance: aggregate.over(distances.clone()),
+            furthest: Aggregate::Maximum.over(distances),
+        }
+    }
+}
+
+/// "either the true aggregate or "above", which it gives exactly when the aggregate exceeds the ceiling"; with the
+/// aggregate goes the furthest crew's distance, since a yard at the ceiling may still come before one that is held.
 #[derive(Clone, Copy, Debug, PartialEq, Eq)]
 pub enum Measured {
-    Exact(u32),
+    Exact(Drive),
     Above,
 }
 
@@ -86,13 +104,13 @@ impl<'a> Walk<'a> {
     fn decided(&self, query: &Query, ceiling: Option<u32>) -> Option<Measured> {
         let nearest = self.nearest();
         let crews = query.crews.iter();
-        let mut so_far = crews.map(|&crew| self.distances[usize::from(crew)]);
+        let so_far = crews.map(|&crew| self.distances[usize::from(crew)]);
         let reckoned = so_far.clone().map(|far| far.min(nearest));
         let reckoning = query.aggregate.over(reckoned);
         if ceiling.is_some_and(|ceiling| reckoning > ceiling) {
             return Some(Measured::Above);
         }
-        let none_out = so_far.all(|far| far <= nearest);
-        none_out.then_some(Measured::Exact(reckoning))
+        let none_out = so_far.clone().all(|far| far <= nearest);
+        none_out.then(|| Measured::Exact(Drive::over(query.aggregate, so_far)))
     }
 }

@@ -222,8 +222,8 @@ pub fn found(outcome: &Outcome) -> Found {
 
 /// "Settled writes (yard, distance) words into the result area and nothing after them".
 fn write_list(state: &State, results: &mut [u32]) {
-    for (words, &(distance, yard)) in results.chunks_mut(2).zip(&state.held) {
-        words[0] = u32::from(yard);
-        words[1] = distance;
+    for (words, held) in results.chunks_mut(2).zip(&state.held) {
+        words[0] = u32::from(held.yard);
+        words[1] = held.distance();
     }
 }

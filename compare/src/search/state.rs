@@ -3,7 +3,7 @@
 use std::collections::{BTreeMap, BTreeSet, VecDeque};
 
 use super::bound::{f, pick_landmark, region_key, yard_bound};
-use super::measure::{measure, Measured};
+use super::measure::{measure, Drive, Measured};
 use super::{Asked, Measuring, Search};
 use crate::tree::Entry;
 
@@ -14,12 +14,27 @@ pub enum Item {
     Yard(u16),
 }
 
+/// A held yard. "Of two yards with the same sum, the one whose furthest crew is nearer now comes first, and only then
+/// the lower junction number": the order of the fields is yard order.
+#[derive(Clone, Copy, Debug, PartialEq, Eq, PartialOrd, Ord)]
+pub struct Held {
+    pub drive: Drive,
+    pub yard: u16,
+}
+
+impl Held {
+    /// The aggregate, which is what the list says of the yard.
+    pub fn distance(&self) -> u32 {
+        self.drive.distance
+    }
+}
+
 /// "One step is a function of its own: from a search's state, which keeps the queue, the held yards and the
 /// measured yards". The leaves already taken are kept too, with what they still have, and how many junctions the
 /// measured yards' walks have walked on from.
 pub struct State {
     pub queue: BTreeSet<(u64, Item)>,
-    pub held: Vec<(u32, u16)>,
+    pub held: Vec<Held>,
     pub measured: Vec<u16>,
     pub walked_on: usize,
     leaves: BTreeMap<usize, Leaf>,
@@ -65,7 +80,7 @@ impl State {
     /// until k are held; the drive search its seconds".
     fn ceiling(&self, search: &Search) -> Option<u32> {
         match search.asked {
-            Asked::FirstK => self.held.get(search.query.k - 1).map(|&(d, _)| d),
+            Asked::FirstK => self.held.get(search.query.k - 1).map(Held::distance),
             Asked::Within(seconds) => Some(seconds),
         }
     }
@@ -140,9 +155,10 @@ fn first_taken(search: &Search, key: u64, number: usize) -> Leaf {
 /// answered "above" still counts as measured."
 fn take_yard(search: &Search, state: &mut State, yard: u16) {
     state.measured.push(yard);
-    if let Measured::Exact(distance) = measured(search, state, yard) {
-        let place = state.held.partition_point(|held| *held < (distance, yard));
-        state.held.insert(place, (distance, yard));
+    if let Measured::Exact(drive) = measured(search, state, yard) {
+        let new = Held { drive, yard };
+        let place = state.held.partition_point(|held| *held < new);
+        state.held.insert(place, new);
         state.held.truncate(kept(search, &state.held));
     }
 }
@@ -152,7 +168,7 @@ fn measured(search: &Search, state: &mut State, yard: u16) -> Measured {
     let ceiling = match search.measuring {
         Measuring::Walks => state.ceiling(search),
         Measuring::WalksWithoutCeiling => None,
-        Measuring::Rows => return Measured::Exact(true_distance(search, yard)),
+        Measuring::Rows => return Measured::Exact(true_drive(search, yard)),
     };
     let (measured, walk) = measure(&search.road, &search.query, ceiling, yard);
     state.walked_on += walk.walked_on.len();
@@ -161,16 +177,16 @@ fn measured(search: &Search, state: &mut State, yard: u16) -> Measured {
 
 /// How many of some yards in yard order are kept: "the k least"; in a drive search "each yard whose aggregate
 /// is at most a given number of seconds".
-fn kept(search: &Search, yards: &[(u32, u16)]) -> usize {
+fn kept(search: &Search, yards: &[Held]) -> usize {
     match search.asked {
         Asked::FirstK => search.query.k,
-        Asked::Within(seconds) => yards.partition_point(|&(d, _)| d <= seconds),
+        Asked::Within(seconds) => yards.partition_point(|held| held.distance() <= seconds),
     }
 }
 
-/// The aggregate of a yard's true distances to the crews, by their rows.
-pub fn true_distance(search: &Search, yard: u16) -> u32 {
+/// A yard's drive by the crews' rows.
+pub fn true_drive(search: &Search, yard: u16) -> Drive {
     let to_yard = |row: &Vec<u32>| row[usize::from(yard)];
     let distances = search.crew_distances.iter().map(to_yard);
-    search.query.aggregate.over(distances)
+    Drive::over(search.query.aggregate, distances)
 }

@@ -2,7 +2,7 @@
 
 use compare::kinds::ALL;
 use compare::search::state::Item::{self, Region, Yard};
-use compare::search::state::{step, State};
+use compare::search::state::{step, Held, State};
 use compare::search::Search;
 use compare::tree::{self, Landmark, Stored, Tree};
 
@@ -41,6 +41,12 @@ pub fn follow(search: &Search, queues: &str) -> State {
 /// The state's queue, in order.
 fn held_queue(state: &State) -> Queue {
     state.queue.iter().copied().collect()
+}
+
+/// The held yards as (distance, the furthest crew's distance, yard).
+pub fn held(state: &State) -> Vec<(u32, u32, u16)> {
+    let numbers = |held: &Held| (held.drive.distance, held.drive.furthest, held.yard);
+    state.held.iter().map(numbers).collect()
 }
 
 /// The first so many lines of a text.

@@ -12,9 +12,10 @@ use compare::tree::{Entry, Landmark, Region, Stored, Tree};
 use compare::yard::{self, Yard};
 use compare::{build, query, tree};
 
-use crate::follow::{follow, lines};
+use crate::follow::{follow, held, lines};
 
-/// The chain of six: junctions at 0, 1, 3, 6, 10 and 15 seconds from junction 0, each of them a yard.
+/// The chain of six: junctions at 0, 1, 3, 6, 10 and 15 seconds from junction 0, each of them a yard. From crews at 0
+/// and 3 they are 0 + 6, 1 + 5, 3 + 3, 6 + 0, 10 + 4 and 15 + 9 seconds away.
 const SECONDS: [u16; 5] = [1, 2, 3, 4, 5];
 /// The kinds of the six yards.
 const KINDS: [u8; 6] = [1, 2, 1, 4, 2, 3];
@@ -68,7 +69,8 @@ fn the_tree_of_six() {
 }
 
 /// Every yard: the four leaves' keys are 6, 3, 6 and 5. Leaf 2 leaves yard 2 (f 4) before yard 1 (f 6), leaf 4 yard 5
-/// (f 6) before yard 4 (f 14).
+/// (f 6) before yard 4 (f 14). Of the four yards at 6 seconds yards 2 and 1 have the nearest furthest crews, at 3 and
+/// 5.
 #[test]
 fn six_of_every_kind() {
     let queues = "
@@ -86,7 +88,7 @@ fn six_of_every_kind() {
     for wanted in [7, ALL] {
         let state = follow_six(&tree_of_six(), wanted, queues);
         assert_eq!(state.measured, [0, 1, 2, 3]);
-        assert_eq!(state.held, [(6, 0), (6, 1)]);
+        assert_eq!(held(&state), [(6, 3, 2), (6, 5, 1)]);
     }
 }
 
@@ -103,14 +105,14 @@ fn six_of_the_first_kind() {
         24 Y5";
     let state = follow_six(&tree_of_six(), 1, queues);
     assert_eq!(state.measured, [0, 2]);
-    assert_eq!(state.held, [(6, 0), (6, 2)]);
+    assert_eq!(held(&state), [(6, 3, 2), (6, 6, 0)]);
     let within = |seconds| follow(&six(&tree_of_six(), 1, Within(seconds)), queues);
     for seconds in [6, 23] {
-        assert_eq!(within(seconds).held, [(6, 0), (6, 2)]);
+        assert_eq!(held(&within(seconds)), [(6, 3, 2), (6, 6, 0)]);
     }
     let all = format!("{queues}\n-");
     let state = follow(&six(&tree_of_six(), 1, Within(24)), &all);
-    assert_eq!(state.held, [(6, 0), (6, 2), (24, 5)]);
+    assert_eq!(held(&state), [(6, 3, 2), (6, 6, 0), (24, 15, 5)]);
 }
 
 /// Yards 1, 4 and 5: leaf 2's bound is that of its whole list, leaf 4 has both of its yards.
@@ -126,9 +128,10 @@ fn six_of_the_second_kind() {
         24 Y5";
     let state = follow_six(&tree_of_six(), 2, queues);
     assert_eq!(state.measured, [1, 4]);
-    assert_eq!(state.held, [(6, 1), (14, 4)]);
+    assert_eq!(held(&state), [(6, 5, 1), (14, 10, 4)]);
     let drive = six(&tree_of_six(), 2, Within(13));
-    assert_eq!(follow(&drive, &lines(queues, 5)).held, [(6, 1)]);
+    let state = follow(&drive, &lines(queues, 5));
+    assert_eq!(held(&state), [(6, 5, 1)]);
 }
 
 /// Yard 3 alone; and no yard at all: "such a root settles empty with 0 taken".
@@ -141,7 +144,7 @@ fn six_of_rare_kinds() {
         -";
     for wanted in [4, 4 + 8, 4 + 128] {
         let state = follow_six(&tree_of_six(), wanted, queues);
-        assert_eq!(state.held, [(6, 3)]);
+        assert_eq!(held(&state), [(6, 6, 3)]);
     }
     for wanted in [8, 16, 128, 248] {
         for asked in [FirstK, Within(0), Within(u32::MAX)] {
@@ -166,7 +169,7 @@ fn a_region_with_a_bit_too_many() {
         6 Y2  24 Y5
         24 Y5";
     let state = follow_six(&tree, 1, queues);
-    assert_eq!(state.held, [(6, 0), (6, 2)]);
+    assert_eq!(held(&state), [(6, 3, 2), (6, 6, 0)]);
 }
 
 /// A root with every bit, and a kind that no yard has: it is taken, and its children never enter.
@@ -191,7 +194,7 @@ fn a_region_with_a_bit_too_few() {
         24 Y5
         -";
     let state = follow_six(&tree, 1, queues);
-    assert_eq!(state.held, [(6, 2), (24, 5)]);
+    assert_eq!(held(&state), [(6, 3, 2), (24, 15, 5)]);
     tree.regions[0].kinds = 6;
     assert!(follow_six(&tree, 1, "-").held.is_empty());
 }
@@ -244,7 +247,7 @@ fn the_first_list_decides() {
         -";
     for second in [first, [1, 1, 2, 1, 2, 1], [1; 6], [2; 6], [ALL; 6]] {
         let state = follow_six(&leaf_of_six([first, second]), 1, queues);
-        assert_eq!(state.held, [(6, 2), (14, 4)]);
+        assert_eq!(held(&state), [(6, 3, 2), (14, 10, 4)]);
     }
 }
 
@@ -272,7 +275,7 @@ fn unwanted_elements_are_passed_over() {
         24 R0";
     let kinds = [1, 2, 2, 1, 2, 1];
     let state = follow_six(&leaf_of_six([kinds; 2]), 1, some);
-    assert_eq!(state.held, [(6, 0), (6, 3)]);
+    assert_eq!(held(&state), [(6, 6, 0), (6, 6, 3)]);
 }
 
 /// A root with the wanted bit whose first list has none: it is taken, and queues nothing.
@@ -282,14 +285,15 @@ fn a_leaf_without_any_wanted_yard() {
     assert!(follow_six(&tree, 1, "0 R0\n-").measured.is_empty());
 }
 
-/// The sound district's version 2 tree for crews 0 and 7 by the sum: yards 1, 2, 5, 6 and 14 of kinds 1, 2, 5, 2, 4.
+/// The sound district's version 2 tree for crews 0 and 7 by the sum: yards 1, 2, 5, 6 and 14 of kinds 1, 2, 5, 2, 4,
+/// and 10 + 81, 21 + 70, 60 + 31, 75 + 16 and 231 + 140 seconds away.
 #[test]
 fn the_sound_tree_with_kinds() {
     let follow_sound = |wanted: u8, queues: &str| {
         let (tree, query) = (sound_tree(kinds::VERSION), sound_query());
         let books: [&[u8]; 3] = [&sound_road(), &tree, &query];
         let search = tested(FirstK, wanted, books, WORK_WORDS, 10).unwrap();
-        follow(&search, queues).held
+        held(&follow(&search, queues))
     };
     let first = "
         26 R0
@@ -298,9 +302,9 @@ fn the_sound_tree_with_kinds() {
         91 Y1  91 Y5
         91 Y5
         -";
-    assert_eq!(follow_sound(1, first), [(91, 1), (91, 5)]);
+    assert_eq!(follow_sound(1, first), [(91, 60, 5), (91, 81, 1)]);
     let second = first.replace("Y1", "Y2").replace("Y5", "Y6");
-    assert_eq!(follow_sound(2, &second), [(91, 2), (91, 6)]);
+    assert_eq!(follow_sound(2, &second), [(91, 70, 2), (91, 75, 6)]);
     let third = "
         26 R0
         76 R2  191 R3
@@ -308,7 +312,7 @@ fn the_sound_tree_with_kinds() {
         191 R3
         371 Y14
         -";
-    assert_eq!(follow_sound(4, third), [(91, 5), (371, 14)]);
+    assert_eq!(follow_sound(4, third), [(91, 60, 5), (371, 231, 14)]);
     let first_or_third = "
         26 R0
         45 R1  76 R2  191 R3
@@ -316,7 +320,7 @@ fn the_sound_tree_with_kinds() {
         91 Y1  91 Y5  191 R3
         91 Y5  191 R3
         191 R3";
-    assert_eq!(follow_sound(5, first_or_third), [(91, 1), (91, 5)]);
+    assert_eq!(follow_sound(5, first_or_third), [(91, 60, 5), (91, 81, 1)]);
     assert!(follow_sound(8, "-").is_empty());
 }
 
@@ -358,7 +362,8 @@ fn seven_with_a_yard_unwanted() {
         let books: [&[u8]; 3] = [&chain(&[1; 6]), &leaf_of_seven(unwanted), &query];
         let search = tested(FirstK, 1, books, WORK_WORDS, 6).unwrap();
         let state = follow(&search, queues);
-        (state.measured, state.held)
+        let held = held(&state);
+        (state.measured, held)
     };
     let without_0 = "
         0 R0
@@ -366,17 +371,17 @@ fn seven_with_a_yard_unwanted() {
         3 R0
         3 Y3
         -";
-    assert_eq!(follow_seven(0, without_0), (vec![6, 3], vec![(3, 3)]));
+    assert_eq!(follow_seven(0, without_0), (vec![6, 3], vec![(3, 3, 3)]));
     let without_3 = "
         0 R0
         0 R0  0 Y0
         0 Y0  0 Y6
         0 Y6
         -";
-    assert_eq!(follow_seven(3, without_3), (vec![0, 6], vec![(0, 0)]));
+    assert_eq!(follow_seven(3, without_3), (vec![0, 6], vec![(0, 0, 0)]));
     let without_6 = "
         0 R0
         0 Y0  3 R0
         3 R0";
-    assert_eq!(follow_seven(6, without_6), (vec![0], vec![(0, 0)]));
+    assert_eq!(follow_seven(6, without_6), (vec![0], vec![(0, 0, 0)]));
 }

@@ -11,7 +11,7 @@ use compare::refusal::WORK_WORDS;
 use compare::search::Asked::{self, FirstK, Within};
 use compare::search::{tested, Measuring, Search};
 use compare::tree::{self, Landmark, Stored, Tree};
-use follow::{follow, lines, one_leaf};
+use follow::{follow, held, lines, one_leaf};
 
 /// A search on the sound district: 16 junctions in a chain, 10 + low seconds each, so at
 /// 0 10 21 33 46 60 75 91 108 126 145 165 186 208 231 255 seconds from junction 0.
@@ -52,7 +52,8 @@ fn the_sound_tree() {
     );
 }
 
-/// The sum's steps up to the four yards of 91 seconds; yard 14 is 231 + 140 away.
+/// The sum's steps up to the four yards of 91 seconds: yards 1, 2, 5 and 6 are 10 + 81, 21 + 70, 60 + 31 and 75 + 16
+/// away, so that by the furthest crew yard 5 comes first, then 2, 6 and 1. Yard 14 is 231 + 140 away.
 const BY_SUM: &str = "
         26 R0
         45 R1  76 R2  191 R3
@@ -69,7 +70,7 @@ const BY_SUM: &str = "
 fn by_sum() {
     let state = follow(&sound(&tree_value(), 0, FirstK), BY_SUM);
     assert_eq!(state.measured, [1, 2, 5, 6]);
-    assert_eq!(state.held, [(91, 1), (91, 2)]);
+    assert_eq!(held(&state), [(91, 60, 5), (91, 70, 2)]);
 }
 
 /// "The search is settled when the queue is empty or every queued key is above the seconds."
@@ -80,22 +81,22 @@ fn by_sum_within() {
         let state = follow(&ask(seconds), &lines(BY_SUM, steps + 1));
         assert!(state.measured.is_empty() && state.held.is_empty());
     }
-    let all_91 = [(91, 1), (91, 2), (91, 5), (91, 6)];
+    let all_91 = [(91, 60, 5), (91, 70, 2), (91, 75, 6), (91, 81, 1)];
     for seconds in [91, 190] {
         let state = follow(&ask(seconds), BY_SUM);
         assert_eq!(state.measured, [1, 2, 5, 6]);
-        assert_eq!(state.held, all_91);
+        assert_eq!(held(&state), all_91);
     }
     let further = format!("{BY_SUM}\n371 Y14");
     for seconds in [191, 370] {
         let state = follow(&ask(seconds), &further);
-        assert_eq!(state.held, all_91);
+        assert_eq!(held(&state), all_91);
     }
     for seconds in [371, u32::MAX] {
         let state = follow(&ask(seconds), &format!("{further}\n-"));
         assert_eq!(state.measured, [1, 2, 5, 6, 14]);
-        assert_eq!(state.held[..4], all_91);
-        assert_eq!(state.held[4..], [(371, 14)]);
+        assert_eq!(held(&state)[..4], all_91);
+        assert_eq!(held(&state)[4..], [(371, 231, 14)]);
     }
 }
 
@@ -114,20 +115,21 @@ const BY_MAXIMUM: &str = "
 fn by_maximum() {
     let state = follow(&sound(&tree_value(), 1, FirstK), BY_MAXIMUM);
     assert_eq!(state.measured, [5, 2]);
-    assert_eq!(state.held, [(60, 5), (70, 2)]);
+    assert_eq!(held(&state), [(60, 60, 5), (70, 70, 2)]);
 }
 
 #[test]
 fn by_maximum_within() {
     let ask = |seconds| sound(&tree_value(), 1, Within(seconds));
     let state = follow(&ask(74), BY_MAXIMUM);
-    assert_eq!(state.held, [(60, 5), (70, 2)]);
+    assert_eq!(held(&state), [(60, 60, 5), (70, 70, 2)]);
     let state = follow(&ask(75), &format!("{BY_MAXIMUM}\n81 Y1  141 R3"));
     assert_eq!(state.measured, [5, 2, 6]);
-    assert_eq!(state.held, [(60, 5), (70, 2), (75, 6)]);
+    assert_eq!(held(&state), [(60, 60, 5), (70, 70, 2), (75, 75, 6)]);
 }
 
-/// The root's least is false, the greatest u32: its key, 2 × 4,294,967,295 − 17, goes to all below it.
+/// The root's least is false, the greatest u32: its key, 2 × 4,294,967,295 − 17, goes to all below it. Yard 1 is
+/// measured first, and yard 2 comes before it.
 #[test]
 fn a_false_root() {
     let tree = tree::read(&false_root(u32::MAX), JUNCTIONS).unwrap();
@@ -144,7 +146,7 @@ fn a_false_root() {
     let key = 2 * 4_294_967_295_u64 - 17;
     let queues = queues.replace('K', &key.to_string());
     let state = follow(&sound(&tree, 0, FirstK), &queues);
-    assert_eq!(state.held, [(91, 1), (91, 2)]);
+    assert_eq!(held(&state), [(91, 70, 2), (91, 81, 1)]);
     let state = follow(&sound(&tree, 0, Within(u32::MAX)), &lines(&queues, 1));
     assert!(state.held.is_empty());
 }
@@ -181,7 +183,7 @@ fn a_yard_left_out() {
         15 R0";
     for asked in [FirstK, Within(13), Within(14)] {
         let search = n_asked(list, 1, asked);
-        assert_eq!(follow(&search, queues).held, [(13, 3)]);
+        assert_eq!(held(&follow(&search, queues)), [(13, 9, 3)]);
     }
 }
 
@@ -197,11 +199,11 @@ fn a_yard_measured_and_not_held() {
         0 Y0  0 Y2
         0 Y2
         -";
-    for (seconds, held) in [(0, 1), (1, 1), (2, 2)] {
+    for (seconds, count) in [(0, 1), (1, 1), (2, 2)] {
         let search = tested(Within(seconds), ALL, books, WORK_WORDS, 4).unwrap();
         let state = follow(&search, queues);
         assert_eq!(state.measured, [0, 2]);
-        assert_eq!(state.held, [(0, 0), (2, 2)][..held]);
+        assert_eq!(held(&state), [(0, 0, 0), (2, 2, 2)][..count]);
     }
 }
 
@@ -236,6 +238,35 @@ fn walks_end_at_the_ceiling() {
     }
 }
 
+/// A chain with junctions at 0, 2, 4, 5 and 10 seconds, crews at its ends: yards 1, 2 and 3 are 2 + 8, 4 + 6 and 5 + 5
+/// away, and are measured in turn. Yards 2 and 3 come in at a distance that equals the ceiling, each before those held.
+#[test]
+fn the_fairest_yard_measured_last() {
+    let tree = one_leaf(5, 0, &[(2, 1), (4, 2), (5, 3)]);
+    let queues = "
+        7 R0
+        10 R0  10 Y1
+        10 R0  10 Y1  10 Y2
+        10 Y1  10 Y2  10 Y3
+        10 Y2  10 Y3
+        10 Y3
+        -";
+    let all = [(10, 5, 3), (10, 6, 2), (10, 8, 1)];
+    for (asked, k, count) in [
+        (FirstK, 1, 1),
+        (FirstK, 2, 2),
+        (FirstK, 3, 3),
+        (Within(10), 1, 3),
+    ] {
+        let query = query::write(0, k, 100, &[0, 4]);
+        let books: [&[u8]; 3] = [&chain(&[2, 2, 1, 5]), &tree, &query];
+        let search = tested(asked, ALL, books, WORK_WORDS, 6).unwrap();
+        let state = follow(&search, queues);
+        assert_eq!(state.measured, [1, 2, 3]);
+        assert_eq!(held(&state), all[..count]);
+    }
+}
+
 /// Yard 4 is stored as near: its f ties with yard 1's, its bound is still the sheet's.
 #[test]
 fn the_sheet_stays_true() {
@@ -247,7 +278,8 @@ fn the_sheet_stays_true() {
         13 R0  15 Y4
         13 Y3  15 Y4
         15 Y4";
-    assert_eq!(follow(&search, queues).held, [(5, 1), (13, 3)]);
+    let state = follow(&search, queues);
+    assert_eq!(held(&state), [(5, 3, 1), (13, 9, 3)]);
 }
 
 /// Yards 3 and 4 are stored as further than they are: the list's difference is the greater.
@@ -260,5 +292,6 @@ fn the_list_counts_too() {
         55 R0
         55 Y3  75 R0
         75 R0";
-    assert_eq!(follow(&search, queues).held, [(5, 1), (13, 3)]);
+    let state = follow(&search, queues);
+    assert_eq!(held(&state), [(5, 3, 1), (13, 9, 3)]);
 }

@@ -1,7 +1,7 @@
 //! The command `calls`: how long the proved calls take beside the plain ones, on the grid district with 256 yards,
-//! there also for yards of a wanted kind, and on full books of each kind; searches also beside the plain one with no
-//! ceiling ever, with the junctions that each measured yard's walk walks on from, and beside brute force, in Rust and,
-//! where LEMON is installed, with its Dijkstra in C++.
+//! there also for yards of a wanted kind, on the even grid, where many yards have the same sum, and on full books of
+//! each kind; searches also beside the plain one with no ceiling ever, with the junctions that each measured yard's
+//! walk walks on from, and beside brute force, in Rust and, where LEMON is installed, with its Dijkstra in C++.
 #![forbid(unsafe_code)]
 
 use std::fs;
@@ -11,6 +11,7 @@ use std::time::Duration;
 
 use compare::build::KINDS_AREA_BYTES;
 use compare::generate::{standard, Numbers};
+use compare::query::Aggregate;
 use compare::refusal::WORK_WORDS;
 use compare::search::state::State;
 use compare::search::{run, tested};
@@ -39,6 +40,9 @@ const AGGREGATES: [&str; 2] = ["sum", "maximum"];
 const WANTED_BIT: u8 = 1;
 const WANTED_K: u8 = 10;
 const WANTED_WITHIN: usize = YARDS as usize / 32;
+/// Of the searches of the even grid: k, and how many yards, and those as far as the last of them, are within the drive.
+const TIED_K: u8 = 10;
+const TIED_WITHIN: usize = YARDS as usize / 10;
 /// The ratio that is wanted of a check and a build, and of a search, each beside the plain one.
 const WANTED: f64 = 1.0;
 const WANTED_OF_SEARCHES: f64 = 0.8;
@@ -148,6 +152,7 @@ fn main() {
     }
     search_rows(&district, peer.as_deref());
     wanted_rows(peer.as_deref());
+    tied_rows(peer.as_deref());
     full_rows(peer.as_deref());
 }
 
@@ -201,6 +206,22 @@ fn wanted_rows(peer: Option<&str>) {
             let first = Row::first_k(crews, WANTED_K, aggregate);
             search_row(&district, &tree, &first, peer);
             let drive = Row::within(&district, crews, WANTED_WITHIN, aggregate);
+            search_row(&district, &tree, &drive, peer);
+        }
+    }
+}
+
+/// Searches of the even grid, where many yards have the same sum, and the furthest crews decide.
+fn tied_rows(peer: Option<&str>) {
+    println!("many yards of the same sum: even grid, leaf limit {LEAF_LIMIT}");
+    print_search_heading();
+    let district = district("even");
+    let tree = built(&district, LEAF_LIMIT);
+    for crews in DRIVE_CREWS {
+        for aggregate in 0..AGGREGATES.len() {
+            let first = Row::first_k(crews, TIED_K, aggregate);
+            search_row(&district, &tree, &first, peer);
+            let drive = Row::within(&district, crews, TIED_WITHIN, aggregate);
             search_row(&district, &tree, &drive, peer);
         }
     }
@@ -396,24 +417,26 @@ fn brute_force(asked: Asked, books: [&[u8]; 3], results: &mut [u32]) -> u32 {
     0
 }
 
-/// The yards asked for of all, sorted; each crew's distances by Dijkstra.
+/// The yards asked for of all, in yard order; each crew's distances by Dijkstra.
 fn ranked(asked: Asked, [road, yard, query]: [&[u8]; 3]) -> Result<Vec<(u64, u16)>, u32> {
     let road = road::read(road)?;
     let yards = yard::read(yard, road.junctions)?.junctions();
     let query = query::read(query, road.junctions)?;
     let distances = |&crew: &u16| road.least_distances(crew);
     let rows: Vec<Vec<u32>> = query.crews.iter().map(distances).collect();
-    let ranked = |&yard: &u16| {
+    let placed = |&yard: &u16| {
         let to_crews = rows.iter().map(|row| u64::from(row[usize::from(yard)]));
-        (query.aggregate.over(to_crews), yard)
+        let furthest = Aggregate::Maximum.over(to_crews.clone());
+        (query.aggregate.over(to_crews), furthest, yard)
     };
-    let mut ranked: Vec<(u64, u16)> = yards.iter().map(ranked).collect();
+    let mut ranked: Vec<(u64, u64, u16)> = yards.iter().map(placed).collect();
     if let Asked::Within(seconds) = asked {
-        ranked.retain(|&(distance, _)| distance <= u64::from(seconds));
+        ranked.retain(|&(distance, _, _)| distance <= u64::from(seconds));
     }
     ranked.sort_unstable();
     if asked == Asked::FirstK {
         ranked.truncate(query.k);
     }
-    Ok(ranked)
+    let listed = |(distance, _, yard)| (distance, yard);
+    Ok(ranked.into_iter().map(listed).collect())
 }

@@ -56,6 +56,11 @@ pub fn aggregate(district: &District, seconds: &[u32]) -> u64 {
     district.settings.aggregate.over(values)
 }
 
+/// The furthest crew's seconds.
+pub fn furthest(seconds: &[u32]) -> u32 {
+    seconds.iter().copied().max().unwrap_or(0)
+}
+
 /// Each crew's seconds to every yard: proved searches for one crew at a time, within any drive, list them all.
 fn seconds(district: &District, books: &Books) -> Result<Seconds, Fault> {
     let mut all = Seconds::new();

@@ -3,7 +3,7 @@
 use std::collections::BTreeSet;
 
 use compare::refusal::WORK_WORDS;
-use compare::search::state::{true_distance, Item, State};
+use compare::search::state::{true_drive, Held, Item, State};
 use compare::search::{found, run_seen, tested, Outcome, Search};
 use compare::{brute, kinds, road};
 
@@ -38,7 +38,7 @@ pub struct Trace {
 /// What steps are told by, of one state.
 struct Seen {
     queue: BTreeSet<(u64, Item)>,
-    held: Vec<(u32, u16)>,
+    held: Vec<Held>,
 }
 
 impl Seen {
@@ -75,12 +75,13 @@ impl Trace {
 
     /// List and counts are those of the proved call; a settled list is brute force's too.
     fn is_proved(&self, answer: &Answer) -> Result<(), Fault> {
-        let list = answer.searched.list.iter();
-        let list: Vec<(u32, u16)> = list.map(|&(yard, d)| (d, yard)).collect();
+        let list = &answer.searched.list;
         let counts = found(&self.outcome) == answer.searched.found;
         let settled = self.outcome.settled;
-        let plain = !settled || self.outcome.state.held == list;
-        let wide = list.iter().map(|&(d, yard)| (u64::from(d), yard));
+        let held = self.outcome.state.held.iter();
+        let held: Vec<(u16, u32)> = held.map(|held| (held.yard, held.distance())).collect();
+        let plain = !settled || held == *list;
+        let wide = list.iter().map(|&(yard, d)| (u64::from(d), yard));
         let brute = !settled || wide.eq(self.brute(&answer.books)?);
         match (counts && plain, brute) {
             (true, true) => Ok(()),
@@ -160,8 +161,8 @@ fn step(search: &Search, before: &Seen, after: &Seen) -> Option<Step> {
 fn measured(search: &Search, yard: u16, before: &Seen, after: &Seen) -> Measured {
     let put_off = before.held.iter().find(|held| !after.held.contains(held));
     Measured {
-        seconds: true_distance(search, yard),
-        place: after.held.iter().position(|&(_, held)| held == yard),
-        put_off: put_off.map(|&(_, yard)| yard),
+        seconds: true_drive(search, yard).distance,
+        place: after.held.iter().position(|held| held.yard == yard),
+        put_off: put_off.map(|held| held.yard),
     }
 }

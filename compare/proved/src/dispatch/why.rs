@@ -2,7 +2,7 @@
 
 use compare::search::state::Item;
 
-use super::answer::{aggregate, Answer, Seconds};
+use super::answer::{aggregate, furthest, Answer, Seconds};
 use super::district::{counted, told_seconds, District, Wanted};
 use super::fault::{Fault, SPENT};
 use super::lines::shown;
@@ -104,9 +104,9 @@ impl Story<'_> {
         let left = !outcome.state.queue.is_empty();
         let why = match (settings.wanted, outcome.state.held.last()) {
             _ if !outcome.settled => format!("spent: no list, the limit is {limit}"),
-            (Wanted::First(_), Some((seconds, yard))) if left => {
-                let last = self.yard(*yard);
-                format!("settled: every key left is above {seconds}, the seconds of {last}")
+            (Wanted::First(_), Some(last)) if left => {
+                let (seconds, yard) = (last.distance(), self.yard(last.yard));
+                format!("settled: every key left is above {seconds}, the seconds of {yard}")
             }
             (Wanted::Within(seconds), _) if left => {
                 let seconds = told_seconds(seconds);
@@ -179,10 +179,10 @@ impl Story<'_> {
         if !self.trace.outcome.settled {
             return None;
         }
-        let total = aggregate(self.district, &self.seconds[&yard]);
         let why = match self.district.settings.wanted {
-            Wanted::First(_) => self.beaten(total, self.answer.searched.list.last()?),
+            Wanted::First(_) => self.beaten(yard, self.answer.searched.list.last()?),
             Wanted::Within(seconds) => {
+                let total = aggregate(self.district, &self.seconds[&yard]);
                 let above = total - u64::from(seconds);
                 format!("{above} above the {}", told_seconds(seconds))
             }
@@ -190,13 +190,26 @@ impl Story<'_> {
         Some(format!("{}: {why}", self.drives(yard)))
     }
 
-    /// Who beat a yard with these seconds, and by how much.
-    fn beaten(&self, total: u64, &(by, best): &(u16, u32)) -> String {
+    /// Who beat a yard, and by how much.
+    fn beaten(&self, yard: u16, &(by, best): &(u16, u32)) -> String {
+        let total = aggregate(self.district, &self.seconds[&yard]);
         let ahead = match total - u64::from(best) {
-            0 => format!("the same {best} and the lower number"),
+            0 => format!("the same {best}{}", self.tie_broken(yard, by)),
             behind => format!("{best}, {behind} less"),
         };
         format!("beaten by {} with {ahead}", self.yard(by))
+    }
+
+    /// Why a yard is beaten by one with the same seconds: by the furthest crew, or, if that is as far, by its number.
+    /// If the furthest crew's seconds are the yard's, they have been told.
+    fn tie_broken(&self, yard: u16, by: u16) -> String {
+        let [nearer, furthest] = [by, yard].map(|yard| furthest(&self.seconds[&yard]));
+        let total = aggregate(self.district, &self.seconds[&yard]);
+        match furthest - nearer {
+            0 if u64::from(furthest) == total => " and the lower number".to_string(),
+            0 => format!(", the furthest crew at the same {nearer}, and the lower number"),
+            less => format!(" and the furthest crew at {nearer}, {less} less"),
+        }
     }
 
     /// A yard with its seconds and each crew's.

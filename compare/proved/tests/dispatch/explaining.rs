@@ -45,12 +45,14 @@ fn examples_are_explained_as_expected() {
     assert!(seen >= 4);
 }
 
+/// What is said last of an example's yard.
+fn last(name: &str, yard: &str) -> String {
+    let text = printed(&["why", told(&example(name)), yard], 0);
+    text.lines().last().unwrap().to_string()
+}
+
 #[test]
 fn one_yard_is_explained() {
-    let last = |name: &str, yard: &str| {
-        let text = printed(&["why", told(&example(name)), yard], 0);
-        text.lines().last().unwrap().to_string()
-    };
     assert_eq!(
         last("net-n", "3"),
         "yard 3, 13 seconds (9 from 0, 4 from 2): place 2; measured in step 4"
@@ -84,6 +86,34 @@ fn one_yard_is_explained() {
             "{fault}"
         );
     }
+}
+
+#[test]
+fn a_tie_is_explained() {
+    assert_eq!(
+        last("fairer-yard", "mill"),
+        "yard mill, 10 seconds (2 from depot, 8 from quarry): beaten by yard bridge with the same 10 and the furthest \
+         crew at 5, 3 less; measured in step 4"
+    );
+    assert_eq!(
+        last("fairer-yard", "farm"),
+        "yard farm, 10 seconds (5 from depot, 5 from quarry): beaten by yard bridge with the same 10, the furthest \
+         crew at the same 5, and the lower number; measured in step 6"
+    );
+}
+
+/// Yard 0 is 8 and 8 seconds from the crews, yard 2 is 8 and 2: by the maximum the number decides.
+#[test]
+fn a_tie_by_the_maximum_is_explained() {
+    let file = folder("tie-by-maximum").join("tie.district");
+    let roads = "road 0 1 8\nroad 1 2 8\nroad 0 3 8\nroad 2 3 2\n";
+    fs::write(&file, format!("{roads}yard 0 2\ncrew 1 3\nmaximum\n")).unwrap();
+    let text = printed(&["why", told(&file)], 0);
+    let left_out = "yard 2, 8 seconds (8 from 1, 2 from 3): beaten by yard 0 with the same 8 and the lower number";
+    assert!(
+        text.ends_with(&format!("\nleft out:\n  {left_out}\n")),
+        "{text}"
+    );
 }
 
 #[test]
