@@ -1,4 +1,1 @@
-pub mod Pairing
-pub mod Inserting
-pub mod Writing
 pub mod Ruling

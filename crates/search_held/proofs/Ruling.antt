@@ -16,25 +16,26 @@ use Rattle.search_rules.specs.Held.{insert, hold, greatestHeld}
 use Rattle.search_rules.specs.Keeping.{keepBy, enoughBy}
 use Rattle.search_rules.specs.Ceiling.{ceilingBy}
 use Rattle.search_rules.specs.Run.{words}
+use Rattle.search_order.proofs.Pairing.{pairs-none, pairs-length}
+use Rattle.search_first.specs.declared.Held.{Held}
+use Rattle.search_first.specs.code.Held.{heldOf}
+use Rattle.search_drive.specs.code.Listed.{listedIn}
 use Rattle.search_held.specs.declared.Rule.{Rule}
 use Rattle.search_held.specs.declared.Rule.the-variants.{Nearest, InDrive}
-use Rattle.search_held.specs.declared.Held.{Held}
 use Rattle.search_held.specs.declared.Kept.{Kept}
-use Rattle.search_held.specs.code.Pairs.{heldOf, listedIn}
 use Rattle.search_held.specs.code.Rules.{ruleOf, heldBy, countBy, Fits}
-use Rattle.search_held.proofs.Pairing.{pairs-none, pairs-length, held-is, held-length}
 
 -- ---- what is enough
 
 module _ (rule : Rule) (kept : Kept) (least : ℕ) (ws : List ℕ) where
   pub enough-few : (k : ℕ) → rule ≡ Nearest k → (kept .held .count ≡ k → ⊥) → false ≡ enoughBy (ruleOf rule) (heldBy (ruleOf rule) kept ws) least
   unfolding enoughBy
-  enough-few k e h = rw (e, held-length, ne-eqb (kept .held .count) k h) refl
+  enough-few k e h = rw (e, pairs-length, ne-eqb (kept .held .count) k h) refl
 
   pub enough-full : (k g : ℕ) → rule ≡ Nearest k → kept .held .count ≡ k → g ≡ greatestHeld (heldOf (kept .held))
       → ltb g least ≡ enoughBy (ruleOf rule) (heldBy (ruleOf rule) kept ws) least
   unfolding enoughBy
-  enough-full k g e h f = rw (e, held-length, eq-eqb (kept .held .count) k h, f) refl
+  enough-full k g e h f = rw (e, pairs-length, eq-eqb (kept .held .count) k h, f) refl
 
   pub enough-drive : (s : ℕ) → rule ≡ InDrive s → ltb s least ≡ enoughBy (ruleOf rule) (heldBy (ruleOf rule) kept ws) least
   unfolding enoughBy
@@ -45,28 +46,18 @@ module _ (rule : Rule) (kept : Kept) (least : ℕ) (ws : List ℕ) where
 module _ (rule : Rule) (kept : Kept) (ws : List ℕ) where
   pub ceiling-few : (k : ℕ) → rule ≡ Nearest k → (kept .held .count ≡ k → ⊥) → none ≡ ceilingBy (ruleOf rule) (heldBy (ruleOf rule) kept ws)
   unfolding ceilingBy
-  ceiling-few k e h = rw (e, held-length, ne-eqb (kept .held .count) k h) (sym (choose-no false (some (greatestHeld (heldOf (kept .held)))) none tt))
+  ceiling-few k e h = rw (e, pairs-length, ne-eqb (kept .held .count) k h) (sym (choose-no false (some (greatestHeld (heldOf (kept .held)))) none tt))
 
   pub ceiling-full : (k g : ℕ) → rule ≡ Nearest k → kept .held .count ≡ k → g ≡ greatestHeld (heldOf (kept .held))
       → some g ≡ ceilingBy (ruleOf rule) (heldBy (ruleOf rule) kept ws)
   unfolding ceilingBy
-  ceiling-full k g e h f = rw (e, held-length, eq-eqb (kept .held .count) k h, f) (sym (choose-yes true (some (greatestHeld (heldOf (kept .held)))) none tt))
+  ceiling-full k g e h f = rw (e, pairs-length, eq-eqb (kept .held .count) k h, f) (sym (choose-yes true (some (greatestHeld (heldOf (kept .held)))) none tt))
 
   pub ceiling-drive : (s : ℕ) → rule ≡ InDrive s → some s ≡ ceilingBy (ruleOf rule) (heldBy (ruleOf rule) kept ws)
   unfolding ceilingBy
   ceiling-drive s e = rw e refl
 
 -- ---- what is kept
-
--- of a drive
-module _ (e : Entry) (held : List Entry) (s : ℕ) where
-  pub keep-far : s < e .distance → held ≡ keepBy (inDrive s) e held
-  unfolding keepBy
-  keep-far h = sym (choose-no (leb (e .distance) s) (insert e held) held (not-T (leb (e .distance) s) (λ t. omega (arith, leb→le (e .distance) s t))))
-
-  pub keep-near : (new : List Entry) → e .distance ≤ s → new ≡ insert e held → new ≡ keepBy (inDrive s) e held
-  unfolding keepBy
-  keep-near new h f = f ∙ sym (choose-yes (leb (e .distance) s) (insert e held) held (le→leb (e .distance) s h))
 
 module _ (rule : Rule) (kept : Kept) (e : Entry) (list : List ℕ) where
   pub keep-nearest : (k : ℕ) (new : Held) (after : List ℕ) → rule ≡ Nearest k → heldOf new ≡ hold k e (heldOf (kept .held))
@@ -96,11 +87,11 @@ pub count-drive : (rule : Rule) (s : ℕ) (kept : Kept) → rule ≡ InDrive s �
 count-drive rule s kept e = rw e refl
 
 pub none-held : (rule : SearchRule) (kept : Kept) (ws : List ℕ) → (kept .held .count ≡ 0) × (kept .listed ≡ 0) → heldBy rule kept ws ≡ []
-none-held (nearest k) kept ws z = held-is (kept .held) ∙ rw (z .0) (pairs-none _ 0)
+none-held (nearest k) kept ws z = rw (z .0) (pairs-none _ 0)
 none-held (inDrive s) kept ws z = rw (z .1) (pairs-none _ 0)
 
 pub count-length : (rule : SearchRule) (kept : Kept) (ws : List ℕ) → length (heldBy rule kept ws) ≡ countBy rule kept
-count-length (nearest k) kept ws = held-length (kept .held)
+count-length (nearest k) kept ws = pairs-length _ (kept .held .count) 0
 count-length (inDrive s) kept ws = pairs-length _ (kept .listed) 0
 
 -- ---- what is written

@@ -1,19 +1,17 @@
 // The held yards of a search: those that its rule keeps of the measured ones, in yard order.
-mod drive; // drive.rt: the yards within a drive, in an array of words
-mod first; // first.rt: the first k yards, in a struct
-
-use book::Junction;
+use search_first::Held;
 use search_measure::Ceiling;
+use search_order::Entry;
 ghost use mathlib.Core.Path.{_≡_};
 ghost use mathlib.Core.List.{List, []};
 ghost use Prim.Native.Nat.{ℕ, _+_, _*_, _≤_, _<_};
 ghost use lib.ListN.{length};
 ghost use Rattle.book.specs.Writing.{write};
-ghost use Rattle.search_rules.specs.Order.{entryOf};
 ghost use Rattle.search_rules.specs.Keeping.{keepBy, enoughBy};
 ghost use Rattle.search_rules.specs.Ceiling.{ceilingBy};
 ghost use Rattle.search_rules.specs.Run.{words};
 ghost use Rattle.search_measure.specs.code.Cases.{ceilingOf};
+ghost use Rattle.search_order.specs.code.Pairs.{entryIn};
 ghost use Rattle.search_held.specs.code.Rules.{ruleOf, heldBy, countBy, Fits};
 
 // What a search keeps of the yards that it measures: the first so many, or those within so many seconds.
@@ -30,52 +28,41 @@ pub struct Asked {
     pub wanted: u8,
 }
 
-// Yards with their aggregate distances, in yard order, and their number.
-pub struct Held {
-    pub yards: [u16; 64],
-    pub distances: [u32; 64],
-    pub count: usize,
-}
-
 // What is kept: the first k yards; or how many are within the drive, whose words stand in a lent array.
 pub struct Kept {
     pub held: Held,
     pub listed: usize,
 }
 
-// The words of the yards within a drive: a yard and its distance for each of at most 256.
-pub const WORDS: usize = 512;
+// The words of the lent array.
+pub const WORDS: usize = search_drive::WORDS;
 
 // Nothing is kept.
 pub fn none() -> Kept
     ensures { λ r. ⌜ (r .held .count ≡ 0) × (r .listed ≡ 0) ⌝ }
 {
-    let held = Held {
-        yards: [0u16; 64],
-        distances: [0u32; 64],
-        count: 0,
-    };
+    let held = search_first::none();
     Kept { held, listed: 0 }
 }
 
 // What is kept once one more yard is measured.
-pub fn keep(kept: Kept, list: &mut [u32], rule: Rule, yard: Junction, distance: u32) -> Kept
-    requires { ⌜ Fits (ruleOf rule) kept × (countBy (ruleOf rule) kept < 256) × (length (now list) ≡ 512) ⌝ }
+pub fn keep(kept: Kept, list: &mut [u32], rule: Rule, e: Entry) -> Kept
+    requires { ⌜ Fits (ruleOf rule) kept × (countBy (ruleOf rule) kept < 256) × (length (now list) ≡ 768) ⌝ }
     ensures held { λ r. ⌜ heldBy (ruleOf rule) r (now (list .exit))
-        ≡ keepBy (ruleOf rule) (entryOf distance (yard .number)) (heldBy (ruleOf rule) kept (now (list .entry))) ⌝ }
+        ≡ keepBy (ruleOf rule) (entryIn e) (heldBy (ruleOf rule) kept (now (list .entry))) ⌝ }
     ensures room { λ r. ⌜ Fits (ruleOf rule) r × (countBy (ruleOf rule) r ≤ countBy (ruleOf rule) kept + 1) ⌝ }
 {
     let so_far = kept.held;
     match rule {
         Rule::Nearest(k) => {
-            let held = first::hold(so_far, k as usize, yard, distance);
+            let held = search_first::hold(so_far, k as usize, e);
             Kept {
                 held,
                 listed: kept.listed,
             }
         }
         Rule::InDrive(seconds) => {
-            let listed = drive::keep(list, kept.listed, seconds, yard, distance);
+            let listed = search_drive::keep(list, kept.listed, seconds, e);
             Kept {
                 held: so_far,
                 listed,
@@ -95,7 +82,7 @@ pub fn enough(kept: Kept, rule: Rule, least: u64) -> bool
             if held.count != k as usize {
                 return false;
             }
-            (first::greatest(held) as u64) < least
+            (search_first::greatest(held) as u64) < least
         }
         Rule::InDrive(seconds) => (seconds as u64) < least,
     }
@@ -112,7 +99,7 @@ pub fn ceiling(kept: Kept, rule: Rule) -> Ceiling
             if held.count < k as usize {
                 return Ceiling::None;
             }
-            Ceiling::Seconds(first::greatest(held))
+            Ceiling::Seconds(search_first::greatest(held))
         }
         Rule::InDrive(seconds) => Ceiling::Seconds(seconds),
     }
@@ -130,13 +117,13 @@ pub fn count(kept: Kept, rule: Rule) -> usize
 
 // Writes a yard and its distance for each held yard, over the start of the result area.
 pub fn write_words(kept: Kept, list: &[u32], rule: Rule, results: &mut [u32])
-    requires { ⌜ Fits (ruleOf rule) kept × (countBy (ruleOf rule) kept ≤ 256) × (length (now list) ≡ 512)
+    requires { ⌜ Fits (ruleOf rule) kept × (countBy (ruleOf rule) kept ≤ 256) × (length (now list) ≡ 768)
         × (2 * countBy (ruleOf rule) kept ≤ length (now results)) ⌝ }
     ensures { λ _. ⌜ now (results .exit)
         ≡ write (now (results .entry)) 0 (words (heldBy (ruleOf rule) kept (now (list .entry)))) ⌝ }
 {
     match rule {
-        Rule::Nearest(_) => first::write_held(kept.held, results),
-        Rule::InDrive(_) => drive::write_listed(list, kept.listed, results),
+        Rule::Nearest(_) => search_first::write_held(kept.held, results),
+        Rule::InDrive(_) => search_drive::write_listed(list, kept.listed, results),
     }
 }

@@ -29,7 +29,7 @@ unfolding entryOn
 same-entry road road′ crews drives code y a b h =
     λ j. entryOf (same-total road road′ crews drives code y a b h j) (same-furthest road road′ crews drives y a b h j) y
 
-module _ (rule : Rule) {road : List ℕ} {code : ℕ} {crews : List ℕ} {y : ℕ} (l : List Entry) where
+module _ (rule : Rule) (road : List ℕ) (code : ℕ) (crews : List ℕ) (y : ℕ) (l : List Entry) where
   -- a yard that is measured exactly
   pub held-exact : (n f : ℕ) (r : List Entry) → (n ≡ totalOf road code crews y) × (f ≡ furthestOf road crews y) → r ≡ keepBy rule (entryOf n f y) l
       → r ≡ keepBy rule (entryOn road code crews y) l

@@ -3,11 +3,12 @@ use mathlib.Core.List.{List}
 use Prim.Native.Nat.{ℕ, _≤_}
 use Rattle.search_rules.specs.Rule.{Rule, nearest, inDrive, Asking}
 use Rattle.search_rules.specs.Order.{Entry}
+use Rattle.search_first.specs.code.Held.{heldOf}
+use Rattle.search_drive.specs.code.Listed.{listedIn}
 use Rattle.search_held.specs.declared.Rule.{Rule as Given}
 use Rattle.search_held.specs.declared.Rule.the-variants.{Nearest, InDrive}
 use Rattle.search_held.specs.declared.Kept.{Kept}
 use Rattle.search_held.specs.declared.Asked.{Asked}
-use Rattle.search_held.specs.code.Pairs.{heldOf, listedIn}
 
 -- the definition's rule
 abbrev pub ruleOf : Given → Rule

@@ -43,14 +43,17 @@ returns c =
       (
         newest-put (s .args .measured .now) (s .args .progress .measured) (s .args .y .number) (omega (arith, s .pre .1, s .pre .2)),
         (
-          λ road k. held-above _ _ (s .pre .6) (answer-above k (c .before .before .before .before .under-ceiling .ensures .0 (s .args .list .now) road k) above),
+          λ road k. held-above _ _ _ _ _ _ (s .pre .6) (answer-above k (c .before .before .before .before .under-ceiling .ensures .0 (s .args .list .now) road k) above),
           (s .pre .3, omega (arith, s .pre .4)),
         ),
       ),
     )
 
+cast-t24 : tie.Need-cast-t24
+cast-t24 c = search needs
+
 keep-requires : tie.Need-keep-requires
-keep-requires c κs = let p = c .before .before .before .before .before .before .before .before .before .before .before .before .before .before .pre in (p .3, omega (arith, p .4, p .1), p .5)
+keep-requires c κs = let p = c .before .before .before .before .before .before .before .before .before .before .before .before .before .before .before .pre in (p .3, omega (arith, p .4, p .1), p .5)
 
 same-length-2 : tie.Need-same-length-2
 same-length-2 c = search needs
@@ -60,14 +63,14 @@ same-length-3 c = search needs
 
 returns-2 : tie.Need-returns-2
 returns-2 c =
-    let s = c .before .before .before .before .before .before .before .before .before .before .before .before .before .before .before .before .before in
+    let s = c .before .before .before .before .before .before .before .before .before .before .before .before .before .before .before .before .before .before in
     let k = c .before .before .keep .ensures in
-    let m = c .before .before .before .before .before .before .before .before .before .under-ceiling .ensures .0 (s .args .list .now) in
-    let exact = ap measuredOf (c .before .before .before .before .before .answer .given .1) in (
+    let m = c .before .before .before .before .before .before .before .before .before .before .under-ceiling .ensures .0 (s .args .list .now) in
+    let exact = ap measuredOf (c .before .before .before .before .before .before .answer .given .1) in (
       refl,
       (
         newest-put (s .args .measured .now) (s .args .progress .measured) (s .args .y .number) (omega (arith, s .pre .1, s .pre .2)),
-        (λ road d. held-exact _ _ _ _ _ (answer-exact d (m road d) _ _ exact) (k .0), (k .1 .0, omega (arith, k .1 .1, s .pre .4))),
+        (λ road d. held-exact _ road _ _ _ _ _ _ _ (answer-exact d (m road d) _ _ exact) (k .0), (k .1 .0, omega (arith, k .1 .1, s .pre .4))),
       ),
     )
 
@@ -85,6 +88,7 @@ take-spec =
     enum-told
     same-length
     returns
+    cast-t24
     keep-requires
     same-length-2
     same-length-3

@@ -1,0 +1,4 @@
+pub mod Ordering
+pub mod Pairing
+pub mod Inserting
+pub mod Writing
