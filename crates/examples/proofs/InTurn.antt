@@ -32,7 +32,7 @@ use Rattle.tree.specs.Shape.{childFits, siblings, subtree, shaped, treeRefusal}
 use Rattle.tree.specs.Yards.{endOf, starts, childrenOf, kindsIn, ownList, kindsFrom, kindsOf}
 use Rattle.search_rules.specs.Instance.{size, children, marks, leaf}
 use Rattle.search_rules.specs.Books.{searchOf}
-use Rattle.search_rules.specs.Bounds.{absDiff, combine, aggregate, greatestOf, leastFrom, leastOf, crewBound, tableAt, lower, upper, over, total, markBound}
+use Rattle.search_rules.specs.Bounds.{absDiff, combine, aggregate, greatestOf, leastFrom, leastOf, crewBound, tableAt, lower, upper, over, total, furthest, markBound}
 use Rattle.search_rules.specs.Bounds.{bound, weight, best, bestOf, chosen, listAbsDiff, f, yardBound}
 use Rattle.tree_layout.specs.Values.{noMark}
 use Rattle.search_rules.specs.Queue.{queued, wordAt, pick}
@@ -78,7 +78,7 @@ unfolding choose refuse firstOf u8At u16At u32At write keepIf version openRefusa
     readList listPart readLists readSpans readMarks markSize recordSize sizeAt readRegion readRegions junctionCount regionCount treeYardCount landmarkCount
     decode between all recordsOk elementOk comes risesFrom listRises listOk markOk childrenOk regionOk valuesOk treeLayout names once inRange namedBy
     firstList sameYards agreeing leafOk childFits siblings subtree shaped treeRefusal endOf starts childrenOf kindsIn ownList kindsFrom kindsOf size
-    children marks leaf searchOf absDiff combine aggregate greatestOf leastFrom leastOf crewBound noMark tableAt lower upper over total markBound bound
+    children marks leaf searchOf absDiff combine aggregate greatestOf leastFrom leastOf crewBound noMark tableAt lower upper over total furthest markBound bound
     weight best bestOf chosen listAbsDiff f yardBound queued wordAt pick yardFirst insert hold lastDistance greatestHeld entry keepBy enoughBy keep enough
     left noElement againKey passed waiting nextPlace nextF queueChildren openInner queueNext closeLeaf openLeaf takeRegion takeYard nextRegion nextYard
     leastKey step settled rootKeys startSearch words advance run report answer treeRefusalIn areasRefusal searchRefusal refused accepted searchFound
