@@ -35,9 +35,9 @@ loop-less c = search needs
 
 loop-again : tie.Need-loop-again Inv-loop μ-loop
 loop-again c = let l = c .before .before .before .before .loop in (
-      omega arith,
-      seen-on _ _ _ (l .j) (omega arith) _ (c .before .before .entry-at .ensures) (l .inv .1) (sym (c .before .comes-first .ensures) ∙ c .if1 .left),
-    )
+  omega arith,
+  seen-on _ _ _ (l .j) (omega arith) _ (c .before .before .entry-at .ensures) (l .inv .1) (sym (c .before .comes-first .ensures) ∙ c .if1 .left),
+)
 
 returns-2 : tie.Need-returns-2 Inv-loop μ-loop
 returns-2 c = seen-all _ _ _ (c .before .loop .j) (omega arith) (c .before .loop .inv .1)

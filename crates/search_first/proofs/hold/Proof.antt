@@ -72,14 +72,14 @@ loop-less c = search needs
 
 loop-again : tie.Need-loop-again Inv-loop μ-loop
 loop-again c = let l = c .before .loop in (
-      l .inv .0,
-      l .inv .1,
-      length-set (l .yards) (l .j) (l .carried .yard) ∙ l .inv .2,
-      length-set (l .distances) (l .j) (l .carried .distance) ∙ l .inv .3,
-      length-set (l .furthests) (l .j) (l .carried .furthest) ∙ l .inv .4,
-      carrying-on (l .inv .5) _ (arrays-at _ _ _ (l .j)) (omega arith)
-          (put-arrays (l .yards) (l .distances) (l .furthests) (l .j) (l .carried) (omega (arith, l .inv .2)) (omega (arith, l .inv .3)) (omega (arith, l .inv .4))),
-    )
+  l .inv .0,
+  l .inv .1,
+  length-set (l .yards) (l .j) (l .carried .yard) ∙ l .inv .2,
+  length-set (l .distances) (l .j) (l .carried .distance) ∙ l .inv .3,
+  length-set (l .furthests) (l .j) (l .carried .furthest) ∙ l .inv .4,
+  carrying-on (l .inv .5) _ (arrays-at _ _ _ (l .j)) (omega arith)
+      (put-arrays (l .yards) (l .distances) (l .furthests) (l .j) (l .carried) (omega (arith, l .inv .2)) (omega (arith, l .inv .3)) (omega (arith, l .inv .4))),
+)
 
 mul-yards-2 : tie.Need-mul-yards-2 Inv-loop μ-loop
 mul-yards-2 c = search needs
@@ -104,10 +104,10 @@ add-count c = search needs
 
 returns : tie.Need-returns Inv-loop μ-loop
 returns c = let l = c .before .before .loop in (
-      carried-kept (l .inv .5) _ (omega arith) (omega arith)
-          (put-arrays (l .yards) (l .distances) (l .furthests) _ (l .carried) (omega (arith, l .inv .2)) (omega (arith, l .inv .3)) (omega (arith, l .inv .4))),
-      (omega arith, omega arith),
-    )
+  carried-kept (l .inv .5) _ (omega arith) (omega arith)
+      (put-arrays (l .yards) (l .distances) (l .furthests) _ (l .carried) (omega (arith, l .inv .2)) (omega (arith, l .inv .3)) (omega (arith, l .inv .4))),
+  (omega arith, omega arith),
+)
 
 returns-2 : tie.Need-returns-2 Inv-loop μ-loop
 returns-2 c = (carried-gone (c .before .before .loop .inv .5) _ (omega arith) (omega arith), (omega arith, omega arith))
