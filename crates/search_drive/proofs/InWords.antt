@@ -6,7 +6,7 @@ use Prim.Native.Nat.{ℕ, _+_, _*_, _<_}
 use native.Mathlib.Omega.{arith}
 use lib.ListN.{length, getD, set, length-set}
 use lib.Seq.{getD-set-same, getD-set-other}
-use Rattle.search_rules.specs.Order.{Entry, entryOf}
+use Rattle.search_rules.specs.Order.{entryOf}
 use Rattle.search_order.specs.code.Pairs.{Put}
 use Rattle.search_drive.specs.code.Listed.{inWords}
 

@@ -1,7 +1,7 @@
 // The yards within a drive so far, in yard order, in an array of words: yard, distance and furthest crew's for each.
 use search_order::Entry;
 ghost use mathlib.Core.Path.{_≡_};
-ghost use Prim.Native.Nat.{ℕ, _+_, _*_, _≤_, _<_};
+ghost use Prim.Native.Nat.{_+_, _*_, _≤_, _<_};
 ghost use lib.ListN.{length};
 ghost use Rattle.book.specs.Writing.{write};
 ghost use Rattle.search_rules.specs.Held.{insert};

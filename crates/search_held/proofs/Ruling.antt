@@ -1,18 +1,17 @@
 -- What is kept and what is enough, by what the code's rule is. Assumes nothing.
-use mathlib.Core.Path.{_≡_, refl, sym, _∙_}
-use mathlib.Core.Bool.{Bool, true, false, not}
+use mathlib.Core.Path.{_≡_, refl, sym}
+use mathlib.Core.Bool.{true, false}
 use mathlib.Core.Option.{none, some}
 use mathlib.Core.List.{List, []}
-use Prim.Native.Nat.{ℕ, _≤_, _<_}
-use native.Mathlib.Omega.{arith}
+use Prim.Native.Nat.{ℕ, _≤_}
 use borrow.Author.Tests.{eq-eqb, ne-eqb}
 use lib.ListN.{length}
-use lib.Dec.{T, ltb, leb, leb→le, le→leb, not-T}
+use lib.Dec.{ltb}
 use Rattle.book.proofs.Choosing.{choose-yes, choose-no}
 use Rattle.book.specs.Writing.{write}
 use Rattle.search_rules.specs.Order.{Entry}
 use Rattle.search_rules.specs.Rule.{nearest, inDrive, Rule as SearchRule}
-use Rattle.search_rules.specs.Held.{insert, hold, greatestHeld}
+use Rattle.search_rules.specs.Held.{hold, greatestHeld}
 use Rattle.search_rules.specs.Keeping.{keepBy, enoughBy}
 use Rattle.search_rules.specs.Ceiling.{ceilingBy}
 use Rattle.search_rules.specs.Run.{words}

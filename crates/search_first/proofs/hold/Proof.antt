@@ -74,9 +74,9 @@ loop-again : tie.Need-loop-again Inv-loop μ-loop
 loop-again c = let l = c .before .loop in (
   l .inv .0,
   l .inv .1,
-  length-set (l .yards) (l .j) (l .carried .yard) ∙ l .inv .2,
-  length-set (l .distances) (l .j) (l .carried .distance) ∙ l .inv .3,
-  length-set (l .furthests) (l .j) (l .carried .furthest) ∙ l .inv .4,
+  length-set (l .yards) (l .j) _ ∙ l .inv .2,
+  length-set (l .distances) (l .j) _ ∙ l .inv .3,
+  length-set (l .furthests) (l .j) _ ∙ l .inv .4,
   carrying-on (l .inv .5) _ (arrays-at _ _ _ (l .j)) (omega arith)
       (put-arrays (l .yards) (l .distances) (l .furthests) (l .j) (l .carried) (omega (arith, l .inv .2)) (omega (arith, l .inv .3)) (omega (arith, l .inv .4))),
 )
