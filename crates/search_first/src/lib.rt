@@ -1,7 +1,7 @@
 // The first k yards so far in yard order, in a struct that is passed by value.
 use search_order::Entry;
 ghost use mathlib.Core.Path.{_≡_};
-ghost use Prim.Native.Nat.{ℕ, _+_, _*_, _≤_, _<_};
+ghost use Prim.Native.Nat.{_+_, _*_, _≤_, _<_};
 ghost use lib.ListN.{length};
 ghost use Rattle.book.specs.Writing.{write};
 ghost use Rattle.search_rules.specs.Held.{hold, greatestHeld};

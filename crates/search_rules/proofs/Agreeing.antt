@@ -4,7 +4,7 @@ use mathlib.Core.Bool.{Bool}
 use mathlib.Core.List.{List, [], _∷_, List·Memᴰ as Mem}
 use Prim.Native.Nat.{ℕ, _≤_}
 use native.Mathlib.Omega.{arith}
-use lib.ListN.{length, take}
+use lib.ListN.{take}
 use lib.Dec.{T}
 use Rattle.book.specs.Lists.{keepIf}
 use Rattle.tree_layout.specs.Decode.{decode}
@@ -14,7 +14,7 @@ use Rattle.search_rules.specs.Rule.{Rule, nearest, inDrive}
 use Rattle.search_rules.specs.Instance.{Instance}
 use Rattle.search_rules.specs.Books.{searchOf, Passed}
 use Rattle.search_rules.specs.Bounds.{over, total, furthest}
-use Rattle.search_rules.specs.Held.{insert, lastDistance, entry, ranked}
+use Rattle.search_rules.specs.Held.{lastDistance, entry, ranked}
 use Rattle.search_rules.specs.Keeping.{upTo, front}
 use Rattle.search_rules.specs.Run.{answer}
 use Rattle.search_rules.specs.Facts.{SoundInstance}

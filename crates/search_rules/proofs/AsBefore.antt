@@ -1,17 +1,16 @@
 -- The lists of yard order beside those of the order that was before: under the maximum the same, else with the same aggregates. Assumes nothing.
-use mathlib.Core.Path.{_≡_, refl, sym, ap, _∙_}
+use mathlib.Core.Path.{_≡_, refl, sym, _∙_}
 use mathlib.Core.Logic.{_⊎_, inl, inr}
-use mathlib.Core.List.{List, [], _∷_, map, List·Memᴰ as Mem, List·Memᴰ·head as head, List·Memᴰ·tail as tail, List·Memᴰ·not-nil as not-nil}
-use Prim.Native.Nat.{ℕ, zero, suc, _≤_, _<_, min}
+use mathlib.Core.List.{List, [], _∷_, List·Memᴰ as Mem, List·Memᴰ·head as head, List·Memᴰ·tail as tail, List·Memᴰ·not-nil as not-nil}
+use Prim.Native.Nat.{ℕ, zero, suc, _≤_, _<_}
 use native.Mathlib.Decide.{decLt}
 use native.Mathlib.Omega.{arith}
-use lib.ListN.{length, getD, take, length-take, List·getD-map}
+use lib.ListN.{length, getD, take, List·getD-map}
 use lib.Seq.{ext-getD, length-take-le}
 use Rattle.book.specs.Lists.{Distinct}
 use Rattle.book.proofs.Lists.{getD-mem}
 use Rattle.adjacency.specs.Arcs.{Arc}
 use Rattle.road.proofs.Walks.{least-unique}
-use Rattle.search_rules.specs.Bounds.{combine}
 use Rattle.search_rules.specs.Rule.{nearest, inDrive}
 use Rattle.search_rules.specs.Order.{Entry, FairerBefore, YardBefore}
 use Rattle.search_rules.specs.Theorems.{SortedBy, OutBy}

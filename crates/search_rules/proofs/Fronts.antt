@@ -9,9 +9,8 @@ use native.Mathlib.Omega.{arith}
 use lib.ListN.{length, take, length-take}
 use lib.Seq.{take-all}
 use lib.Dec.{T, leb, leb→le, le→leb, nleb→lt, T-not, not-T}
-use Rattle.book.specs.Choose.{choose}
 use Rattle.book.proofs.Choosing.{choose-case, choose-yes, choose-no}
-use Rattle.search_rules.specs.Order.{Entry, yardFirst, YardBefore}
+use Rattle.search_rules.specs.Order.{Entry, yardFirst}
 use Rattle.search_rules.specs.Rule.{Rule, nearest, inDrive}
 use Rattle.search_rules.specs.Held.{insert, hold, greatestHeld}
 use Rattle.search_rules.specs.Keeping.{keepBy, upTo, front}

@@ -1,17 +1,16 @@
 -- A search's steps by the order that was before: what is held had the same aggregates. Assumes nothing.
 use mathlib.Core.Path.{_≡_, refl, sym, ap, _∙_}
 use mathlib.Core.Logic.{_⊎_, inl, inr}
-use mathlib.Core.Bool.{Bool, not, _&&_, _||_}
-use mathlib.Core.Option.{Option, none, some}
+use mathlib.Core.Bool.{Bool, not, _&&_}
 use mathlib.Core.List.{List, [], _∷_, map, List·Memᴰ as Mem, List·Memᴰ·head as head, List·Memᴰ·tail as tail, List·Memᴰ·not-nil as not-nil}
 use mathlib.Core.List.{List·Memᴰ·cases-cons as cases-cons}
 use Prim.Native.Nat.{ℕ, zero, suc, _≤_, _<_, min}
 use native.Mathlib.Decide.{decLt}
 use native.Mathlib.Omega.{arith}
 use lib.ListN.{length, take}
-use lib.Dec.{T, T-not, not-T, ltb, leb, eqb, ltb→lt, lt→ltb, leb→le, le→leb, nleb→lt, eqb→eq}
+use lib.Dec.{T, T-not, ltb, leb, eqb, ltb→lt, lt→ltb, leb→le, le→leb, nleb→lt, eqb→eq}
 use Rattle.book.specs.Choose.{choose}
-use Rattle.book.proofs.Choosing.{choose-case, choose-yes, choose-no, and-left, and-right}
+use Rattle.book.proofs.Choosing.{choose-case, choose-yes, and-left}
 use Rattle.book.proofs.Lists.{or-left, or-cases}
 use Rattle.search_rules.specs.Rule.{Rule, nearest, inDrive}
 use Rattle.search_rules.specs.Instance.{Instance, leaf}

@@ -1,8 +1,8 @@
 -- The definitions of a step, one equation for each, for those who compute them. Assumes nothing.
-use mathlib.Core.Path.{_≡_, refl, sym, ap, _∙_}
-use mathlib.Core.Bool.{Bool, true, false, not, _&&_, _||_}
+use mathlib.Core.Path.{_≡_, refl, ap, _∙_}
+use mathlib.Core.Bool.{Bool, true, false, not, _||_}
 use mathlib.Core.List.{List, [], _∷_}
-use Prim.Native.Nat.{ℕ, suc, _≤_, _<_, min, max}
+use Prim.Native.Nat.{ℕ, _≤_, _<_, min, max}
 use native.Mathlib.Omega.{arith}
 use lib.ListN.{length, getD, set, replicate}
 use lib.Dec.{T, ltb, eqb, lt→ltb, ltb→lt, not-T}
@@ -12,15 +12,14 @@ use Rattle.book.proofs.Choosing.{choose-yes, choose-no, T-true}
 use Rattle.tree_layout.specs.Values.{Element, Mark, regionAt}
 use Rattle.tree.specs.Yards.{childrenOf}
 use Rattle.search_rules.specs.Instance.{Instance, size, children, leaf}
-use Rattle.search_rules.specs.Bounds.{bound, chosen, total, furthest, yardBound, f}
+use Rattle.search_rules.specs.Bounds.{bound, chosen, total, furthest, yardBound}
 use Rattle.search_rules.specs.Queue.{unqueued, queued, wordAt, pick}
 use Rattle.search_rules.specs.Keeping.{keepBy, enoughBy, keep, enough}
 use Rattle.search_rules.specs.Held.{entry}
-use Rattle.search_rules.specs.Step.{SearchState, left, noElement, againKey, waiting, nextPlace, nextF, queueChildren, openInner, queueNext, closeLeaf}
+use Rattle.search_rules.specs.Step.{SearchState, noElement, againKey, waiting, nextPlace, nextF, queueChildren, openInner, queueNext, closeLeaf}
 use Rattle.search_rules.specs.Step.{openLeaf}
 use Rattle.search_rules.specs.Step.{takeRegion, takeYard, nextRegion, nextYard, leastKey, step, settled, rootKeys, startSearch}
 use Rattle.search_rules.proofs.Queue.{small-queued, queued-small}
-use Rattle.search_rules.proofs.Stepping.{Sizes}
 
 -- ---- the queue's least
 

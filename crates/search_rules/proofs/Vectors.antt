@@ -1,30 +1,30 @@
 -- The definitions run: 01's starred examples, and each rule for ties. Assumes nothing.
 use mathlib.Core.Path.{_≡_, refl}
-use mathlib.Core.Bool.{Bool, true, false}
+use mathlib.Core.Bool.{true, false}
 use mathlib.Core.List.{List, [], _∷_}
-use Prim.Native.Nat.{ℕ, _+_, min, max}
-use lib.ListN.{getD, take}
+use Prim.Native.Nat.{ℕ}
+use lib.ListN.{getD}
 use Rattle.book.specs.Choose.{choose}
 use Rattle.book.specs.Lists.{keepIf}
-use Rattle.tree_layout.specs.Values.{Tree, leafMark, innerMark, firstDistance, lastFrom, noRegion, regionAt}
+use Rattle.tree_layout.specs.Values.{leafMark, innerMark, firstDistance, lastFrom, noRegion, regionAt}
 use Rattle.tree_layout.specs.Refusal.{all}
 use Rattle.search_rules.specs.Order.{yardFirst}
 use Rattle.search_rules.specs.Rule.{nearest}
 use Rattle.search_rules.specs.Keeping.{keep, enough, keepBy, enoughBy}
 use Rattle.tree_leaf.specs.Leaf.{names, once, inRange, namedBy, firstList, agreeing, sameYards, leafOk}
-use Rattle.tree.specs.Shape.{childFits, siblings, subtree}
+use Rattle.tree.specs.Shape.{siblings, subtree}
 use Rattle.tree.specs.Yards.{endOf, starts, childrenOf}
 use Rattle.search_rules.specs.Instance.{Instance, size, children, marks, leaf}
 use Rattle.search_rules.specs.Bounds.{absDiff, combine, aggregate, greatestOf, leastFrom, leastOf, crewBound, tableAt, lower, upper, over, total, furthest}
 use Rattle.search_rules.specs.Bounds.{markBound}
 use Rattle.search_rules.specs.Bounds.{bound, weight, best, bestOf, chosen, listAbsDiff, f, yardBound}
 use Rattle.tree_layout.specs.Values.{noMark}
-use Rattle.search_rules.specs.Queue.{unqueued, queued, wordAt, pick}
-use Rattle.search_rules.specs.Held.{insert, hold, lastDistance, greatestHeld, entry, ranked}
-use Rattle.search_rules.specs.Step.{SearchState, left, noElement, againKey, passed, waiting, nextPlace, nextF, queueChildren, openInner, queueNext, closeLeaf}
+use Rattle.search_rules.specs.Queue.{queued, wordAt, pick}
+use Rattle.search_rules.specs.Held.{insert, hold, lastDistance, greatestHeld, entry}
+use Rattle.search_rules.specs.Step.{left, noElement, againKey, passed, waiting, nextPlace, nextF, queueChildren, openInner, queueNext, closeLeaf}
 use Rattle.search_rules.specs.Step.{openLeaf}
 use Rattle.search_rules.specs.Step.{takeRegion, takeYard, nextRegion, nextYard, leastKey, step, settled, rootKeys, startSearch}
-use Rattle.search_rules.specs.Run.{Outcome, Answer, words, advance, run, report, answer}
+use Rattle.search_rules.specs.Run.{words, advance, run, report, answer}
 use Rattle.search_rules.specs.Examples.{onChain, at, leafOf, three, from0, from2}
 
 -- ---- nets that are chains

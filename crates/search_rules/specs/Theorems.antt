@@ -1,7 +1,7 @@
 -- What is proved of the search. Assumes nothing: these are statements.
 use mathlib.Core.Path.{_≡_}
 use mathlib.Core.Logic.{_⊎_}
-use mathlib.Core.Bool.{Bool, true, false, not, _&&_, _||_}
+use mathlib.Core.Bool.{Bool, false, not, _&&_, _||_}
 use mathlib.Core.List.{List, [], _∷_, List·Memᴰ as Mem}
 use Prim.Native.Nat.{ℕ, zero, suc, _+_, _*_, _≤_, _<_, max}
 use lib.ListN.{length}
@@ -18,7 +18,7 @@ use Rattle.search_rules.specs.Order.{Entry, YardBefore}
 use Rattle.search_rules.specs.Held.{greatestHeld, entry, ranked}
 use Rattle.search_rules.specs.Keeping.{front}
 use Rattle.search_rules.specs.Step.{SearchState, settled}
-use Rattle.search_rules.specs.Run.{run, answer}
+use Rattle.search_rules.specs.Run.{run}
 use Rattle.search_rules.specs.Facts.{Below}
 
 -- ---- lists of yards
