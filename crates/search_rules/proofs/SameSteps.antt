@@ -1,7 +1,7 @@
 -- A search's steps by the order that was before: what is held had the same aggregates. Assumes nothing.
 use mathlib.Core.Path.{_≡_, refl, sym, ap, _∙_}
 use mathlib.Core.Logic.{_⊎_, inl, inr}
-use mathlib.Core.Bool.{Bool, not, _&&_}
+use mathlib.Core.Bool.{Bool, not, _&&_, _||_}
 use mathlib.Core.List.{List, [], _∷_, map, List·Memᴰ as Mem, List·Memᴰ·head as head, List·Memᴰ·tail as tail, List·Memᴰ·not-nil as not-nil}
 use mathlib.Core.List.{List·Memᴰ·cases-cons as cases-cons}
 use Prim.Native.Nat.{ℕ, zero, suc, _≤_, _<_, min}
@@ -18,11 +18,10 @@ use Rattle.search_rules.specs.Order.{Entry, yardFirst}
 use Rattle.search_rules.specs.Bounds.{chosen}
 use Rattle.search_rules.specs.Queue.{queued, wordAt}
 use Rattle.search_rules.specs.Held.{insert, hold, lastDistance, greatestHeld, entry}
-use Rattle.search_rules.specs.Keeping.{keepBy, keep, enoughBy}
-use Rattle.search_rules.specs.Step.{SearchState, step, settled, startSearch, nextF, nextRegion, nextYard, takeRegion, takeYard, openLeaf, openInner, queueNext, closeLeaf}
+use Rattle.search_rules.specs.Keeping.{keepBy, keep, enough, enoughBy}
+use Rattle.search_rules.specs.Step.{SearchState, step, settled, startSearch, nextF, nextRegion, nextYard, leastKey, takeRegion, takeYard, openLeaf, openInner, queueNext, closeLeaf}
 use Rattle.search_rules.specs.Run.{Outcome, advance, run}
-use Rattle.search_rules.specs.Ceiling.{ceilingBy}
-use Rattle.search_rules.specs.Fairness.{aggregates, numberFirst, insertBefore, heldBefore, SameSteps}
+use Rattle.search_rules.specs.Fairness.{aggregates, numberFirst, insertBefore, heldBefore, withBefore, runBefore, SameSteps}
 use Rattle.search_rules.proofs.Choices.{choose-two}
 use Rattle.search_rules.proofs.Wanted.{length-map}
 use Rattle.search_rules.proofs.Order.{first-before, before-first, before-le}
@@ -50,11 +49,6 @@ enough-same : (rule : Rule) (l m : List Entry) (key : ℕ) → aggregates l ≡ 
 unfolding enoughBy
 enough-same (nearest k) l m key e = rw (aggregate-length l m e, greatest-same l m e) refl
 enough-same (inDrive s) l m key e = refl
-
-ceiling-same : (rule : Rule) (l m : List Entry) → aggregates l ≡ aggregates m → ceilingBy rule l ≡ ceilingBy rule m
-unfolding ceilingBy
-ceiling-same (nearest k) l m e = rw (aggregate-length l m e, greatest-same l m e) refl
-ceiling-same (inDrive s) l m e = refl
 
 -- ---- numbers in rising order
 
@@ -180,6 +174,11 @@ module _ (e : Entry) (now before : List Entry) (l : Level now before) where
     same = take-aggregates k (insert e now) ∙ ap (take k) (one-more .same) ∙ sym (take-aggregates k (insertBefore e before));
   }
 
+none-held : (r : Rule) → heldBefore r [] ≡ []
+unfolding heldBefore
+none-held (nearest k) = refl
+none-held (inDrive s) = refl
+
 module _ (i : Instance) where
   -- a state's held yards, and those that were held of the same measured ones
   Same : SearchState → Type 0
@@ -205,18 +204,66 @@ module _ (i : Instance) where
 
   run-same : (steps : ℕ) → Same (run i steps .state)
   unfolding Same run startSearch advance heldBefore
-  run-same zero = record { rising = tt; same = none-held (i .rule) }
-    where
-      none-held : (r : Rule) → aggregates [] ≡ aggregates (heldBefore r [])
-      none-held (nearest k) = refl
-      none-held (inDrive s) = refl
+  run-same zero = record { rising = tt; same = ap aggregates (sym (none-held (i .rule))) }
   run-same (suc steps) =
       choose-case (λ (o : Outcome). Same (o .state)) (settled i (run i steps .state)) (λ t. run-same steps) (λ t. step-same (run i steps .state) (run-same steps))
 
+  -- ---- a search by the order that was
+
+  -- what a step holds alone goes by what was held
+  step-before : (st : SearchState) → withBefore i (step i (withBefore i st)) ≡ withBefore i (step i st)
+  unfolding withBefore step takeYard takeRegion openLeaf openInner queueNext closeLeaf keep nextRegion nextYard
+  step-before st =
+      let a = wordAt (st .regionKeys) (nextRegion i st) in
+      let b = wordAt (st .yardKeys) (nextYard i st) in
+      choose-two Alike (queued (min a b)) (λ q. choose-two Alike (ltb b a) (λ t. refl) (λ t. region (nextRegion i st))) (λ q. refl)
+    where
+      Alike : SearchState → SearchState → Type 0
+      Alike s t = withBefore i s ≡ withBefore i t
+
+      region : (r : ℕ) → withBefore i (takeRegion i (withBefore i st) r (wordAt (st .regionKeys) r)) ≡ withBefore i (takeRegion i st r (wordAt (st .regionKeys) r))
+      region r = choose-two Alike (leaf i r) (λ l. choose-two Alike (queued (nextF i (st .gone) (chosen i r))) (λ t. refl) (λ t. refl)) (λ l. refl)
+
+  settled-before : (limit : ℕ) → settled i (withBefore i (run i limit .state)) ≡ settled i (run i limit .state)
+  unfolding Same withBefore settled enough leastKey nextRegion nextYard
+  settled-before limit = let st = run i limit .state in
+      ap (λ (x : Bool). not (queued (leastKey i st)) || x) (sym (enough-same (i .rule) (st .held) (heldBefore (i .rule) (map (entry i) (st .measured))) (leastKey i st) (run-same limit .same)))
+
+  -- an outcome with what was held
+  before : Outcome → Outcome
+  before o = record { state = withBefore i (o .state); taken = o .taken }
+
+  run-before : (limit : ℕ) → runBefore i limit ≡ record { state = withBefore i (run i limit .state); taken = run i limit .taken }
+  unfolding before runBefore run advance withBefore startSearch
+  run-before zero = λ j. record {
+    state = record {
+      regionKeys = startSearch i .regionKeys;
+      yardKeys = startSearch i .yardKeys;
+      firsts = startSearch i .firsts;
+      gone = startSearch i .gone;
+      held = sym (none-held (i .rule)) j;
+      measured = [];
+    };
+    taken = 0;
+  }
+  run-before (suc limit) = on (runBefore i limit) (run-before limit)
+    where
+      st : SearchState
+      st = run i limit .state
+
+      next : Outcome
+      next = record { state = step i st; taken = suc (run i limit .taken) }
+
+      on : (o : Outcome) → o ≡ before (run i limit)
+          → choose (settled i (o .state)) o (record { state = withBefore i (step i (o .state)); taken = suc (o .taken) })
+          ≡ before (choose (settled i st) (run i limit) next)
+      on o e = rw (e, settled-before limit, step-before st)
+          (choose-two (λ (x y : Outcome). x ≡ before y) (settled i st) {x = before (run i limit)} {y = before next} {u = run i limit} {v = next} (λ t. refl) (λ t. refl))
+
 pub same-steps : SameSteps
-unfolding Same
+unfolding Same withBefore
 same-steps = record {
-  enough = enough-same;
-  ceiling = ceiling-same;
-  held = λ i steps. run-same i steps .same;
+  steps = run-before;
+  held = λ i limit. run-same i limit .same ∙ sym (ap (λ (o : Outcome). aggregates (o .state .held)) (run-before i limit));
+  settles = λ i limit. sym (settled-before i limit) ∙ sym (ap (λ (o : Outcome). settled i (o .state)) (run-before i limit));
 }

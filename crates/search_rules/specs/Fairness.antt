@@ -4,7 +4,7 @@ use mathlib.Core.Path.{_≡_}
 use mathlib.Core.Logic.{_⊎_, _≢_, _↔_}
 use mathlib.Core.Bool.{Bool, _&&_, _||_}
 use mathlib.Core.List.{List, [], _∷_, map, List·Memᴰ as Mem}
-use Prim.Native.Nat.{ℕ, _<_}
+use Prim.Native.Nat.{ℕ, zero, suc, _<_}
 use lib.ListN.{take}
 use lib.Dec.{ltb, leb, eqb}
 use Rattle.book.specs.Choose.{choose}
@@ -16,9 +16,8 @@ use Rattle.search_rules.specs.Rule.{Rule, nearest, inDrive}
 use Rattle.search_rules.specs.Instance.{Instance}
 use Rattle.search_rules.specs.Order.{Entry, YardBefore}
 use Rattle.search_rules.specs.Held.{entry}
-use Rattle.search_rules.specs.Keeping.{enoughBy}
-use Rattle.search_rules.specs.Run.{run}
-use Rattle.search_rules.specs.Ceiling.{ceilingBy}
+use Rattle.search_rules.specs.Step.{SearchState, step, settled, startSearch}
+use Rattle.search_rules.specs.Run.{Outcome, run}
 use Rattle.search_rules.specs.Walks.{TrueEntry, FirstBy, DriveBy}
 
 -- what yard order was before: "by aggregate, then junction number"
@@ -83,16 +82,35 @@ heldBefore (inDrive seconds) (e ∷ es) =
     let held = heldBefore (inDrive seconds) es in
     choose (leb (e .distance) seconds) (insertBefore e held) held
 
--- A step reads what is held by its aggregates alone, and these are what they were: so searches take the steps that they
--- took, measure the yards that they measured and settle when they did, and their lists have the same aggregates, on a
--- tree "that check would refuse by 9" too.
+-- a state with what was held of its measured yards
+unfoldable pub withBefore : Instance → SearchState → SearchState
+withBefore i st = record {
+  regionKeys = st .regionKeys;
+  yardKeys = st .yardKeys;
+  firsts = st .firsts;
+  gone = st .gone;
+  held = heldBefore (i .rule) (map (entry i) (st .measured));
+  measured = st .measured;
+}
+
+-- a search under a step limit, by the order that was: what is held after a step is what was held
+unfoldable pub runBefore : Instance → ℕ → Outcome
+runBefore i zero = record { state = startSearch i; taken = 0 }
+runBefore i (suc limit) = let o = runBefore i limit in choose (settled i (o .state)) o (record {
+  state = withBefore i (step i (o .state));
+  taken = suc (o .taken);
+})
+
+-- On any tree, also one "that check would refuse by 9", a search takes the steps that it took, measures the yards that
+-- it measured and settles when it did, and what it holds has the same aggregates, place by place.
 pub record SameSteps : Type 0 where
-  pub enough : (rule : Rule) (now before : List Entry) (key : ℕ) → aggregates now ≡ aggregates before
-      → enoughBy rule now key ≡ enoughBy rule before key
-  pub ceiling : (rule : Rule) (now before : List Entry) → aggregates now ≡ aggregates before
-      → ceilingBy rule now ≡ ceilingBy rule before
-  pub held : (i : Instance) (steps : ℕ) → aggregates (run i steps .state .held)
-      ≡ aggregates (heldBefore (i .rule) (map (entry i) (run i steps .state .measured)))
+  pub steps : (i : Instance) (limit : ℕ)
+      → runBefore i limit ≡ record { state = withBefore i (run i limit .state); taken = run i limit .taken }
+  pub held : (i : Instance) (limit : ℕ)
+      → aggregates (run i limit .state .held) ≡ aggregates (runBefore i limit .state .held)
+  -- whether it is settled
+  pub settles : (i : Instance) (limit : ℕ)
+      → settled i (run i limit .state) ≡ settled i (runBefore i limit .state)
 
 abbrev pub TiesFair : Type 0
 TiesFair = TotalOrder × SameSteps × ((arcs : List Arc) (crews ys : List ℕ) → AsBefore arcs crews ys)
