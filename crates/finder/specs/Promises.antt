@@ -310,9 +310,9 @@ YardsOrdered = TiesFair
 -- "above", which it gives exactly when the aggregate exceeds the ceiling. .. Each of its walks keeps in its state the
 -- junctions it has walked on from, and none of them is further than the ceiling along that walk.": `Measures`
 -- (crates/search_measure/specs/Facts.antt) has these sentences, by the walks' own least totals; with the aggregate
--- stands the distance of the furthest crew, since a yard whose aggregate equals the ceiling still competes. "Search uses the k-th
--- held distance, or no ceiling until k are held; the drive search its seconds." (`ceilingBy`), and a yard that is above
--- it changes nothing in what is held: so "Lists and counts come out as they did", by the same steps.
+-- stands the distance of the furthest crew, since a yard whose aggregate equals the ceiling still competes. "Search
+-- uses the k-th held distance, or no ceiling until k are held; the drive search its seconds." (`ceilingBy`), and a yard
+-- that is above it changes nothing in what is held: so "Lists and counts come out as they did", by the same steps.
 abbrev pub YardsMeasured : Type 0
 YardsMeasured = MeasuresTrue × AboveKept
 

@@ -24,6 +24,7 @@ use Rattle.search_rules.specs.Run.{Outcome, advance, run}
 use Rattle.search_rules.specs.Fairness.{aggregates, numberFirst, insertBefore, heldBefore, withBefore, runBefore, SameSteps}
 use Rattle.search_rules.proofs.Choices.{choose-two}
 use Rattle.search_rules.proofs.Wanted.{length-map}
+use Rattle.search_rules.proofs.Held.{take-mem}
 use Rattle.search_rules.proofs.Order.{first-before, before-first, before-le}
 
 -- ---- aggregates alone
@@ -96,12 +97,6 @@ unfolding place
 place-low n [] h = refl
 place-low n (x ∷ xs) h = choose-yes (leb n x) (n ∷ x ∷ xs) (x ∷ place n xs) (le→leb n x (h x (head refl)))
 
-take-mem : (k m : ℕ) (xs : List ℕ) → Mem m (take k xs) → Mem m xs
-take-mem zero m xs j = absurd (not-nil j)
-take-mem (suc k) m [] j = j
-take-mem (suc k) m (x ∷ xs) (head p) = head p
-take-mem (suc k) m (x ∷ xs) (tail j) = tail (take-mem k m xs j)
-
 take-rising : (k : ℕ) (xs : List ℕ) → Rising xs → Rising (take k xs)
 take-rising zero xs r = tt
 take-rising (suc k) [] r = tt
@@ -110,16 +105,20 @@ take-rising (suc k) (x ∷ xs) r = ((λ m j. r .0 m (take-mem k m xs j)), take-r
 -- ---- a yard put into its place, by either order
 
 -- of a test that goes by the aggregate first
-placed : (e h : Entry) (hs rest : List Entry) (t : Bool) → (T t → e .distance ≤ h .distance) → (T (not t) → h .distance ≤ e .distance)
+placed : (e h : Entry) (hs rest : List Entry) (t : Bool) → (T t → e .distance ≤ h .distance) → (e .distance < h .distance → T t)
     → Rising (aggregates (h ∷ hs)) → aggregates rest ≡ place (e .distance) (aggregates hs)
     → aggregates (choose t (e ∷ h ∷ hs) (h ∷ rest)) ≡ place (e .distance) (aggregates (h ∷ hs))
 unfolding place
-placed e h hs rest t yes-le no-le r same = choose-case (λ l. aggregates l ≡ place (e .distance) (aggregates (h ∷ hs))) t
+placed e h hs rest t yes-le less r same = choose-case (λ l. aggregates l ≡ place (e .distance) (aggregates (h ∷ hs))) t
     (λ u. sym (choose-yes (leb (e .distance) (h .distance)) _ _ (le→leb (e .distance) (h .distance) (yes-le u))))
     (λ u. choose-case (λ l. h .distance ∷ aggregates rest ≡ l) (leb (e .distance) (h .distance))
-    (λ v. level (omega (arith, leb→le (e .distance) (h .distance) v, no-le u)))
+    (λ v. level (omega (arith, leb→le (e .distance) (h .distance) v, not-less u (decLt (e .distance) (h .distance)))))
     (λ v. ap (λ (l : List ℕ). h .distance ∷ l) same))
   where
+    not-less : T (not t) → Dec (e .distance < h .distance) → h .distance ≤ e .distance
+    not-less u (yes p) = absurd (T-not t u (less p))
+    not-less u (no p) = omega arith
+
     level : e .distance ≡ h .distance → h .distance ∷ aggregates rest ≡ e .distance ∷ h .distance ∷ aggregates hs
     level p =
         let low : place (e .distance) (aggregates hs) ≡ e .distance ∷ aggregates hs = place-low (e .distance) (aggregates hs) (λ m k. omega (arith, r .0 m k)) in
@@ -128,26 +127,18 @@ placed e h hs rest t yes-le no-le r same = choose-case (λ l. aggregates l ≡ p
 insert-place : (e : Entry) (l : List Entry) → Rising (aggregates l) → aggregates (insert e l) ≡ place (e .distance) (aggregates l)
 unfolding insert place
 insert-place e [] r = refl
-insert-place e (h ∷ hs) r = placed e h hs (insert e hs) (yardFirst e h) (λ t. before-le (first-before e h t))
-    (λ t. not-less (decLt (e .distance) (h .distance)) t) r (insert-place e hs (r .1))
-  where
-    not-less : Dec (e .distance < h .distance) → T (not (yardFirst e h)) → h .distance ≤ e .distance
-    not-less (yes p) t = absurd (T-not (yardFirst e h) t (before-first e h (inl p)))
-    not-less (no p) t = omega arith
+insert-place e (h ∷ hs) r = placed e h hs (insert e hs) (yardFirst e h) (λ t. before-le (first-before e h t)) (λ p. before-first e h (inl p)) r
+    (insert-place e hs (r .1))
 
 before-place : (e : Entry) (l : List Entry) → Rising (aggregates l) → aggregates (insertBefore e l) ≡ place (e .distance) (aggregates l)
 unfolding insertBefore place numberFirst
 before-place e [] r = refl
 before-place e (h ∷ hs) r = placed e h hs (insertBefore e hs) (numberFirst e h) (λ t. at-most (or-cases (ltb (e .distance) (h .distance)) _ t))
-    (λ t. not-less (decLt (e .distance) (h .distance)) t) r (before-place e hs (r .1))
+    (λ p. or-left (ltb (e .distance) (h .distance)) _ (lt→ltb (e .distance) (h .distance) p)) r (before-place e hs (r .1))
   where
     at-most : T (ltb (e .distance) (h .distance)) ⊎ T (eqb (e .distance) (h .distance) && ltb (e .yard) (h .yard)) → e .distance ≤ h .distance
     at-most (inl t) = omega (arith, ltb→lt (e .distance) (h .distance) t)
     at-most (inr t) = omega (arith, eqb→eq (e .distance) (h .distance) (and-left (eqb (e .distance) (h .distance)) _ t))
-
-    not-less : Dec (e .distance < h .distance) → T (not (numberFirst e h)) → h .distance ≤ e .distance
-    not-less (yes p) t = absurd (T-not (numberFirst e h) t (or-left (ltb (e .distance) (h .distance)) _ (lt→ltb (e .distance) (h .distance) p)))
-    not-less (no p) t = omega arith
 
 take-aggregates : (k : ℕ) (l : List Entry) → aggregates (take k l) ≡ take k (aggregates l)
 take-aggregates zero l = refl

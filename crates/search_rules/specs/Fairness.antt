@@ -1,5 +1,5 @@
--- "Ties go to the fairer yard": yard order is total, and how it stands to the order that was before it. Assumes nothing:
--- these are statements.
+-- "Ties go to the fairer yard": yard order is total, and how it stands to the order that was before it. Assumes
+-- nothing: these are statements.
 use mathlib.Core.Path.{_≡_}
 use mathlib.Core.Logic.{_⊎_, _≢_, _↔_}
 use mathlib.Core.Bool.{Bool, _&&_, _||_}
