@@ -6,6 +6,7 @@ use std::path::PathBuf;
 use std::process::{Command, Output, Stdio};
 
 use compare::generate::damage::{sound_query, sound_road, sound_tree, sound_yard};
+use compare::generate::standard;
 
 /// Runs the command with these arguments and this standard input.
 fn run(arguments: &[&str], input: &[u8]) -> Output {
@@ -171,15 +172,7 @@ fn roads_of_n() {
 
 #[test]
 fn generates() {
-    for kind in [
-        "grid",
-        "random",
-        "star",
-        "chain",
-        "ring",
-        "longchain",
-        "even",
-    ] {
+    for kind in standard::KINDS {
         let book = run(&["generate", kind, "4294967295"], &[]).stdout;
         assert!(compare::road::read(&book).is_ok(), "{kind}");
     }

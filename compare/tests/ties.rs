@@ -35,13 +35,6 @@ fn answer(tie: &Tie, way: Measuring, tree: &[u8], limit: u32) -> (Found, Vec<u32
     (found, results)
 }
 
-/// The result area after the tie's settled search.
-fn listed(tie: &Tie) -> Vec<u32> {
-    let mut words = tie.words();
-    words.resize(128, 7);
-    words
-}
-
 /// On the tree of one leaf: the list, the steps and the measured yards, in every way of measuring.
 #[test]
 fn worked_by_hand() {
@@ -60,7 +53,7 @@ fn worked_by_hand() {
             Measuring::WalksWithoutCeiling,
             Measuring::Rows,
         ] {
-            let expected = (settled, listed(&tie));
+            let expected = (settled, tie.results(128));
             assert_eq!(answer(&tie, way, &tree, u32::MAX), expected, "{tie:?}");
         }
     }
@@ -79,7 +72,7 @@ fn at_a_step_limit() {
             assert_eq!(results, [7; 128], "{tie:?}");
         }
         let (found, results) = answer(&tie, Measuring::Walks, &tree, taken);
-        assert_eq!((found.settled, results), (1, listed(&tie)), "{tie:?}");
+        assert_eq!((found.settled, results), (1, tie.results(128)), "{tie:?}");
     }
 }
 
@@ -90,7 +83,7 @@ fn on_every_tree() {
         for (m, leaf_limit) in [(1, 1), (1, 2), (2, 1), (3, 2), (4, 3), (4, 256)] {
             let tree = built(&tie, m, leaf_limit);
             let (_, results) = answer(&tie, Measuring::Walks, &tree, u32::MAX);
-            assert_eq!(results, listed(&tie), "{tie:?}");
+            assert_eq!(results, tie.results(128), "{tie:?}");
         }
         let road = road::read(&tie.road()).unwrap();
         let tree = tree::read(&built(&tie, 1, 1), road.junctions).unwrap();

@@ -29,13 +29,6 @@ fn answer(tie: &Tie, tree: &[u8], limit: u32) -> (Found, Vec<u32>) {
     (found, areas.results().to_vec())
 }
 
-/// The result area after the tie's settled search.
-fn listed(tie: &Tie) -> Vec<u32> {
-    let mut words = tie.words();
-    words.resize(RESULTS, 7);
-    words
-}
-
 /// On the tree of one leaf: a limit that settles, exactly so or by far, gives the list; each lower one is spent, and
 /// writes nothing.
 #[test]
@@ -47,7 +40,7 @@ fn at_each_step_limit() {
             let (found, results) = answer(&tie, &tree, limit);
             let counts = [found.settled, found.taken, found.measured];
             assert_eq!(counts, [1, taken, measured], "{tie:?}");
-            assert_eq!(results, listed(&tie), "{tie:?}");
+            assert_eq!(results, tie.results(RESULTS), "{tie:?}");
         }
         for limit in 0..taken {
             let (found, results) = answer(&tie, &tree, limit);
@@ -65,7 +58,7 @@ fn on_every_tree() {
         for (m, leaf_limit) in [(1, 1), (1, 2), (2, 1), (3, 2), (4, 3), (4, 256)] {
             let tree = built(&tie, m, leaf_limit);
             let (_, results) = answer(&tie, &tree, u32::MAX);
-            assert_eq!(results, listed(&tie), "{tie:?}");
+            assert_eq!(results, tie.results(RESULTS), "{tie:?}");
         }
     }
 }

@@ -93,10 +93,12 @@ impl Tie {
         query::write(self.aggregate, self.k, limit, self.crews)
     }
 
-    /// The words that the settled search writes.
-    pub fn words(&self) -> Vec<u32> {
+    /// A result area of so many words, each of them 7, after the settled search.
+    pub fn results(&self, room: usize) -> Vec<u32> {
         let words = |&(yard, distance)| [yard, distance];
-        self.list.iter().flat_map(words).collect()
+        let mut words: Vec<u32> = self.list.iter().flat_map(words).collect();
+        words.resize(room, 7);
+        words
     }
 }
 
