@@ -9,6 +9,7 @@ pub mod Queue
 pub mod Barren
 pub mod Stepping
 pub mod Kept
+pub mod Keys
 pub mod Low
 pub mod Found
 pub mod Ends

@@ -44,7 +44,7 @@ open-below : {i : Instance} {r y : ℕ} → T (not (leaf i r)) → Below i r y �
 open-below {i} {r} {y} n (inside m a l k x w) = absurd (T-not (leaf i r) n l)
 open-below {i} {r} {y} n (under c a l k b) = (c, k, b)
 
-leaf-below : {i : Instance} {r y : ℕ} → T (leaf i r) → Below i r y → (m : Mark) × Mem m (marks i r) × Listed m y
+pub leaf-below : {i : Instance} {r y : ℕ} → T (leaf i r) → Below i r y → (m : Mark) × Mem m (marks i r) × Listed m y
 leaf-below {i} {r} {y} l (inside m a t k x w) = (m, k, x)
 leaf-below {i} {r} {y} l (under c a n k b) = absurd (T-not (leaf i r) n l)
 

@@ -44,6 +44,11 @@ pub past-more : (r : Rule) (held : List Entry) (a b : ℕ) → a ≤ b → Past 
 past-more (nearest k) held a b h p = (p .0, omega (arith, p .1))
 past-more (inDrive s) held a b h p = omega arith
 
+-- what is past it is not also not past it
+pub past-not : (r : Rule) (held : List Entry) (b : ℕ) → Past r held b → NotPast r held b → ⊥
+past-not (nearest k) held b p q = omega (arith, p .1, q (p .0))
+past-not (inDrive s) held b p q = omega arith
+
 -- a yard whose distance is past what ends a search is left out
 pub past-out : (r : Rule) (held : List Entry) (h : Entry) → ((g : Entry) → Mem g held → g .distance ≤ greatestHeld held) → Past r held (h .distance)
     → LeftOut r held h

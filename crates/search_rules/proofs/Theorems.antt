@@ -74,8 +74,8 @@ decided i well limit = let was = run-kept i well limit in record {
 pub right : (i : Instance) → SoundInstance i → (limit : ℕ) → T (settled i (run i limit .state)) → Right i limit
 right i sound limit t = record {
   complete = run-complete i sound limit t;
-  keyed = λ y k. (run-measured i sound limit y k .queue-key, run-measured i sound limit y k .is);
   key-within = run-within i sound limit;
+  key-measured = run-measured i sound limit t;
   bound-within = run-bound-within i sound limit;
 }
 

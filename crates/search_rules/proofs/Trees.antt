@@ -243,6 +243,8 @@ module _ (i : Instance) (a : Accepted (i .tree)) where
     rise = λ r c k. above r c (child-of i r c k) .0;
     range = λ r c k. above r c (child-of i r c k) .1;
     parent = λ r s c k j. parent r s c (child-of i r c k) (child-of i s c j);
+    own-way = a .whole .regions .own-way;
+    child-way = λ r c s k. let j = child-of i r c k in a .whole .regions .child-way r c s (child-range r c j) j;
     marked = λ r h. not-empty (regionAt rs r .marks) (omega (arith, a .landmarks, a .formed (regionAt rs r) (at-mem rs r h) .count));
     places = λ r m k. let h = mark-range r m k in omega (arith, at r h .placed m k .1, at r h .within);
     alike = λ r m n y l k j x. from r n l j y (into r m l k y x);

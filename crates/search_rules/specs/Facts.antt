@@ -1,14 +1,14 @@
 -- What is asked of an instance: the tree's shape, the limits of its numbers, the laws of the distance, and the truth of
 -- the tree's numbers. The layers below provide them. Assumes nothing: these are statements.
 use mathlib.Core.Path.{_≡_}
-use mathlib.Core.Logic.{_≢_}
+use mathlib.Core.Logic.{_⊎_, _≢_, _↔_}
 use mathlib.Core.Bool.{not}
 use mathlib.Core.List.{[], List·Memᴰ as Mem}
 use Prim.Native.Nat.{ℕ, _+_, _≤_, _<_}
 use lib.ListN.{length}
 use lib.Dec.{T}
 use Rattle.tree_layout.specs.Values.{Element, Mark}
-use Rattle.tree.specs.Yards.{childrenOf}
+use Rattle.tree.specs.Yards.{childrenOf, onWay}
 use Rattle.search_rules.specs.Instance.{Instance, size, children, marks, leaf}
 
 -- yard y stands in landmark m's list
@@ -38,6 +38,10 @@ pub record Shape (i : Instance) : Type 0 where
   pub range : (r c : ℕ) → Mem c (children i r) → c < size i
   -- no region is a child of two
   pub parent : (r s c : ℕ) → Mem c (children i r) → Mem c (children i s) → r ≡ s
+  -- on the way to a child are the child and what is on the way to its region
+  pub own-way : (r : ℕ) → r < size i → T (onWay (i .tree .regions) r r)
+  pub child-way : (r c s : ℕ) → Mem c (children i r)
+      → T (onWay (i .tree .regions) s c) ↔ ((s ≡ c) ⊎ T (onWay (i .tree .regions) s r))
   -- every region has a landmark, and a landmark is a junction
   pub marked : (r : ℕ) → r < size i → marks i r ≢ []
   pub places : (r : ℕ) (m : Mark) → Mem m (marks i r) → m .place < i .tree .junctions

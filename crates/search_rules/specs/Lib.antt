@@ -2,6 +2,7 @@ pub mod Rule
 pub mod Instance
 pub mod Books
 pub mod Bounds
+pub mod Keys
 pub mod Queue
 pub mod Order
 pub mod Held

@@ -11,8 +11,9 @@ use Rattle.book.specs.Lists.{Distinct}
 use Rattle.tree_layout.specs.Values.{Element, Mark}
 use Rattle.tree.specs.Yards.{inners}
 use Rattle.search_rules.specs.Rule.{Rule, nearest, inDrive}
-use Rattle.search_rules.specs.Instance.{Instance, size, marks, leaf}
+use Rattle.search_rules.specs.Instance.{Instance, size, children, marks, leaf}
 use Rattle.search_rules.specs.Bounds.{lower, upper, bound, total, furthest, weight, chosen, f, yardBound}
+use Rattle.search_rules.specs.Keys.{firstKey, yardKey}
 use Rattle.search_rules.specs.Queue.{unqueued, wordAt}
 use Rattle.search_rules.specs.Order.{Entry, YardBefore}
 use Rattle.search_rules.specs.Held.{greatestHeld, entry, ranked}
@@ -104,15 +105,19 @@ pub record Complete (i : Instance) (list : List Entry) : Type 0 where
 
 -- ---- keys
 
--- the key with which yard y is queued, by the regions' first keys: "the greater of its bound and the leaf's first key"
-pub record KeyOf (i : Instance) (firsts : List ℕ) (y a : ℕ) : Type 0 where
-  pub home : ℕ
-  pub is-leaf : T (leaf i home)
-  pub element : Element
-  pub mem : Mem element (chosen i home .list)
-  pub names : element .yard ≡ y
-  pub known : wordAt firsts home < unqueued
-  pub value : a ≡ max (yardBound i (chosen i home) element) (wordAt firsts home)
+-- what a run's keys are, whatever the tree's numbers say: values of the tree, the roads and the query
+pub record KeysOf (i : Instance) : Type 0 where
+  -- the root's first key is its bound; "A region's key is the greater of this and its parent's key."
+  pub root : firstKey i 0 ≡ bound i 0
+  pub child : (r c : ℕ) → Mem c (children i r) → firstKey i c ≡ max (bound i c) (firstKey i r)
+  -- a yard's key is that of its element in the list of the landmark that its leaf picks
+  pub yard : (r : ℕ) (e : Element) → r < size i → T (leaf i r) → Mem e (chosen i r .list)
+      → yardKey i (e .yard) ≡ max (yardBound i (chosen i r) e) (firstKey i r)
+  -- with these a run queues a region for the first time, and a yard
+  pub regions : (steps r : ℕ) → wordAt (run i steps .state .firsts) r < unqueued
+      → wordAt (run i steps .state .firsts) r ≡ firstKey i r
+  pub yards : (steps y : ℕ) → wordAt (run i steps .state .yardKeys) y < unqueued
+      → wordAt (run i steps .state .yardKeys) y ≡ yardKey i y
 
 -- what is queued has a key of at most a number
 pub record KeysFit (most : ℕ) (st : SearchState) : Type 0 where
@@ -167,11 +172,13 @@ pub record Decided (i : Instance) (limit : ℕ) : Type 0 where
 -- of a settled search on a true tree
 pub record Right (i : Instance) (limit : ℕ) : Type 0 where
   pub complete : Complete i (run i limit .state .held)
-  -- every measured yard was queued with a key, and neither its key nor its bound is past what ends the search: if k are
-  -- held, the last held distance; of a drive the seconds
-  pub keyed : (y : ℕ) → Mem y (run i limit .state .measured) → (a : ℕ) × KeyOf i (run i limit .state .firsts) y a
-  pub key-within : (y a : ℕ) → Mem y (run i limit .state .measured)
-      → KeyOf i (run i limit .state .firsts) y a → NotPast (i .rule) (run i limit .state .held) a
+  -- measured are exactly the wanted yards whose key is not past what ends the search: if k are held, the last held
+  -- distance; of a drive the seconds
+  pub key-within : (y : ℕ) → Mem y (run i limit .state .measured)
+      → NotPast (i .rule) (run i limit .state .held) (yardKey i y)
+  pub key-measured : (y : ℕ) → Below i 0 y → NotPast (i .rule) (run i limit .state .held) (yardKey i y)
+      → Mem y (run i limit .state .measured)
+  -- nor is a measured yard's bound
   pub bound-within : (r : ℕ) (e : Element) → T (leaf i r) → r < size i
       → Mem e (chosen i r .list) → Mem (e .yard) (run i limit .state .measured)
       → NotPast (i .rule) (run i limit .state .held) (yardBound i (chosen i r) e)

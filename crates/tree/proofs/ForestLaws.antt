@@ -123,6 +123,11 @@ module _ (rs : List Region) (sane : Sane rs) where
 
   -- ---- children
 
+  -- Of one root there is none before it.
+  only : {i : ℕ} (c s : ℕ) → (c ≡ i) ⊎ Mem c [] → i ≤ s → s < c → ⊥
+  only c s (inl w) p q = omega arith
+  only c s (inr w) p q = not-nil w
+
   pub starts-in : {n i low high left e : ℕ} → Forest rs n i low high left e → (c : ℕ) → Mem c (starts (endOf rs) n i) → (i ≤ c) × (c < e)
   unfolding starts
   starts-in (none h z) c k = absurd (not-nil k)
@@ -141,6 +146,19 @@ module _ (rs : List Region) (sane : Sane rs) where
       go : (c ≡ i) ⊎ Mem c (starts (endOf rs) n (endOf rs i)) → (Mem c (starts (endOf rs) n (endOf rs i)) → (m ≤ c) × (c < e)) → (i ≤ c) × (c < e)
       go (inl p) rec = (omega arith, omega (arith, rise rs g, rise rs t))
       go (inr p) rec = let r = rec p in (omega (arith, rise rs g), r .1)
+
+  -- A region before one of the trees' roots ends its subtree before it.
+  pub before-start : {n i low high left e : ℕ} → Forest rs n i low high left e → (c s : ℕ) → Mem c (starts (endOf rs) n i) → i ≤ s → s < c → endOf rs s ≤ c
+  unfolding starts
+  before-start (none h z) c s k p q = absurd (not-nil k)
+  before-start (leaf h x y z) c s k p q = absurd (only c s (cases-cons k) p q)
+  before-start (wrap h x y z g) c s k p q = absurd (only c s (cases-cons k) p q)
+  before-start (join {n = n} {i = i} {m = m} a b d z g t) c s k p q = go (cases-cons k) (decLt s m) (λ j w. before-start t c s (rw z at j) w q)
+    where
+      go : (c ≡ i) ⊎ Mem c (starts (endOf rs) n (endOf rs i)) → Dec (s < m) → (Mem c (starts (endOf rs) n (endOf rs i)) → m ≤ s → endOf rs s ≤ c) → endOf rs s ≤ c
+      go (inl w) v rec = absurd (omega arith)
+      go (inr w) (yes v) rec = omega (arith, visit g s p v .down, starts-in t c (rw z at w) .0)
+      go (inr w) (no v) rec = rec w (omega arith)
 
   no-childrenOf : (i c : ℕ) → regionAt rs i .children ≡ 0 → Mem c (childrenOf rs i) → ⊥
   unfolding childrenOf starts

@@ -1,15 +1,15 @@
--- The regions that are reached from the root, and their levels. Assumes nothing.
+-- The regions that are reached from the root, those on the way to one, and their levels. Assumes nothing.
 use mathlib.Core.Path.{_≡_, refl, sym, ap, _∙_}
 use mathlib.Core.List.{List, _∷_, _++_}
 use Prim.Native.Nat.{ℕ, zero, suc, _+_, _-_, _≤_, _<_}
 use native.Mathlib.Decide.{ℕ-discrete, decLt}
 use native.Mathlib.Omega.{arith}
 use lib.ListN.{length}
-use lib.Dec.{ltb, not-T, ltb→lt, lt→ltb}
+use lib.Dec.{T, ltb, leb, not-T, ltb→lt, lt→ltb, leb→le, le→leb}
 use Rattle.book.specs.Choose.{choose}
-use Rattle.book.proofs.Choosing.{choose-case, choose-yes, choose-no}
+use Rattle.book.proofs.Choosing.{choose-case, choose-yes, choose-no, and-left, and-right, and-both}
 use Rattle.tree_layout.specs.Values.{Region}
-use Rattle.tree.specs.Yards.{endOf, hops, gather, regionsReached, numbers, holders, levelBy, levelOf}
+use Rattle.tree.specs.Yards.{endOf, hops, gather, regionsReached, numbers, holders, levelBy, levelOf, onWay}
 use Rattle.tree.specs.Facts.{Preorder, none as ended, tree}
 use Rattle.tree.proofs.Shaping.{EndsMeet, placed, children-are}
 
@@ -32,6 +32,15 @@ numbers-split i m e h k =
     rw x (ap (λ (l : List ℕ). i ∷ l) (sym (numbers-add (m - suc i) (e - m) (suc i) ∙ rw y refl)))
 
 module _ (rs : List Region) where
+  -- a region is on the way to those of its subtree
+  pub on-way : (s r : ℕ) → s ≤ r → r < endOf rs s → T (onWay rs s r)
+  unfolding onWay
+  on-way s r p q = and-both (leb s r) _ (le→leb s r p) (lt→ltb r (endOf rs s) q)
+
+  pub way-is : (s r : ℕ) → T (onWay rs s r) → (s ≤ r) × (r < endOf rs s)
+  unfolding onWay
+  way-is s r t = (leb→le s r (and-left (leb s r) _ t), ltb→lt r (endOf rs s) (and-right (leb s r) _ t))
+
   pub up : {l i e : ℕ} {ks : List ℕ} → Preorder rs l i ks e → i + length ks ≤ e
   up ended = omega arith
   up (tree h c g k) = omega (arith, up g, up k)

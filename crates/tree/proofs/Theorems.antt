@@ -20,17 +20,17 @@ use Rattle.tree_leaf.specs.Leaf.{firstList}
 use Rattle.tree.specs.Shape.{shaped, treeRefusal}
 use Rattle.tree_leaf.specs.Leaf.{yardsIn}
 use Rattle.tree.specs.Yards.{endOf, starts, hops, childrenOf, gather, regionsReached, ownYards, yardsBelow, treeYards, sumFrom, oneLeaf}
-use Rattle.tree.specs.Yards.{oneInner}
-use Rattle.tree.specs.Yards.{leaves, inners}
+use Rattle.tree.specs.Yards.{oneInner, leaves, inners, onWay}
 use Rattle.tree.specs.Facts.{Preorder}
 use Rattle.tree.specs.Theorems.{TreeFacts, LeafOf, Regions, Holdings, Whole}
 use Rattle.tree_leaf.proofs.Named.{list-facts, first-length}
 use Rattle.tree.proofs.Forest.{Forest, none, leaf, wrap, join, end-is, rise, Rooted}
 use Rattle.tree.proofs.ForestLaws.{Sane, span, sum, span-split, span-none, span-leaf, span-inner, own-leaf, own-inner, visit, child, parent, adopted}
-use Rattle.tree.proofs.ForestLaws.{sub, leaf-ok, leaf-order, yard-count, yard-range, yard-once, leaf-count, inner-count}
+use Rattle.tree.proofs.ForestLaws.{before-start, sub, leaf-ok, leaf-order, yard-count, yard-range, yard-once, leaf-count, inner-count}
 use Rattle.tree.proofs.Shaping.{inner-forest, EndsMeet, root-end, root-forest, root-yards, ends-meet, ranges-of, shape-facts, facts-shaped}
 use Rattle.tree.proofs.Members.{yard-from}
-use Rattle.tree.proofs.Reaching.{Nested, reached-all, level-high, level-low}
+use Rattle.tree.proofs.Siblings.{starts-none}
+use Rattle.tree.proofs.Reaching.{on-way, way-is, Nested, reached-all, level-high, level-low}
 
 -- ---- what the layout gives
 
@@ -131,6 +131,38 @@ module _ (t : Tree) (sane : Sane (t .regions)) (there : 1 ≤ length (t .regions
           out (inr j) = not-nil j
       go (inr x) = (x .0, x .2, x .3)
 
+  -- on the way to a child are the child and what is on the way to its region: a region between the two ends before the child
+  child-way-of : (r c s : ℕ) → r < length rs → Mem c (childrenOf rs r) → T (onWay rs s c) ↔ ((s ≡ c) ⊎ T (onWay rs s r))
+  unfolding childrenOf
+  child-way-of r c s h k = (to, from)
+    where
+      x : (r < c) × (c < endOf rs r)
+      x = child rs sane root r c (omega arith) h k
+
+      inside : c < length rs
+      inside = omega (arith, x .1, visit rs sane root r (omega arith) h .down)
+
+      inner : Dec (0 < regionAt rs r .children) → 0 < regionAt rs r .children
+      inner (yes p) = p
+      inner (no p) = absurd (not-nil (rw (let z : regionAt rs r .children ≡ 0 = omega arith in z, starts-none) at k))
+
+      to : T (onWay rs s c) → (s ≡ c) ⊎ T (onWay rs s r)
+      to t = go (ℕ-discrete s c) (decLt r s) (way-is rs s c t)
+        where
+          go : Dec (s ≡ c) → Dec (r < s) → (s ≤ c) × (c < endOf rs s) → (s ≡ c) ⊎ T (onWay rs s r)
+          go (yes e) v w = inl e
+          go (no e) (yes v) w = absurd (omega (
+            arith,
+            w .1,
+            before-start rs sane (inner-forest rs root r (omega arith) h (inner (decLt 0 (regionAt rs r .children)))) c s k (omega arith) (omega (arith, w .0)),
+          ))
+          go (no e) (no v) w = inr (on-way rs s r (omega arith) (omega (arith, x .0, w .1)))
+
+      from : (s ≡ c) ⊎ T (onWay rs s r) → T (onWay rs s c)
+      from (inl e) = on-way rs s c (omega arith) (rw e (visit rs sane root c (omega arith) inside .up))
+      from (inr t) = let w = way-is rs s r t in
+          on-way rs s c (omega (arith, x .0, w .0)) (omega (arith, x .1, nested s r (omega (arith, w .0)) (w .0) (w .1)))
+
   pub tree-regions : Regions rs
   unfolding gather
   tree-regions = record {
@@ -140,6 +172,8 @@ module _ (t : Tree) (sane : Sane (t .regions)) (there : 1 ≤ length (t .regions
     one-parent = λ r s c h k i j. parent rs sane root r s c (omega arith) h (omega arith) k i j;
     ends = ends-at;
     ends-above = λ r h. let x = visit rs sane root r (omega arith) h in (x .up, x .down);
+    own-way = λ r h. on-way rs r r (omega arith) (visit rs sane root r (omega arith) h .up);
+    child-way = child-way-of;
     low-level = λ r h. level-low rs r (omega (arith, end-zero));
     high-level = λ r h. level-high rs ends-at nested one-tree r h;
   }

@@ -1,17 +1,17 @@
 -- What holds of a tree that the tests accept. Assumes nothing: these are statements.
 use mathlib.Core.Path.{_≡_}
-use mathlib.Core.Logic.{_≢_, _↔_}
+use mathlib.Core.Logic.{_⊎_, _≢_, _↔_}
 use mathlib.Core.List.{List, List·Memᴰ as Mem}
 use Prim.Native.Nat.{ℕ, suc, _≤_, _<_}
 use lib.ListN.{length}
+use lib.Dec.{T}
 use Rattle.book.specs.Lists.{Distinct}
 use Rattle.tree_layout.specs.Values.{Mark, Region, Tree, regionAt}
 use Rattle.tree_layout.specs.Decode.{decode}
 use Rattle.tree_layout.specs.Facts.{TreeLayout}
 use Rattle.tree_leaf.specs.Leaf.{yardsIn}
-use Rattle.tree.specs.Yards.{endOf, hops, childrenOf, gather, regionsReached, numbers, levelOf, yardsBelow}
-use Rattle.tree.specs.Yards.{treeYards}
-use Rattle.tree.specs.Yards.{leaves, inners}
+use Rattle.tree.specs.Yards.{endOf, hops, childrenOf, gather, regionsReached, numbers, levelOf, onWay}
+use Rattle.tree.specs.Yards.{yardsBelow, treeYards, leaves, inners}
 use Rattle.tree.specs.Facts.{RangesRise, TreeShape}
 
 -- the facts of "Tree book" and of "Tree shape"
@@ -38,6 +38,10 @@ pub record Regions (rs : List Region) : Type 0 where
   -- a subtree ends where its last child's ends
   pub ends : (r : ℕ) → r < length rs → endOf rs r ≡ hops (endOf rs) (regionAt rs r .children) (suc r)
   pub ends-above : (r : ℕ) → r < length rs → (r < endOf rs r) × (endOf rs r ≤ length rs)
+  -- on the way to a child are the child and what is on the way to its region
+  pub own-way : (r : ℕ) → r < length rs → T (onWay rs r r)
+  pub child-way : (r c s : ℕ) → r < length rs → Mem c (childrenOf rs r)
+      → T (onWay rs s c) ↔ ((s ≡ c) ⊎ T (onWay rs s r))
   -- there are at most 8 levels, root included
   pub low-level : (r : ℕ) → r < length rs → 1 ≤ levelOf rs r
   pub high-level : (r : ℕ) → r < length rs → levelOf rs r ≤ 8

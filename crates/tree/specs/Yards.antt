@@ -1,9 +1,10 @@
 -- Of a shaped tree: where subtrees end, a region's children, and the yards below it. Assumes nothing: these are
 -- definitions.
+use mathlib.Core.Bool.{Bool, _&&_}
 use mathlib.Core.List.{List, [], _∷_, _++_}
 use Prim.Native.Nat.{ℕ, zero, suc, _+_, _-_}
 use lib.ListN.{length}
-use lib.Dec.{eqb, ltb}
+use lib.Dec.{eqb, ltb, leb}
 use Rattle.book.specs.Choose.{choose}
 use Rattle.tree_layout.specs.Values.{Element, Region, Tree, regionAt}
 use Rattle.tree_leaf.specs.Leaf.{yardsIn, names, firstList}
@@ -61,6 +62,10 @@ levelBy ends i = holders ends (suc i) 0 i
 
 unfoldable pub levelOf : List Region → ℕ → ℕ
 levelOf rs i = levelBy (endOf rs) i
+
+-- region s is on the way from the root to region r, as r is itself: it has r in its subtree
+unfoldable pub onWay : List Region → ℕ → ℕ → Bool
+onWay rs s r = leb s r && ltb r (endOf rs s)
 
 -- a leaf's yards, in its first list's order; none of an inner region
 unfoldable pub ownYards : Region → List ℕ

@@ -1,0 +1,247 @@
+-- A run's keys are values of the tree, the roads and the query: the first keys, and the yards'. Assumes nothing.
+use mathlib.Core.Path.{_≡_, refl, sym, ap, _∙_}
+use mathlib.Core.Logic.{_⊎_, inl, inr, _≢_}
+use mathlib.Core.Bool.{Bool, true, not, _&&_}
+use mathlib.Core.List.{List, [], _∷_, List·Memᴰ as Mem, List·Memᴰ·head as head, List·Memᴰ·tail as tail, List·Memᴰ·not-nil as not-nil}
+use mathlib.Core.List.{List·Memᴰ·cases-cons as cases-cons}
+use mathlib.Core.Option.{Option, none, some}
+use Prim.Native.Nat.{ℕ, zero, suc, _+_, _≤_, _<_, max}
+use native.Mathlib.Decide.{ℕ-discrete}
+use native.Mathlib.Omega.{arith}
+use lib.ListN.{set}
+use lib.Dec.{T, T-not, eqb, eqb→eq}
+use Rattle.book.specs.Choose.{choose}
+use Rattle.book.proofs.Choosing.{choose-case, choose-yes, choose-no, and-left, and-right, and-both}
+use Rattle.book.proofs.Lists.{eq→eqb, ne→neqb}
+use Rattle.tree_layout.specs.Values.{Element, Mark}
+use Rattle.tree_leaf.specs.Leaf.{names}
+use Rattle.tree_leaf.proofs.Named.{names-mem, mem-names, yards-of, yards-from}
+use Rattle.tree.specs.Yards.{onWay}
+use Rattle.tree.proofs.Reaching.{way-is}
+use Rattle.search_rules.specs.Instance.{Instance, size, children, marks, leaf}
+use Rattle.search_rules.specs.Bounds.{bound, chosen, yardBound}
+use Rattle.search_rules.specs.Keys.{greatestBound, firstKey, isHome, homeFrom, home, boundIn, yardKey}
+use Rattle.search_rules.specs.Queue.{unqueued, wordAt}
+use Rattle.search_rules.specs.Step.{SearchState, passed, againKey, nextF, openInner, queueNext, closeLeaf, takeYard, step, settled, startSearch}
+use Rattle.search_rules.specs.Run.{Outcome, advance, run}
+use Rattle.search_rules.specs.Facts.{Listed, Below, inside, under, Shape, WellFormed}
+use Rattle.search_rules.specs.Theorems.{KeysOf}
+use Rattle.search_rules.proofs.Bounds.{chosen-mem}
+use Rattle.search_rules.proofs.Queue.{seen, key, key-word, word-key, key-eq, no-key, Entered, queued-child, kept}
+use Rattle.search_rules.proofs.Stepping.{step-case}
+use Rattle.search_rules.proofs.Kept.{Kept, InnerKey, child, taken, same, inner-key, inner-first, region-range, leaf-yard-key, leaf-region-key, closed-key}
+use Rattle.search_rules.proofs.Kept.{taken-yard-key, region-case, start-key, start-yard, run-kept}
+
+-- ---- the greatest bound on the way
+
+module _ (i : Instance) where
+  -- no bound on the way is above it
+  greatest-up : (n s r v : ℕ) → s ≤ v → v < s + n → T (onWay (i .tree .regions) v r) → bound i v ≤ greatestBound i n s r
+  unfolding greatestBound
+  greatest-up zero s r v p q t = absurd (omega arith)
+  greatest-up (suc n) s r v p q t = go (ℕ-discrete v s) (λ w. greatest-up n (suc s) r v w (omega arith) t)
+    where
+      here : ℕ
+      here = choose (onWay (i .tree .regions) s r) (bound i s) 0
+
+      go : Dec (v ≡ s) → (suc s ≤ v → bound i v ≤ greatestBound i n (suc s) r) → bound i v ≤ max here (greatestBound i n (suc s) r)
+      go (yes e) rec =
+          let x : here ≡ bound i s = choose-yes (onWay (i .tree .regions) s r) (bound i s) 0 (rw e at t) in
+          omega (arith, x, ap (bound i) e)
+      go (no e) rec = omega (arith, rec (omega arith))
+
+  -- and it is not above what none of them is above
+  greatest-least : (n s r x : ℕ) → ((v : ℕ) → T (onWay (i .tree .regions) v r) → bound i v ≤ x) → greatestBound i n s r ≤ x
+  unfolding greatestBound
+  greatest-least zero s r x h = omega arith
+  greatest-least (suc n) s r x h =
+      let one : choose (onWay (i .tree .regions) s r) (bound i s) 0 ≤ x =
+          choose-case (λ (y : ℕ). y ≤ x) (onWay (i .tree .regions) s r) (λ t. h s t) (λ t. omega arith) in
+      omega (arith, greatest-least n (suc s) r x h)
+
+  first-least : (r x : ℕ) → ((v : ℕ) → T (onWay (i .tree .regions) v r) → bound i v ≤ x) → firstKey i r ≤ x
+  unfolding firstKey
+  first-least r x h = greatest-least (size i) 0 r x h
+
+  first-up : (r v : ℕ) → r < size i → T (onWay (i .tree .regions) v r) → bound i v ≤ firstKey i r
+  unfolding firstKey
+  first-up r v h t = greatest-up (size i) 0 r v (omega arith) (omega (arith, way-is (i .tree .regions) v r t .0)) t
+
+  module _ (shape : Shape i) where
+    pub first-root : firstKey i 0 ≡ bound i 0
+    first-root = omega (arith, first-up 0 0 (shape .root) (shape .own-way 0 (shape .root)), first-least 0 (bound i 0) only)
+      where
+        only : (v : ℕ) → T (onWay (i .tree .regions) v 0) → bound i v ≤ bound i 0
+        only v t = let e : v ≡ 0 = omega (arith, way-is (i .tree .regions) v 0 t .0) in rw e (omega arith)
+
+    pub first-child : (r c : ℕ) → Mem c (children i r) → firstKey i c ≡ max (bound i c) (firstKey i r)
+    first-child r c k = omega (
+      arith,
+      first-up c c inside-c (shape .own-way c inside-c),
+      first-least r (firstKey i c) (λ v t. first-up c v inside-c (shape .child-way r c v k .1 (inr t))),
+      first-least c (max (bound i c) (firstKey i r)) (λ v t. above v (shape .child-way r c v k .0 t)),
+    )
+      where
+        inside-c : c < size i
+        inside-c = shape .range r c k
+
+        above : (v : ℕ) → (v ≡ c) ⊎ T (onWay (i .tree .regions) v r) → bound i v ≤ max (bound i c) (firstKey i r)
+        above v (inl e) = rw e (omega arith)
+        above v (inr t) = omega (arith, first-up r v (omega (arith, shape .rise r c k, inside-c)) t)
+
+    -- ---- a yard's leaf, and its bound there
+
+    module _ (r : ℕ) (e : Element) (h : r < size i) (l : T (leaf i r)) (k : Mem e (chosen i r .list)) where
+      mark-of : (s : ℕ) → s < size i → Mem (chosen i s) (marks i s)
+      mark-of s g = chosen-mem i s (shape .marked s g)
+
+      own-home : T (isHome i r (e .yard))
+      unfolding isHome
+      own-home = and-both (leaf i r) _ l (mem-names (chosen i r .list) (e .yard) (yards-of (chosen i r .list) e k))
+
+      -- no other leaf names it
+      one-home : (s : ℕ) → s < size i → T (isHome i s (e .yard)) → s ≡ r
+      unfolding isHome
+      one-home s g t =
+          let x = yards-from (chosen i s .list) (e .yard) (names-mem (chosen i s .list) (e .yard) (and-right (leaf i s) _ t)) in
+          shape .one-leaf s r (chosen i s) (chosen i r) (e .yard) (and-left (leaf i s) _ t) l (mark-of s g) (mark-of r h)
+          (record { element = x .0; mem = x .1; names = x .2 }) (record { element = e; mem = k; names = refl })
+
+      home-from : (n s : ℕ) → s + n ≡ size i → s ≤ r → homeFrom i n s (e .yard) ≡ r
+      unfolding homeFrom
+      home-from zero s p q = absurd (omega arith)
+      home-from (suc n) s p q = choose-case (λ (x : ℕ). x ≡ r) (isHome i s (e .yard)) (λ t. one-home s (omega arith) t)
+          (λ t. home-from n (suc s) (omega arith) (later (ℕ-discrete s r) t))
+        where
+          later : Dec (s ≡ r) → T (not (isHome i s (e .yard))) → suc s ≤ r
+          later (yes x) t = absurd (T-not (isHome i s (e .yard)) t (rw x own-home))
+          later (no x) t = omega arith
+
+      home-is : home i (e .yard) ≡ r
+      unfolding home
+      home-is = home-from (size i) 0 (omega arith) (omega arith)
+
+      -- of the elements that name it only its own
+      bound-from : (es : List Element) → Mem e es → ((g : Element) → Mem g es → Mem g (chosen i r .list))
+          → boundIn i (chosen i r) es (e .yard) ≡ yardBound i (chosen i r) e
+      unfolding boundIn
+      bound-from [] j sub = absurd (not-nil j)
+      bound-from (g ∷ es) j sub = choose-case (λ (x : ℕ). x ≡ yardBound i (chosen i r) e) (eqb (g .yard) (e .yard)) (λ t. ap (yardBound i (chosen i r)) (one t))
+          (λ t. bound-from es (rest t (cases-cons j)) (λ x m. sub x (tail m)))
+        where
+          one : T (eqb (g .yard) (e .yard)) → g ≡ e
+          one t = shape .once-listed r (chosen i r) g e l (mark-of r h) (sub g (head refl)) k (eqb→eq (g .yard) (e .yard) t)
+
+          rest : T (not (eqb (g .yard) (e .yard))) → (e ≡ g) ⊎ Mem e es → Mem e es
+          rest t (inl p) = absurd (T-not (eqb (g .yard) (e .yard)) t (eq→eqb (g .yard) (e .yard) (ap (λ (x : Element). x .yard) (sym p))))
+          rest t (inr m) = m
+
+      -- its key
+      pub yard-is : yardKey i (e .yard) ≡ max (yardBound i (chosen i r) e) (firstKey i r)
+      unfolding yardKey
+      yard-is = rw (home-is, bound-from (chosen i r .list) k (λ g m. m)) refl
+
+    -- the key of a yard below a region is not below the region's first key
+    pub below-up : {r y : ℕ} → r < size i → Below i r y → firstKey i r ≤ yardKey i y
+    below-up {r} {y} h (inside m a l k x w) =
+        let z : Listed (chosen i r) y = shape .alike r m (chosen i r) y l k (chosen-mem i r (shape .marked r h)) x in
+        omega (arith, ap (yardKey i) (z .names), yard-is r (z .element) h l (z .mem))
+    below-up {r} {y} h (under c a l k b) = omega (arith, first-child r c k, below-up (shape .range r c k) b)
+
+-- ---- a run's keys
+
+-- what is queued for the first time, an inner region that is queued, and a queued yard have the key of their own
+pub record Keyed (i : Instance) (st : SearchState) : Type 0 where
+  pub first-is : (r a : ℕ) → key (st .firsts) r ≡ some a → a ≡ firstKey i r
+  pub inner-is : (r a : ℕ) → T (not (leaf i r)) → key (st .regionKeys) r ≡ some a → a ≡ firstKey i r
+  pub queued-is : (y a : ℕ) → key (st .yardKeys) y ≡ some a → a ≡ yardKey i y
+
+module _ (i : Instance) (well : WellFormed i) where
+  module _ (st : SearchState) (was : Kept i st) (keyed : Keyed i st) where
+    module _ (r a : ℕ) (at : key (st .regionKeys) r ≡ some a) where
+      inner-keyed : T (not (leaf i r)) → Keyed i (openInner i st r a)
+      unfolding openInner
+      inner-keyed inner = record {
+        first-is = λ v b e. first v b (inner-first i well st was r a at v) e;
+        inner-is = λ v b n e. queued v b n (inner-key i well st was r a at v) e;
+        queued-is = keyed .queued-is;
+      }
+        where
+          raised : (v b : ℕ) → Mem v (children i r) → _≡_ {A = Option ℕ} (some (max (bound i v) a)) (some b) → b ≡ firstKey i v
+          raised v b k e = omega (arith, key-eq e, keyed .inner-is r a inner at, first-child i (well .shape) r v k)
+
+          first : (v b : ℕ) {o : Option ℕ} → Entered i a (children i r) (st .firsts) v o → o ≡ some b → b ≡ firstKey i v
+          first v b (queued-child k) e = raised v b k e
+          first v b (kept n q) e = keyed .first-is v b (sym q ∙ e)
+
+          queued : (v b : ℕ) → T (not (leaf i v)) → {o : Option ℕ} → InnerKey i well st was r a at v o → o ≡ some b → b ≡ firstKey i v
+          queued v b n (child k) e = raised v b k e
+          queued v b n (taken p) e = absurd (no-key e)
+          queued v b n (same p m q) e = keyed .inner-is v b n (sym q ∙ e)
+
+      leaf-keyed : (is-leaf : T (leaf i r)) (first : ℕ) → key (st .firsts) r ≡ some first → (e : Element) → (mem : Mem e (chosen i r .list))
+          → T (not (passed i (st .gone) (e .yard)))
+          → Keyed i (queueNext i st r first (chosen i r) e)
+      unfolding queueNext
+      leaf-keyed is-leaf first first-is e mem stays = record {
+        first-is = keyed .first-is;
+        inner-is = λ v b n. leaf-region-key i well st was r a at is-leaf first first-is e mem stays (λ o. o ≡ some b → b ≡ firstKey i v) v
+            (λ p. absurd (T-not (leaf i v) n (rw p is-leaf))) (λ p q. keyed .inner-is v b n q);
+        queued-is = λ v b. leaf-yard-key i well st was r a at is-leaf first first-is e mem stays (λ o. o ≡ some b → b ≡ yardKey i v) v
+            (λ p q. rw p (omega (
+              arith,
+              key-eq q,
+              keyed .first-is r first first-is,
+              yard-is i (well .shape) r e (region-range i well st was r at) is-leaf mem,
+            )))
+            (λ p q. keyed .queued-is v b q);
+      }
+
+      closed-keyed : Keyed i (closeLeaf i st r)
+      unfolding closeLeaf
+      closed-keyed = record {
+        first-is = keyed .first-is;
+        inner-is = λ v b n. closed-key i well st was r a at (λ o. o ≡ some b → b ≡ firstKey i v) v (λ p q. absurd (no-key q)) (λ p q. keyed .inner-is v b n q);
+        queued-is = keyed .queued-is;
+      }
+
+    yard-keyed : (y b : ℕ) → key (st .yardKeys) y ≡ some b → Keyed i (takeYard i st y)
+    unfolding takeYard
+    yard-keyed y b at = record {
+      first-is = keyed .first-is;
+      inner-is = keyed .inner-is;
+      queued-is = λ v c. taken-yard-key i well st was y b at (λ o. o ≡ some c → c ≡ yardKey i v) v (λ p q. absurd (no-key q)) (λ p q. keyed .queued-is v c q);
+    }
+
+    step-keyed : T (not (settled i st)) → Keyed i (step i st)
+    step-keyed u = step-case i st (was .sizes) (Keyed i) u
+        (λ r a at due. region-case i well st was (Keyed i) r a at (λ l. inner-keyed r a at l) (λ l first q e k n h. leaf-keyed r a at l first q e k n)
+        (λ t. closed-keyed r a at))
+        (λ y b at due. yard-keyed y b at)
+
+  start-keyed : Keyed i (startSearch i)
+  unfolding startSearch
+  start-keyed = record {
+    first-is = λ r a. start-key i well (λ o. o ≡ some a → a ≡ firstKey i r) r (λ p t e. root r a p e) (λ p e. absurd (no-key e));
+    inner-is = λ r a n. start-key i well (λ o. o ≡ some a → a ≡ firstKey i r) r (λ p t e. root r a p e) (λ p e. absurd (no-key e));
+    queued-is = λ y a e. absurd (start-yard i well y e);
+  }
+    where
+      root : (r a : ℕ) → r ≡ 0 → _≡_ {A = Option ℕ} (some (bound i 0)) (some a) → a ≡ firstKey i r
+      root r a p e = rw p (omega (arith, key-eq e, first-root i (well .shape)))
+
+  pub run-keyed : (steps : ℕ) → Keyed i (run i steps .state)
+  unfolding run advance
+  run-keyed zero = start-keyed
+  run-keyed (suc steps) = choose-case (λ (o : Outcome). Keyed i (o .state)) (settled i (run i steps .state)) (λ t. run-keyed steps)
+      (λ t. step-keyed (run i steps .state) (run-kept i well steps) (run-keyed steps) t)
+
+  -- the keys of the tree, the roads and the query, and a run's
+  pub keys-of : KeysOf i
+  keys-of = record {
+    root = first-root i (well .shape);
+    child = first-child i (well .shape);
+    yard = yard-is i (well .shape);
+    regions = λ steps r w. run-keyed steps .first-is r _ (word-key (run i steps .state .firsts) r _ refl w);
+    yards = λ steps y w. run-keyed steps .queued-is y _ (word-key (run i steps .state .yardKeys) y _ refl w);
+  }
