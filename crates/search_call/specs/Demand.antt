@@ -6,7 +6,7 @@ use mathlib.Core.List.{List, [], _∷_, _++_, map, List·Memᴰ as Mem}
 use mathlib.Core.Option.{none, some}
 use Prim.Native.Nat.{ℕ, _+_, _*_, _≤_, _<_}
 use lib.ListN.{length, take, drop}
-use lib.Dec.{T, eqb}
+use lib.Dec.{T, eqb, leb}
 use Rattle.book.specs.Choose.{choose}
 use Rattle.book.specs.Bytes.{Bytes}
 use Rattle.book.specs.Open.{version}
@@ -24,13 +24,14 @@ use Rattle.check_tree.specs.Check.{checkAnswer}
 use Rattle.query.specs.Query.{aggregateOf, kOf, limitOf, crewsOf}
 use Rattle.search_rules.specs.Instance.{Instance, withoutKinds, size, leaf}
 use Rattle.search_rules.specs.Bounds.{chosen, yardBound}
+use Rattle.search_rules.specs.Keys.{yardKey}
 use Rattle.search_rules.specs.Order.{Entry}
 use Rattle.search_rules.specs.Queue.{unqueued, wordAt}
 use Rattle.search_rules.specs.Held.{greatestHeld}
 use Rattle.search_rules.specs.Run.{words, run, answer}
-use Rattle.search_rules.specs.Theorems.{Sorted}
+use Rattle.search_rules.specs.Theorems.{Sorted, KeysOf}
 use Rattle.search_rules.specs.Walks.{TrueEntry, FirstYards, DriveYards}
-use Rattle.search_call.specs.Call.{Found, refused, Call, Areas, Search, searchIn, searchAnswer, overStart}
+use Rattle.search_call.specs.Call.{Found, refused, Want, Call, Areas, Search, searchIn, searchAnswer, overStart}
 use Rattle.search_call.specs.Call.{foundOn, callOn, searches, areasAfter}
 
 -- ---- the words of the demand
@@ -128,6 +129,21 @@ pub record BoundIn (i : Instance) (y b : ℕ) : Type 0 where
 abbrev pub BoundOf : Search → ℕ → ℕ → Type 0
 BoundOf s y b = BoundIn (instanceOf s) y b
 
+-- its key, "the greater of its bound and its leaf's first key, which is the greatest bound on the way from the root", by
+-- the tree, the roads and the query alone
+abbrev pub keyOf : Search → ℕ → ℕ
+keyOf s y = yardKey (instanceOf s) y
+
+-- "the wanted yards whose key is not above" so many seconds
+abbrev pub worthMeasuring : Search → ℕ → List ℕ
+worthMeasuring s seconds = keepIf (λ y. leb (keyOf s y) seconds) (wantedYards s)
+
+-- the measured yards are exactly those of a list, each once, and so many are returned
+pub record MeasuredAre (s : Search) (ys : List ℕ) : Type 0 where
+  pub same : Same (measured s) ys
+  pub once : Distinct (measured s)
+  pub count : found s .measured ≡ length ys
+
 -- the lists of the settled searches
 unfoldable pub settledLists : List Search → List (List Entry)
 settledLists [] = []
@@ -156,6 +172,15 @@ pub record Promised (calls : List Call) (first : Areas) : Type 0 where
   -- "no yard whose bound exceeds the seconds is measured", whether the search has settled or is spent
   pub measured-drive : (s : Search) → Mem s (searches calls first) → OnPassing s → NotRefused s
       → (seconds : ℕ) → ForDrive s seconds → (y b : ℕ) → Mem y (measured s) → BoundOf s y b → b ≤ seconds
+  -- "the measured yards are exactly the wanted yards whose key is not above the last listed distance, or all wanted
+  -- yards when the list is short of k"
+  pub measured-full : (s : Search) → Mem s (searches calls first) → OnPassing s → Settled s → ForYards s
+      → Full s → MeasuredAre s (worthMeasuring s (lastDistance s))
+  pub measured-short : (s : Search) → Mem s (searches calls first) → OnPassing s → Settled s → ForYards s
+      → length (list s) < k s → MeasuredAre s (wantedYards s)
+  -- of a drive search exactly those whose key is not above the seconds
+  pub measured-inside : (s : Search) → Mem s (searches calls first) → OnPassing s → Settled s
+      → (seconds : ℕ) → ForDrive s seconds → MeasuredAre s (worthMeasuring s seconds)
   -- "every search on such a tree, not refused, with a limit of inner regions plus twice the" wanted "yards or more has
   -- settled"
   pub ends : (s : Search) → Mem s (searches calls first) → OnPassing s → NotRefused s
@@ -226,6 +251,18 @@ pub record DecidedSearch (s : Search) : Type 0 where
 abbrev pub AnyTree : Type 0
 AnyTree = (calls : List Call) → OfBytes calls → (first : Areas) → (s : Search) → Mem s (searches calls first)
     → DecidedSearch s
+
+-- what holds of keys beside demand 3
+pub record KeysTrue : Type 0 where
+  -- "by the tree, the roads and the query alone": neither the wanted byte nor the seconds matter
+  pub alone : (road tree query : List ℕ) (v w : Want) (y : ℕ)
+      → yardKey (searchIn road tree query v) y ≡ yardKey (searchIn road tree query w) y
+  -- what a run queues a yard with is this key, and a leaf's first key is the greatest bound on the way from the root, on
+  -- any tree that the search's own tests accept
+  pub queued : (s : Search) → Bytes (s .call .tree) → NotRefused s → KeysOf (instanceOf s)
+  -- on a tree that passes, no bound on the way to a wanted yard is above its own: its key is its bound
+  pub bounds : (s : Search) → Bytes (s .call .tree) → OnPassing s → NotRefused s → (y b : ℕ) → Mem y (wantedYards s)
+      → BoundOf s y b → keyOf s y ≡ b
 
 -- the work area's contents never matter: only its length does
 abbrev pub WorkUnread : Type 0

@@ -1,9 +1,9 @@
 -- The bounds are sound: none is above the aggregate of a yard that it stands for. Assumes nothing.
-use mathlib.Core.Path.{_≡_, refl}
+use mathlib.Core.Path.{_≡_, refl, ap}
 use mathlib.Core.Logic.{_≢_}
 use mathlib.Core.Bool.{Bool, true, false, not}
 use mathlib.Core.List.{List, [], _∷_, List·Memᴰ as Mem, List·Memᴰ·head as head, List·Memᴰ·tail as tail}
-use Prim.Native.Nat.{ℕ, _+_, _≤_, _<_, max}
+use Prim.Native.Nat.{ℕ, _+_, _-_, _≤_, _<_, max}
 use native.Mathlib.Omega.{arith}
 use lib.Dec.{T, leb, eqb}
 use Rattle.book.specs.Choose.{choose}
@@ -22,6 +22,19 @@ pub greatestOf-le : (h : Mark → ℕ) (x : ℕ) (ms : List Mark) → ((m : Mark
 unfolding greatestOf
 greatestOf-le h x [] k = omega arith
 greatestOf-le h x (m ∷ ms) k = omega (arith, k m (head refl), greatestOf-le h x ms (λ n e. k n (tail e)))
+
+greatestOf-up : (h : Mark → ℕ) (ms : List Mark) (m : Mark) → Mem m ms → h m ≤ greatestOf h ms
+unfolding greatestOf
+greatestOf-up h (m ∷ ms) n (head e) = omega (arith, ap h e)
+greatestOf-up h (m ∷ ms) n (tail k) = omega (arith, greatestOf-up h ms n k)
+
+abs-diff-sum : (a b c : ℕ) → absDiff a c ≤ absDiff a b + absDiff b c
+unfolding absDiff
+abs-diff-sum a b c = omega arith
+
+abs-diff-up : (a b : ℕ) → a ≤ b + absDiff a b
+unfolding absDiff
+abs-diff-up a b = omega arith
 
 leastFrom-le : (h : Mark → ℕ) (x : ℕ) (m : Mark) (ms : List Mark) → ((n : Mark) → Mem n (m ∷ ms) → x ≤ h n) → x ≤ leastFrom h m ms
 unfolding leastFrom
@@ -58,6 +71,11 @@ unfolding crewBound
 crewBound-le lb ub a b dq dp x h1 h2 h3 h4 h5 h6 =
     choose-case (λ z. z ≤ x) (leb b lb) (λ t. omega arith) (λ t. choose-case (λ z. z ≤ x) (leb ub a) (λ s. omega arith) (λ s. omega arith))
 
+crewBound-under : (lb ub a b x : ℕ) → lb ≤ b + x → a - x ≤ ub → crewBound lb ub a b ≤ x
+unfolding crewBound
+crewBound-under lb ub a b x h k =
+    choose-case (λ z. z ≤ x) (leb b lb) (λ t. omega arith) (λ t. choose-case (λ z. z ≤ x) (leb ub a) (λ s. omega arith) (λ s. omega arith))
+
 module _ (i : Instance) where
   -- ---- a leaf's chosen landmark is one of its landmarks
 
@@ -90,6 +108,11 @@ module _ (i : Instance) where
   pub f-le : (m : Mark) (e : Element) → f i m e ≤ yardBound i m e
   unfolding f yardBound
   f-le m e = over-mono _ _ (λ q k. omega arith)
+
+  -- so is the aggregate of the table's differences
+  pub lower-under : (m : Mark) (e : Element) → over i (lower i (e .yard)) ≤ yardBound i m e
+  unfolding yardBound
+  lower-under m e = over-mono _ _ (λ q k. omega arith)
 
   -- ---- yards below a region
 
@@ -144,6 +167,50 @@ module _ (i : Instance) where
 
             a : l < i .tree .junctions
             a = shape .places r m e
+
+        -- nor is it above the difference that the table gives of the yard
+        markBound-lower : (r : ℕ) (m : Mark) (y q : ℕ) → Mem m (marks i r) → Below i r y → q < i .tree .junctions → markBound i q m ≤ lower i y q
+        unfolding lower upper tableAt
+        markBound-lower r m y q e b c =
+            rw (mark-bound-is q m)
+            (crewBound-under (lower i l q) (upper i l q) (m .least) (m .greatest) (lower i y q)
+            (greatestOf-le (λ x. absDiff (i .d (x .place) l) (i .d (x .place) q)) (m .greatest + lower i y q) (marks i 0) (λ x k. low x k))
+            (leastOf-le (λ x. i .d (x .place) l + i .d (x .place) q) (m .least - lower i y q) (marks i 0) (shape .marked 0 (shape .root)) (λ x k. high x k)))
+          where
+            l : ℕ
+            l = m .place
+
+            a : l < i .tree .junctions
+            a = shape .places r m e
+
+            -- a row's difference at y and q
+            row : (x : Mark) → Mem x (marks i 0) → absDiff (i .d (x .place) y) (i .d (x .place) q) ≤ lower i y q
+            row x k = greatestOf-up (λ z. absDiff (i .d (z .place) y) (i .d (z .place) q)) (marks i 0) x k
+
+            low : (x : Mark) → Mem x (marks i 0) → absDiff (i .d (x .place) l) (i .d (x .place) q) ≤ m .greatest + lower i y q
+            low x k = omega (
+              arith,
+              abs-diff-sum (i .d (x .place) l) (i .d (x .place) y) (i .d (x .place) q),
+              abs-diff-le (x .place) l y (shape .places 0 x k) a (below-range b),
+              row x k,
+              truth .greatest r m y e b,
+            )
+
+            high : (x : Mark) → Mem x (marks i 0) → m .least - lower i y q ≤ i .d (x .place) l + i .d (x .place) q
+            high x k = omega (
+              arith,
+              abs-diff-up (i .d (x .place) y) (i .d (x .place) q),
+              metric .triangle l (x .place) y a (shape .places 0 x k) (below-range b),
+              symmetric .turn l (x .place) a (shape .places 0 x k),
+              row x k,
+              truth .least r m y e b,
+            )
+
+        -- so a region's bound is at most the aggregate of these, and the bound of every yard below it
+        pub bound-under : {r y : ℕ} → Below i r y → bound i r ≤ over i (lower i y)
+        unfolding bound
+        bound-under {r} {y} b = over-mono (λ q. greatestOf (markBound i q) (marks i r)) (lower i y)
+            (λ q k. greatestOf-le (markBound i q) (lower i y q) (marks i r) (λ m e. markBound-lower r m y q e b (shape .crews q k)))
 
         -- a region's bound is at most the aggregate of every yard below it
         pub bound-le : {r y : ℕ} → Below i r y → bound i r ≤ total i y

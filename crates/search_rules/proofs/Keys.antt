@@ -19,14 +19,16 @@ use Rattle.tree_leaf.proofs.Named.{names-mem, mem-names, yards-of, yards-from}
 use Rattle.tree.specs.Yards.{onWay}
 use Rattle.tree.proofs.Reaching.{way-is}
 use Rattle.search_rules.specs.Instance.{Instance, size, children, marks, leaf}
-use Rattle.search_rules.specs.Bounds.{bound, chosen, yardBound}
+use Rattle.search_rules.specs.Rule.{Rule}
+use Rattle.search_rules.specs.Books.{searchOf}
+use Rattle.search_rules.specs.Bounds.{tableAt, lower, upper, over, markBound, bound, weight, best, bestOf, chosen, listAbsDiff, yardBound}
 use Rattle.search_rules.specs.Keys.{greatestBound, firstKey, isHome, homeFrom, home, boundIn, yardKey}
 use Rattle.search_rules.specs.Queue.{unqueued, wordAt}
 use Rattle.search_rules.specs.Step.{SearchState, passed, againKey, nextF, openInner, queueNext, closeLeaf, takeYard, step, settled, startSearch}
 use Rattle.search_rules.specs.Run.{Outcome, advance, run}
-use Rattle.search_rules.specs.Facts.{Listed, Below, inside, under, Shape, WellFormed}
+use Rattle.search_rules.specs.Facts.{Listed, Below, inside, under, Shape, WellFormed, SoundInstance}
 use Rattle.search_rules.specs.Theorems.{KeysOf}
-use Rattle.search_rules.proofs.Bounds.{chosen-mem}
+use Rattle.search_rules.proofs.Bounds.{chosen-mem, lower-under, bound-under}
 use Rattle.search_rules.proofs.Queue.{seen, key, key-word, word-key, key-eq, no-key, Entered, queued-child, kept}
 use Rattle.search_rules.proofs.Stepping.{step-case}
 use Rattle.search_rules.proofs.Kept.{Kept, InnerKey, child, taken, same, inner-key, inner-first, region-range, leaf-yard-key, leaf-region-key, closed-key}
@@ -147,6 +149,43 @@ module _ (i : Instance) where
         let z : Listed (chosen i r) y = shape .alike r m (chosen i r) y l k (chosen-mem i r (shape .marked r h)) x in
         omega (arith, ap (yardKey i) (z .names), yard-is r (z .element) h l (z .mem))
     below-up {r} {y} h (under c a l k b) = omega (arith, first-child r c k, below-up (shape .range r c k) b)
+
+-- ---- on a true tree
+
+module _ (i : Instance) (sound : SoundInstance i) where
+  abbrev shape : Shape i
+  shape = sound .well .shape
+
+  -- no bound on the way to a yard is above the aggregate of what the table gives of it
+  first-under : {r y : ℕ} → r < size i → Below i r y → firstKey i r ≤ over i (lower i y) → firstKey i (home i y) ≤ over i (lower i y)
+  first-under {r} {y} h (inside m a l k x w) p =
+      let z : Listed (chosen i r) y = shape .alike r m (chosen i r) y l k (chosen-mem i r (shape .marked r h)) x in
+      let e : home i y ≡ r = rw (z .names) at (home-is i shape r (z .element) h l (z .mem)) in
+      rw e p
+  first-under {r} {y} h (under c a l k b) p = first-under (shape .range r c k) b (omega (
+    arith,
+    first-child i shape r c k,
+    bound-under i shape (sound .metric) (sound .symmetric) (sound .truth) b,
+  ))
+
+  -- so its key is its bound
+  pub key-bound : (r : ℕ) (e : Element) → r < size i → T (leaf i r) → Mem e (chosen i r .list) → Below i 0 (e .yard)
+      → yardKey i (e .yard) ≡ yardBound i (chosen i r) e
+  key-bound r e h l k below = omega (
+    arith,
+    yard-is i shape r e h l k,
+    ap (firstKey i) (home-is i shape r e h l k),
+    first-under (shape .root) below (omega (arith, first-root i shape, bound-under i shape (sound .metric) (sound .symmetric) (sound .truth) below)),
+    lower-under i (chosen i r) e,
+  )
+
+-- ---- a search of two books: what is asked for beside the aggregate matters to no key
+
+pub key-alone : (road tree crews : List ℕ) (code : ℕ) (r s : Rule) (v w : ℕ) (y : ℕ)
+    → yardKey (searchOf road tree (record { code = code; rule = r; wanted = v }) crews) y
+    ≡ yardKey (searchOf road tree (record { code = code; rule = s; wanted = w }) crews) y
+unfolding searchOf yardKey home homeFrom isHome boundIn firstKey greatestBound size leaf chosen bestOf best weight lower upper tableAt marks yardBound listAbsDiff over bound markBound
+key-alone road tree crews code r s v w y = refl
 
 -- ---- a run's keys
 

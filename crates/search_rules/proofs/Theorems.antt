@@ -26,6 +26,7 @@ use Rattle.search_rules.proofs.Fronts.{front-length}
 use Rattle.search_rules.proofs.Kept.{word-nothing, run-kept}
 use Rattle.search_rules.proofs.Found.{fewer, run-listing, run-complete}
 use Rattle.search_rules.proofs.Ends.{enough, unsettled-taken, taken-within, settled-stays}
+use Rattle.search_rules.proofs.Keys.{key-bound}
 use Rattle.search_rules.proofs.Level.{run-measured, run-within, run-bound-within}
 use Rattle.search_rules.proofs.Fitting.{run-fits}
 use Rattle.search_rules.proofs.Limits.{lower-most, upper-most, bound-most, weight-most, f-most, yardBound-most, total-most}
@@ -39,6 +40,7 @@ bounded i sound = record {
   of-region = λ r y b. bound-le i (sound .well .shape) (sound .metric) (sound .symmetric) (sound .truth) b;
   of-element = f-le i;
   of-yard = yardBound-le i (sound .well .shape) (sound .metric) (sound .symmetric) (sound .truth);
+  of-key = key-bound i sound;
 }
 
 -- no number that a search computes is above its limit

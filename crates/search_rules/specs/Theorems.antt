@@ -144,6 +144,9 @@ pub record Bounded (i : Instance) : Type 0 where
   pub of-element : (m : Mark) (e : Element) → f i m e ≤ yardBound i m e
   pub of-yard : (r : ℕ) (m : Mark) (e : Element) → T (leaf i r) → Mem m (marks i r) → Mem e (m .list)
       → yardBound i m e ≤ total i (e .yard)
+  -- no region's bound is above that of a wanted yard below it, so that the yard's key is its bound
+  pub of-key : (r : ℕ) (e : Element) → r < size i → T (leaf i r) → Mem e (chosen i r .list) → Below i 0 (e .yard)
+      → yardKey i (e .yard) ≡ yardBound i (chosen i r) e
 
 -- of any search on a tree of sound layout and shape, whatever the tree's numbers say
 pub record Decided (i : Instance) (limit : ℕ) : Type 0 where
