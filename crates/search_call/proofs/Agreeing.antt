@@ -14,7 +14,8 @@ use Rattle.search_rules.proofs.Agreeing.{lists-first}
 use Rattle.search_call.specs.Call.{ruleBy}
 use Rattle.search_call.specs.Demand.{code, k, crews, limit, instanceOf, list, lastDistance, SearchesAgree}
 use Rattle.search_call.proofs.Calls.{on-settled}
-use Rattle.search_call.proofs.Demand.{books, sound-by}
+use Rattle.search_call.proofs.Instances.{sound-by}
+use Rattle.search_call.proofs.Demand.{books}
 
 -- the search of some books that asks for an aggregate, by a rule, for some kinds
 abbrev by : (road tree : List ℕ) (code : ℕ) → Rule → (kinds : ℕ) → (crews : List ℕ) → Instance

@@ -2,6 +2,8 @@ pub mod Refusing
 pub mod Calls
 pub mod Admitting
 pub mod Bounded
+pub mod Instances
+pub mod Measured
 pub mod Lists
 pub mod Room
 pub mod Demand

@@ -50,6 +50,10 @@ module _ {A : Type 0} where
       let k = h y (head refl) in
       omega (arith, without-length k, fewer l (without k) (d .1) (λ x j. without-keeps k x (λ p. d .0 (Memᴰ·cast (sym p) j)) (h x (tail j))))
 
+  -- of the same members, each once, there are as many
+  pub same-length : (l m : List A) → Distinct l → Distinct m → ((y : A) → Mem y l → Mem y m) → ((y : A) → Mem y m → Mem y l) → length l ≡ length m
+  same-length l m d e f g = omega (arith, fewer l m d f, fewer m l e g)
+
 -- ---- what a rule asks for of some elements, in yard order, is one list
 
 pub sorted-distinct : (A : Entry → Entry → Type 0) → ((e : Entry) → A e e → ⊥) → (l : List Entry) → SortedBy A l → Distinct l

@@ -162,6 +162,16 @@ nearest-not-past r k l b e p = rw e at p
 pub drive-not-past : (r : Rule) (s : ℕ) (l : List Entry) (b : ℕ) → r ≡ inDrive s → NotPast r l b → b ≤ s
 drive-not-past r s l b e p = rw e at p
 
+-- and back
+pub nearest-within : (r : Rule) (k : ℕ) (l : List Entry) (b : ℕ) → r ≡ nearest k → b ≤ greatestHeld l → NotPast r l b
+nearest-within r k l b e h = rw e (λ full. h)
+
+pub nearest-short : (r : Rule) (k : ℕ) (l : List Entry) (b : ℕ) → r ≡ nearest k → length l < k → NotPast r l b
+nearest-short r k l b e h = rw e (λ full. absurd (omega arith))
+
+pub drive-within : (r : Rule) (s : ℕ) (l : List Entry) (b : ℕ) → r ≡ inDrive s → b ≤ s → NotPast r l b
+drive-within r s l b e h = rw e h
+
 -- ---- what ends a search
 
 -- the first of a list with one more are that one among others, or what they were
