@@ -43,13 +43,13 @@ use Rattle.search_call.specs.Call.{Want, mostYards, Call, Areas, treeRefusalIn,
 use Rattle.search_call.proofs.Refusing.{counts-agree, long-enough, by-areas}
 use Rattle.search_call.proofs.FirstFailing.{search-tests}
 use Rattle.search_call.proofs.Calls.{on-number, on-refused, on-tests, work-zeroed, areas-kept}
-use Rattle.search_call.proofs.Demand.{demand-3, any-tree}
+use Rattle.search_call.proofs.Demand.{demand-3, any-tree, keys-true}
 use Rattle.search_call.proofs.Lists.{work-unread}
 use Rattle.search_call.proofs.Agreeing.{searches-agree}
 use Rattle.search_call.proofs.Versions.{versions-agree}
 use Rattle.finder.specs.Promises.{SoundBooks, SoundTreeBook, FirstRefusal, AcceptedCheck, CheckSafe, CheckTrue, FirstBuildRefusal, BuildAccepted}
 use Rattle.finder.specs.Promises.{BuildSafe}
-use Rattle.finder.specs.Promises.{BuildTrue, FirstSearchRefusal, SearchAccepted, SearchSafe, SearchesTrue, SearchesDecided, YardsOrdered, YardsMeasured}
+use Rattle.finder.specs.Promises.{BuildTrue, FirstSearchRefusal, SearchAccepted, SearchSafe, SearchesTrue, SearchesDecided, YardsKeyed, YardsOrdered, YardsMeasured}
 use Rattle.finder.specs.Promises.{checkTests, buildTests, searchTests}
 
 -- ---- sound books are those that no test turns back
@@ -273,6 +273,9 @@ searches-true = demand-3
 
 pub searches-decided : SearchesDecided
 searches-decided = (any-tree, work-unread, searches-agree, versions-agree)
+
+pub yards-keyed : YardsKeyed
+yards-keyed = keys-true
 
 pub yards-ordered : YardsOrdered
 yards-ordered = ties-fair

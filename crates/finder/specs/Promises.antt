@@ -39,7 +39,7 @@ use Rattle.search_rules.specs.Ceiling.{AboveKept}
 use Rattle.search_rules.specs.Fairness.{TiesFair}
 use Rattle.search_measure.specs.Facts.{MeasuresTrue}
 use Rattle.search_call.specs.Call.{Want, mostYards, Call, Found, foundOn, callOn, Areas as Lent, refused as refusedWith}
-use Rattle.search_call.specs.Demand.{Promised, OfBytes, AnyTree, WorkUnread, SearchesAgree, VersionsAgree}
+use Rattle.search_call.specs.Demand.{Promised, OfBytes, AnyTree, KeysTrue, WorkUnread, SearchesAgree, VersionsAgree}
 
 -- ---- sound books
 
@@ -279,11 +279,12 @@ SearchSafe = (c : Call) (a : Lent) → SearchKept c a (foundOn c a) (callOn c a)
 --
 -- Any list of searches of both kinds, mixed, on one work area and one result area, which hold anything at first: each
 -- is given both areas as the one before left them, and brings its own books. `Promised`
--- (crates/search_call/specs/Demand.antt) has the demand's four sentences: a settled search on a tree that passes lists
--- exactly the first k wanted yards, or exactly those within its drive, in yard order; none of these measured a yard
--- whose bound exceeds the last listed distance of a full list, or the seconds; enough steps always settle; at the end
--- the result area is what it held at first with all the settled lists written over its start in turn. A tree book is
--- asked to be of bytes, which a lent book is.
+-- (crates/search_call/specs/Demand.antt) has the demand's sentences: a settled search on a tree that passes lists exactly
+-- the first k wanted yards, or exactly those within its drive, in yard order; none of these measured a yard whose bound
+-- exceeds the last listed distance of a full list, or the seconds, and measured are exactly the wanted yards whose key
+-- is not above these, each once, or all of them if the list is short of k; enough steps always settle; at the end the
+-- result area is what it held at first with all the settled lists written over its start in turn. A tree book is asked
+-- to be of bytes, which a lent book is.
 abbrev pub SearchesTrue : Type 0
 SearchesTrue = (calls : List Call) → OfBytes calls → (first : Lent) → Promised calls first
 
@@ -292,6 +293,16 @@ SearchesTrue = (calls : List Call) → OfBytes calls → (first : Lent) → Prom
 -- alike, one of version 1 by the steps without kinds.
 abbrev pub SearchesDecided : Type 0
 SearchesDecided = AnyTree × WorkUnread × SearchesAgree × VersionsAgree
+
+-- ---- the yards worth measuring
+--
+-- "For a settled search for k yards on a tree that passes, promise that the measured yards are exactly the wanted yards
+-- whose key is not above the last listed distance, or all wanted yards when the list is short of k.": `measured-full`
+-- and `measured-short` of demand 3, and `measured-inside` of a drive search. A yard's key (`yardKey`, of
+-- crates/search_rules/specs/Keys.antt) is a value of the tree, the roads and the query alone, in which no run is named;
+-- a run queues each yard with it, on any tree; and on a tree that passes it is the yard's bound.
+abbrev pub YardsKeyed : Type 0
+YardsKeyed = KeysTrue
 
 -- ---- yard order
 --

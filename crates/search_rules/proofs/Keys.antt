@@ -58,7 +58,7 @@ module _ (i : Instance) where
   greatest-least zero s r x h = omega arith
   greatest-least (suc n) s r x h =
       let one : choose (onWay (i .tree .regions) s r) (bound i s) 0 ≤ x =
-          choose-case (λ (y : ℕ). y ≤ x) (onWay (i .tree .regions) s r) (λ t. h s t) (λ t. omega arith) in
+      choose-case (λ (y : ℕ). y ≤ x) (onWay (i .tree .regions) s r) (λ t. h s t) (λ t. omega arith) in
       omega (arith, greatest-least n (suc s) r x h)
 
   first-least : (r x : ℕ) → ((v : ℕ) → T (onWay (i .tree .regions) v r) → bound i v ≤ x) → firstKey i r ≤ x

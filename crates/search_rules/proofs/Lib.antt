@@ -38,4 +38,5 @@ pub mod Measures
 pub mod Vectors
 pub mod Worked
 pub mod WorkedTies
+pub mod WorkedKeys
 pub mod Example

@@ -16,3 +16,4 @@ pub mod Walks
 pub mod Fairness
 pub mod Examples
 pub mod TieExamples
+pub mod KeyExamples
