@@ -6,8 +6,8 @@ use crate::brute;
 use crate::search::keys::{greatest_worth, keys, worth_measuring, Keyed};
 use crate::search::{tested_books, Asked, Search};
 
-/// `REFUSAL WANTED LISTED LAST MEASURED`, where a refusal is followed by four zeros, and then `YARD KEY` for each wanted
-/// yard in order of the keys.
+/// `REFUSAL WANTED LISTED LAST MEASURED`, where a refusal is followed by four zeros, and then `YARD KEY` for each
+/// wanted yard in order of the keys.
 pub fn capacity(wanted: u8, books: [&[u8]; 3]) -> String {
     match tested_books(Asked::FirstK, wanted, books) {
         Ok(search) => estimate(&search),

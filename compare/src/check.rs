@@ -20,8 +20,8 @@ pub fn check(road: &[u8], yard: &[u8], tree: &[u8], work: &mut [u32]) -> u32 {
     }
 }
 
-/// "A tree passes beside a road book if check gives 0 for the two with some yard book and a full work area": only one of
-/// the tree's own yards and kinds can give it.
+/// "A tree passes beside a road book if check gives 0 for the two with some yard book and a full work area": only one
+/// of the tree's own yards and kinds can give it.
 pub fn passes(road: &[u8], tree: &[u8]) -> bool {
     let Ok(read) = tree::read_alone(tree) else {
         return false;

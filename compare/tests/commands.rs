@@ -120,8 +120,8 @@ fn kinds() {
     assert_eq!(within("0"), "13 0 0 0 0\n");
 }
 
-/// Yards 1, 2, 5 and 6 are 91 seconds away, which is their key, yard 14 and its key 371. By the maximum yards 5, 2, 6, 1
-/// and 14 are 60, 70, 75, 81 and 231 seconds away, and so are their keys. Yards 5 and 14 are of the third kind.
+/// Yards 1, 2, 5 and 6 are 91 seconds away, which is their key, yard 14 and its key 371. By the maximum yards 5, 2, 6,
+/// 1 and 14 are 60, 70, 75, 81 and 231 seconds away, and so are their keys. Yards 5 and 14 are of the third kind.
 #[test]
 fn keys() {
     let road = file("keys-road", &sound_road());
@@ -142,7 +142,8 @@ fn keys() {
     assert_eq!(keys(0, 2, "8"), "0 0 0 0 0\n");
 }
 
-/// The tests are a search's: road, tree with 8, query with 10 and 11, then 13. Read as a tree, the road book has no yard.
+/// The tests are a search's: road, tree with 8, query with 10 and 11, then 13. Read as a tree, the road book has no
+/// yard.
 #[test]
 fn refused_keys() {
     let road = file("refused-road", &sound_road());

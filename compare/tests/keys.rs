@@ -141,8 +141,8 @@ fn measured_in_order_of_keys() {
     assert!(kept_out >= 50 && others >= 1_000, "{kept_out} {others}");
 }
 
-/// "a value of the tree and the query alone": other wanted kinds change which yards have keys, not the keys; nor do k,
-/// the limit or a drive. On a tree that passes a key is the yard's bound, here from all distances.
+/// Other wanted kinds change which yards have keys, not the keys; nor do k, the limit or a drive. On a tree that passes
+/// a key is the yard's bound, here from all distances.
 #[test]
 fn keys_follow_from_the_books() {
     let mut numbers = Numbers::new(63);
@@ -203,9 +203,9 @@ impl Settled {
     }
 }
 
-/// "For a settled search for k yards on a tree that passes, promise that the measured yards are exactly the wanted yards
-/// whose key is not above the last listed distance, or all wanted yards when the list is short of k"; for a drive search
-/// the seconds are in the distance's place.
+/// "For a settled search for k yards on a tree that passes, promise that the measured yards are exactly the wanted
+/// yards whose key is not above the last listed distance, or all wanted yards when the list is short of k"; for a drive
+/// search the seconds are in the distance's place.
 #[test]
 fn exactly_the_yards_worth_measuring() {
     let mut numbers = Numbers::new(64);

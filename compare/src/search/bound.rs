@@ -86,8 +86,8 @@ fn pick_landmark(search: &Search, number: usize) -> usize {
     picked
 }
 
-/// What a leaf goes by: the true distances from the landmark that it picks to the crews, and the wanted elements of that
-/// landmark's list, by place.
+/// What a leaf goes by: the true distances from the landmark that it picks to the crews, and the wanted elements of
+/// that landmark's list, by place.
 pub struct Picked<'a> {
     pub crew_values: Vec<u32>,
     pub wanted: Vec<&'a Entry>,

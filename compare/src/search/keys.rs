@@ -45,8 +45,8 @@ pub fn keys_in_leaf(search: &Search, number: usize, first_key: u64) -> Vec<Keyed
     leaf.wanted.iter().map(keyed).collect()
 }
 
-/// The greatest key worth measuring when a search has settled with this list of (distance, yard) pairs: "the last listed
-/// distance", and none is too great "when the list is short of k"; of a drive search, the seconds.
+/// The greatest key worth measuring when a search has settled with this list of (distance, yard) pairs: "the last
+/// listed distance", and none is too great "when the list is short of k"; of a drive search, the seconds.
 pub fn greatest_worth(search: &Search, list: &[(u64, u16)]) -> Option<u64> {
     match search.asked {
         Asked::FirstK => list.get(search.query.k - 1).map(|listed| listed.0),
@@ -54,8 +54,8 @@ pub fn greatest_worth(search: &Search, list: &[(u64, u16)]) -> Option<u64> {
     }
 }
 
-/// "the measured yards are exactly the wanted yards whose key is not above the last listed distance, or all wanted yards
-/// when the list is short of k": these, of all wanted yards in order of their keys.
+/// "the measured yards are exactly the wanted yards whose key is not above the last listed distance, or all wanted
+/// yards when the list is short of k": these, of all wanted yards in order of their keys.
 pub fn worth_measuring(keys: &[Keyed], greatest_worth: Option<u64>) -> &[Keyed] {
     let not_above = |keyed: &Keyed| greatest_worth.is_none_or(|greatest| keyed.key <= greatest);
     &keys[..keys.partition_point(not_above)]

@@ -40,9 +40,9 @@ fn measured_by_k(mut search: Search, most: usize) -> Vec<usize> {
     .collect()
 }
 
-/// The sound district for crews 0 and 7: from either end of the root's landmarks yards 1, 2, 5, 6 and 14 are as far as
-/// they are, 10 + 81, 21 + 70, 60 + 31, 75 + 16 and 231 + 140. The leaves' first keys, 45, 76 and 191, are less. The
-/// first four have the last listed distance as their key, and are all measured whichever of them are listed.
+/// The sound district for crews 0 and 7: by the sheet's landmark 0 the bounds of yards 1, 2, 5, 6 and 14 are their true
+/// sums, 10 + 81, 21 + 70, 60 + 31, 75 + 16 and 231 + 140. The leaves' first keys, 45, 76 and 191, are less. The first
+/// four have the last listed distance as their key, and are all measured whichever of them are listed.
 #[test]
 fn by_sum() {
     let ask = |asked| sound(&tree_value(), 0, asked);
@@ -67,9 +67,9 @@ fn by_maximum() {
     }
 }
 
-/// A chain of seven, one second from each to the next, crew 0, the landmark in the middle: yards 0, 3 and 6 are 0, 3 and
-/// 6 seconds away, and their keys are |3 − 3|, |3 − 0| and |3 − 3|. Yard 6 is measured for k 1, where it isn't listed;
-/// for k 2 the last listed distance, 3, is yard 3's key.
+/// A chain of seven, one second from each to the next, crew 0, the landmark in the middle: yards 0, 3 and 6 are 0, 3
+/// and 6 seconds away, and their keys are |3 − 3|, |3 − 0| and |3 − 3|. Yard 6 is measured for k 1, where it isn't
+/// listed; for k 2 the last listed distance, 3, is yard 3's key.
 #[test]
 fn keys_below_distances() {
     let tree = one_leaf(7, 3, &[(0, 3), (3, 0), (3, 6)]);
@@ -133,7 +133,8 @@ fn the_list_and_the_sheet() {
     assert_eq!(further, [(1, 5), (3, 55), (4, 75)]);
 }
 
-/// Wanted yards alone have keys. Yard 0's region lacks its bit in a false tree: the yard has a key, and is not measured.
+/// Wanted yards alone have keys. Yard 0's region lacks its bit in a false tree: the yard has a key, and is not
+/// measured.
 #[test]
 fn keys_of_kinds() {
     let mut tree = tree_of_six();

@@ -53,8 +53,8 @@ const WANTED_OF_SEARCHES: f64 = 0.8;
 /// Above the rows of checks and builds.
 const HEADING: &str = "call   leaf limit   proved ms   plain ms   ratio   wanted";
 /// The columns of a search's row: two lines of heading, and the width. "No ceiling" is the plain search with none ever.
-/// By keys are the yards worth measuring, which the measured ones must be, and the plain time from the books to the keys
-/// of all wanted yards. Walked on from are so many junctions for each measured yard, on average.
+/// By keys are the yards worth measuring, which the measured ones must be, and the plain time from the books to the
+/// keys of all wanted yards. Walked on from are so many junctions for each measured yard, on average.
 const COLUMNS: [(&str, &str, usize); 18] = [
     ("", "call", 6),
     ("", "crews", 5),
@@ -307,8 +307,8 @@ fn row(call: &str, leaf_limit: u32, ours: Call, theirs: Call) {
     println!("{call:<6} {leaf_limit:>10} {best:>11.2} {plain:>10.2} {ratio:>7.2} {WANTED:>8.1}");
 }
 
-/// One search's row, also beside the plain search with no ceiling, the keys and brute force. All must give the same list,
-/// and the keys the measured count.
+/// One search's row, also beside the plain search with no ceiling, the keys and brute force. All must give the same
+/// list, and the keys the measured count.
 fn search_row(district: &District, tree: &[u8], row: &Row, peer: Option<&str>) {
     let (asked, wanted, yards) = (row.asked, district.wanted, district.wanted_yards());
     let books: [&[u8]; 3] = [&district.road, tree, &row.query];
