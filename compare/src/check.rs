@@ -20,6 +20,16 @@ pub fn check(road: &[u8], yard: &[u8], tree: &[u8], work: &mut [u32]) -> u32 {
     }
 }
 
+/// "A tree passes beside a road book if check gives 0 for the two with some yard book and a full work area": only one
+/// of the tree's own yards and kinds can give it.
+pub fn passes(road: &[u8], tree: &[u8]) -> bool {
+    let Ok(read) = tree::read_alone(tree) else {
+        return false;
+    };
+    let yard = yard::write_version(kinds::VERSION, &read.yards_with_kinds(0));
+    check(road, &yard, tree, &mut [0; WORK_WORDS]) == 0
+}
+
 /// "Books are tested in the order road, yard, tree, query, each through its own tests, a test between books
 /// going with the later one; then the call's m, leaf limit and areas."
 fn tested(road: &[u8], yard: &[u8], tree: &[u8], work: usize) -> Result<(), u32> {

@@ -17,6 +17,7 @@ pub mod check;
 pub mod query;
 pub mod search;
 
+pub mod capacity;
 pub mod eccentricity;
 pub mod list;
 pub mod outline;

@@ -7,6 +7,7 @@ use std::io::{self, Read, Write};
 use std::process::ExitCode;
 use std::str::FromStr;
 
+use compare::capacity::capacity;
 use compare::eccentricity::eccentricity;
 use compare::generate::standard;
 use compare::list::{list, rows, MOST_INPUT};
@@ -18,6 +19,7 @@ const USAGE: &str = "usage: reference list < BYTES
        reference build ROAD YARD M LIMIT WORK AREA OUT
        reference search ROAD TREE QUERY WANTED WORK RESULTS
        reference within ROAD TREE QUERY WANTED SECONDS WORK RESULTS
+       reference keys ROAD TREE QUERY WANTED
        reference outline < TREE
        reference roads ROAD|-
        reference generate grid|random|star|chain|ring|longchain|even SEED > ROAD
@@ -52,6 +54,7 @@ fn answer(arguments: &[OsString]) -> Result<Vec<u8>, String> {
         Some("build") => build_command(rest),
         Some("search") => search_command(rest),
         Some("within") => within_command(rest),
+        Some("keys") => keys_command(rest),
         Some("outline") => outline_command(rest),
         Some("roads") => roads_command(rest),
         Some("generate") => generate_command(rest),
@@ -104,6 +107,14 @@ fn within_command(arguments: &[OsString]) -> Result<Vec<u8>, String> {
     asked(within, number(wanted)?, files, [work, results])
 }
 
+/// `reference keys ROAD TREE QUERY WANTED`.
+fn keys_command(arguments: &[OsString]) -> Result<Vec<u8>, String> {
+    let [road, tree, query, wanted] = exactly(arguments)?;
+    let books = files([road, tree, query])?;
+    let books = books.each_ref().map(Vec::as_slice);
+    Ok(capacity(number(wanted)?, books).into_bytes())
+}
+
 /// `reference outline < TREE`.
 fn outline_command(arguments: &[OsString]) -> Result<Vec<u8>, String> {
     let [] = exactly(arguments)?;
@@ -115,11 +126,10 @@ fn outline_command(arguments: &[OsString]) -> Result<Vec<u8>, String> {
 fn asked(
     asked: Asked,
     wanted: u8,
-    files: [&OsString; 3],
+    names: [&OsString; 3],
     areas: [&OsString; 2],
 ) -> Result<Vec<u8>, String> {
-    let [road, tree, query] = files;
-    let books = [file(road)?, file(tree)?, file(query)?];
+    let books = files(names)?;
     let [work, results] = areas;
     let mut work = vec![0; length(work)?];
     let mut results = vec![0; length(results)?];
@@ -169,6 +179,11 @@ fn exactly<const N: usize>(arguments: &[OsString]) -> Result<&[OsString; N], Str
 /// A whole file.
 fn file(name: &OsString) -> Result<Vec<u8>, String> {
     fs::read(name).map_err(|error| format!("{}: {error}", name.display()))
+}
+
+/// Three whole files.
+fn files([one, other, third]: [&OsString; 3]) -> Result<[Vec<u8>; 3], String> {
+    Ok([file(one)?, file(other)?, file(third)?])
 }
 
 /// A program reads at most 65,536 bytes and takes those for all of it.

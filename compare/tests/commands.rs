@@ -7,6 +7,7 @@ use std::process::{Command, Output, Stdio};
 
 use compare::generate::damage::{sound_query, sound_road, sound_tree, sound_yard};
 use compare::generate::standard;
+use compare::query;
 
 /// Runs the command with these arguments and this standard input.
 fn run(arguments: &[&str], input: &[u8]) -> Output {
@@ -119,6 +120,53 @@ fn kinds() {
     assert_eq!(within("0"), "13 0 0 0 0\n");
 }
 
+/// Yards 1, 2, 5 and 6 are 91 seconds away, which is their key, yard 14 and its key 371. By the maximum yards 5, 2, 6,
+/// 1 and 14 are 60, 70, 75, 81 and 231 seconds away, and so are their keys. Yards 5 and 14 are of the third kind.
+#[test]
+fn keys() {
+    let road = file("keys-road", &sound_road());
+    let tree = file("keys-tree", &sound_tree(2));
+    let keys = |aggregate, k, wanted| {
+        let query = query::write(aggregate, k, 0, &[0, 7]);
+        let query = file(&format!("keys-query-{aggregate}-{k}"), &query);
+        printed(&["keys", &road, &tree, &query, wanted], &[])
+    };
+    let by_sum = "1 91\n2 91\n5 91\n6 91\n14 371\n";
+    for (k, counts) in [(1, "0 5 1 91 4"), (5, "0 5 5 371 5"), (64, "0 5 5 371 5")] {
+        assert_eq!(keys(0, k, "255"), format!("{counts}\n{by_sum}"));
+    }
+    let by_maximum = "5 60\n2 70\n6 75\n1 81\n14 231\n";
+    assert_eq!(keys(1, 2, "255"), format!("0 5 2 70 2\n{by_maximum}"));
+    assert_eq!(keys(0, 1, "4"), "0 2 1 91 1\n5 91\n14 371\n");
+    assert_eq!(keys(0, 3, "4"), "0 2 2 371 2\n5 91\n14 371\n");
+    assert_eq!(keys(0, 2, "8"), "0 0 0 0 0\n");
+}
+
+/// The tests are a search's: road, tree with 8, query with 10 and 11, then 13. Read as a tree, the road book has no
+/// yard.
+#[test]
+fn refused_keys() {
+    let road = file("refused-road", &sound_road());
+    let tree = file("refused-tree", &sound_tree(1));
+    let query = file("refused-query", &sound_query());
+    let empty = file("refused-empty", &[]);
+    let other = file("refused-other", &compare::road::write(1, &[]));
+    let crewless = file("refused-10", &query::write(2, 0, 1, &[]));
+    let no_k = file("refused-11", &query::write(0, 0, 1, &[0]));
+    for (number, books) in [
+        (1, [&empty, &road, &crewless]),
+        (3, [&road, &road, &crewless]),
+        (8, [&other, &tree, &crewless]),
+        (10, [&road, &tree, &crewless]),
+        (11, [&road, &tree, &no_k]),
+        (13, [&road, &tree, &query]),
+    ] {
+        let [road, tree, query] = books;
+        let arguments = ["keys", road, tree, query, "0"];
+        assert_eq!(printed(&arguments, &[]), format!("{number} 0 0 0 0\n"));
+    }
+}
+
 #[test]
 fn outlines() {
     let counts = "junctions 16 regions 4 yards 5 landmarks 2\n";
@@ -191,7 +239,7 @@ fn generates() {
 #[test]
 fn usage() {
     let road = file("usage", &sound_road());
-    let wrong: [&[&str]; 22] = [
+    let wrong: [&[&str]; 27] = [
         &[],
         &["unknown"],
         &["list", "more"],
@@ -206,6 +254,11 @@ fn usage() {
         &["within", &road, &road, &road, "1", "1", "1"],
         &["within", &road, &road, &road, "1", "4294967296", "1", "1"],
         &["within", &road, &road, &road, "1", "-1", "1", "1"],
+        &["keys", &road, &road, &road],
+        &["keys", &road, &road, &road, "1", "1"],
+        &["keys", &road, &road, &road, "256"],
+        &["keys", &road, &road, &road, "-1"],
+        &["keys", &road, &road, "missing file", "1"],
         &["outline", "more"],
         &["roads"],
         &["generate", "unknown", "1"],

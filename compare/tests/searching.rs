@@ -7,14 +7,15 @@ use compare::generate::call::seconds;
 use compare::generate::damage::random_damage;
 use compare::generate::district::{district, false_tree, query_book, random_tree, wanted};
 use compare::generate::{standard, Numbers};
-use compare::kinds::{self, ALL};
+use compare::kinds::ALL;
 use compare::query::{self, Query};
 use compare::refusal::WORK_WORDS;
 use compare::road::RoadBook;
+use compare::search::keys::greatest_worth;
 use compare::search::state::{Held, Item, State};
 use compare::search::{run, run_seen, tested, Search};
 use compare::tree::{Region, Tree};
-use compare::{ask, ask_by, brute, build, check, road, search, tree, within, yard};
+use compare::{ask, ask_by, brute, build, check, road, search, tree, within};
 use compare::{Asked, Found, Measuring};
 
 /// The three books of a search, what it is asked for, and the wanted kinds.
@@ -29,18 +30,6 @@ struct Books {
 impl Books {
     fn all(&self) -> [&[u8]; 3] {
         [&self.road, &self.tree, &self.query]
-    }
-
-    /// "A tree passes beside a road book if check gives 0 for the two with some yard book and a full work area".
-    fn passes(&self) -> bool {
-        let Ok(road) = road::read(&self.road) else {
-            return false;
-        };
-        let Ok(tree) = tree::read(&self.tree, road.junctions) else {
-            return false;
-        };
-        let yard = yard::write_version(kinds::VERSION, &tree.yards_with_kinds(0));
-        check(&self.road, &yard, &self.tree, &mut [0; WORK_WORDS]) == 0
     }
 
     /// Makes the search.
@@ -123,7 +112,7 @@ fn assert_search(books: &Books, found: &Found, list: &[(u64, u16)]) {
     let (road, tree, query) = books.read();
     let all = brute::all_distances(&road);
     let yards = brute::wanted_yards(&tree, books.wanted);
-    let passes = books.passes();
+    let passes = check::passes(&books.road, &books.tree);
     if u64::from(query.limit) >= settling_limit(&tree, books.wanted, passes) {
         assert_eq!(found.settled, 1);
     }
@@ -156,11 +145,7 @@ fn assert_measured(books: &Books, entering: &[u16], found: &Found) {
 /// exceeds the seconds is measured", in a spent search neither.
 fn assert_bounds(books: &Books, all: &[Vec<u64>], list: &[(u64, u16)]) {
     let search = books.tested();
-    let most = match books.asked {
-        Asked::FirstK if list.len() == search.query.k => list[list.len() - 1].0,
-        Asked::FirstK => u64::MAX,
-        Asked::Within(seconds) => u64::from(seconds),
-    };
+    let most = greatest_worth(&search, list).unwrap_or(u64::MAX);
     for yard in run(&search).state.measured {
         assert!(brute::yard_bound(all, &search.tree, &search.query, yard) <= most);
     }

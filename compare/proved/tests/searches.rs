@@ -1,5 +1,5 @@
 //! Lists of searches through the proved finder and the plain ones on shared areas, for yards of wanted kinds, and
-//! settled searches against brute force over the wanted yards.
+//! settled searches against brute force over the wanted yards, their measured counts against the yards' keys.
 
 use compare::build::KINDS_AREA_BYTES;
 use compare::generate::call::{random_search, random_within, tied_search};
@@ -10,6 +10,8 @@ use compare::kinds;
 use compare::query::Query;
 use compare::refusal::WORK_WORDS;
 use compare::road::RoadBook;
+use compare::search::keys::{greatest_worth, keys, worth_measuring, Keyed};
+use compare::search::{tested_books, Search};
 use compare::tree::Tree;
 use compare::yard::{self, YardBook};
 use compare::{brute, build, check, query, road, tree, Asked, Found};
@@ -67,11 +69,12 @@ impl Books {
 
     /// Whether check passes the tree beside these roads.
     fn passes(&self) -> bool {
-        let Some((_, tree, _)) = self.read() else {
-            return false;
-        };
-        let yard = yard::write_version(kinds::VERSION, &tree.yards_with_kinds(0));
-        check(&self.road, &yard, &self.tree, &mut [0; WORK_WORDS]) == 0
+        check::passes(&self.road, &self.tree)
+    }
+
+    /// The search of the books, which must be sound.
+    fn search(&self) -> Search {
+        tested_books(self.asked, self.wanted, self.all()).expect("sound books")
     }
 
     /// The books read, if none is refused.
@@ -154,6 +157,42 @@ struct Seen {
     exact: u32,
     /// Settled on a tree that check refuses by 9.
     others: u32,
+    by_keys: ByKeys,
+}
+
+/// The searches that settled on a tree that passes, whose measured counts were held against the keys.
+#[derive(Clone, Copy, Debug, Default)]
+struct ByKeys {
+    held: u32,
+    /// Some wanted yard is not measured.
+    left: u32,
+    /// Some key equals the last listed distance of a full list, or the seconds.
+    equal: u32,
+}
+
+impl ByKeys {
+    /// Holds the answer of a search with this settled list against the keys.
+    fn hold(&mut self, books: &Books, list: &[(u64, u16)], found: &Found) {
+        let search = books.search();
+        self.hold_beside(&keys(&search), greatest_worth(&search, list), found);
+    }
+
+    /// "the measured yards are exactly the wanted yards whose key is not above the last listed distance, or all wanted
+    /// yards when the list is short of k", or in a drive search not above the seconds.
+    fn hold_beside(&mut self, keys: &[Keyed], greatest: Option<u64>, found: &Found) {
+        let worth = worth_measuring(keys, greatest);
+        assert_eq!(found.measured as usize, worth.len());
+        self.held += 1;
+        self.left += u32::from(worth.len() < keys.len());
+        let equal = worth.last().is_some_and(|last| Some(last.key) == greatest);
+        self.equal += u32::from(equal);
+    }
+
+    /// So many were held, and so many of them left some yard, and had an equal key.
+    fn assert_least(&self, held: u32, left: u32, equal: u32) {
+        let enough = self.held >= held && self.left >= left && self.equal >= equal;
+        assert!(enough, "{self:?}");
+    }
 }
 
 /// An area of some length that holds anything.
@@ -182,6 +221,7 @@ fn make_list(numbers: &mut Numbers, seen: &mut [Seen; 2]) {
             (0, 1, Some(list)) => {
                 expected[..list.len()].copy_from_slice(&list);
                 assert_eq!(words, list.len());
+                seen.by_keys.hold(&books, &pairs(&list), &found);
                 seen.exact += 1;
             }
             (0, 1, None) => {
@@ -207,6 +247,7 @@ fn lists_on_shared_areas() {
     for seen in seen {
         let least = seen.refused.min(seen.spent).min(seen.exact);
         assert!(least.min(seen.others) >= 500, "{seen:?}");
+        seen.by_keys.assert_least(seen.exact, 500, 500);
     }
 }
 
@@ -243,19 +284,21 @@ fn asks(ranked: &[(u64, u16)]) -> Vec<Asked> {
 }
 
 /// All that the yards are asked for, on a false tree and on one that passes; the settled lists of this one against
-/// brute force.
-fn ask_all(areas: &mut Areas, mut books: Books, false_tree: &[u8]) {
-    let ranked = books.ranked();
+/// brute force, and its measured counts against the keys.
+fn ask_all(areas: &mut Areas, mut books: Books, false_tree: &[u8], by_keys: &mut ByKeys) {
+    let (ranked, mut search) = (books.ranked(), books.search());
+    let keys = keys(&search);
     for asked in asks(&ranked) {
-        books.asked = asked;
+        (books.asked, search.asked) = (asked, asked);
         let others = [&books.road[..], false_tree, &books.query];
         areas.ask(asked, books.wanted, others);
         let found = books.ask(areas);
-        let list = match found.settled {
-            1 => words(settled(asked, books.query[6].into(), &ranked)),
-            _ => Vec::new(),
-        };
-        assert_eq!(areas.results()[..2 * found.listed as usize], list);
+        let mut list = &[][..];
+        if found.settled == 1 {
+            list = settled(asked, search.query.k, &ranked);
+            by_keys.hold_beside(&keys, greatest_worth(&search, list), &found);
+        }
+        assert_eq!(areas.results()[..2 * found.listed as usize], words(list));
     }
 }
 
@@ -272,6 +315,7 @@ fn standard_yards(version: u8, yards: u32) -> Vec<u8> {
 fn full_size() {
     let mut numbers = Numbers::new(32);
     let mut areas = Areas::new(&[7; WORK_WORDS + 5], &[7; 515]);
+    let mut by_keys = ByKeys::default();
     for kind in standard::KINDS {
         let road = standard::road_book(kind, 7).unwrap();
         for (version, yards, m, leaf_limit) in [
@@ -299,10 +343,12 @@ fn full_size() {
                     tree: area.clone(),
                     query,
                 };
-                ask_all(&mut areas, books, &other);
+                ask_all(&mut areas, books, &other, &mut by_keys);
             }
         }
     }
+    println!("{by_keys:?}");
+    by_keys.assert_least(1_000, 500, 100);
 }
 
 /// The kinds that are wanted in turn: all, one yard in eight, one in four, three in eight.
@@ -366,11 +412,13 @@ fn a_full_list_comes_first() {
 }
 
 /// The list's aggregates are, place by place, those of the order by aggregate and number; by the maximum so is the
-/// whole list. By the sum the order is often another, and at times so are the first k yards.
+/// whole list. By the sum the order is often another, and at times so are the first k yards. The measured yards are
+/// those by the keys, of which many are the last listed distance.
 #[test]
 fn aggregates_are_those_of_the_order_by_number() {
     let mut numbers = Numbers::new(37);
     let (mut other_order, mut other_yards) = (0, 0);
+    let mut by_keys = ByKeys::default();
     for _ in 0..20_000 {
         let books = Books::of(tied_search(&mut numbers, 40));
         let mut areas = Areas::new(&[7; WORK_WORDS], &[7; 128]);
@@ -379,6 +427,7 @@ fn aggregates_are_those_of_the_order_by_number() {
             continue;
         }
         let list = pairs(&areas.results()[..2 * found.listed as usize]);
+        by_keys.hold(&books, &list, &found);
         let mut by_number = books.ranked();
         by_number.sort_unstable();
         let by_number = settled(books.asked, books.query[6].into(), &by_number);
@@ -390,8 +439,9 @@ fn aggregates_are_those_of_the_order_by_number() {
         other_order += u32::from(list != by_number);
         other_yards += u32::from(list.iter().any(|yard| !by_number.contains(yard)));
     }
-    println!("{other_order} in another order, {other_yards} of other yards");
+    println!("{other_order} in another order, {other_yards} of other yards; {by_keys:?}");
     assert!(other_order >= 3_000 && other_yards >= 400);
+    by_keys.assert_least(10_000, 3_000, 3_000);
 }
 
 /// Fewer steps than a drive search takes to settle leave it spent, on trees that pass and on false ones.

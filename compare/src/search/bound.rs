@@ -3,7 +3,7 @@
 use super::Search;
 use crate::query::Aggregate;
 use crate::road::RoadBook;
-use crate::tree::Tree;
+use crate::tree::{Entry, Tree};
 
 /// "The sheet holds d from the root's landmarks r to every junction."
 pub struct Sheet {
@@ -71,7 +71,7 @@ pub fn region_key(search: &Search, number: usize, parent_key: u64) -> u64 {
 /// "A leaf when first taken picks its landmark with greatest sum of LB over crews, ties to the first."
 ///
 /// The answer is the landmark's place in the leaf.
-pub fn pick_landmark(search: &Search, number: usize) -> usize {
+fn pick_landmark(search: &Search, number: usize) -> usize {
     let mut picked = 0;
     let mut greatest = 0;
     for (place, landmark) in search.tree.regions[number].landmarks.iter().enumerate() {
@@ -84,6 +84,26 @@ pub fn pick_landmark(search: &Search, number: usize) -> usize {
         }
     }
     picked
+}
+
+/// What a leaf goes by: the true distances from the landmark that it picks to the crews, and the wanted elements of
+/// that landmark's list, by place.
+pub struct Picked<'a> {
+    pub crew_values: Vec<u32>,
+    pub wanted: Vec<&'a Entry>,
+}
+
+/// "A leaf [...] picks its landmark" and "passes over its unwanted elements".
+pub fn picked(search: &Search, number: usize) -> Picked<'_> {
+    let region = &search.tree.regions[number];
+    let landmark = &region.landmarks[pick_landmark(search, number)];
+    let at_landmark = |row: &Vec<u32>| row[usize::from(landmark.junction)];
+    let yards = region.wanted_yards(search.wanted);
+    let is_wanted = |entry: &&Entry| yards.contains(&entry.yard);
+    Picked {
+        crew_values: search.crew_distances.iter().map(at_landmark).collect(),
+        wanted: landmark.list().iter().filter(is_wanted).collect(),
+    }
 }
 
 /// "f, the aggregate of |d(l, q) − d(l, p)| with the list's d(l, p)". "carry them in 32 bits": at most sixteen values,

@@ -1,6 +1,7 @@
 //! Search: the k yards of least aggregate, or all yards within a drive, by the tree's bounds.
 
 pub mod bound;
+pub mod keys;
 pub mod measure;
 pub mod state;
 
@@ -136,21 +137,30 @@ pub fn ask_by(
 }
 
 /// "Books are tested in the order road, yard, tree, query, each through its own tests, a test between books
-/// going with the later one; then the call's m, leaf limit and areas." "13, the wanted byte is 0, tested directly
-/// after 11."
+/// going with the later one; then the call's m, leaf limit and areas."
 pub fn tested(
     asked: Asked,
     wanted: u8,
-    [road, tree, query]: [&[u8]; 3],
+    books: [&[u8]; 3],
     work: usize,
     results: usize,
+) -> Result<Search, u32> {
+    let search = tested_books(asked, wanted, books)?;
+    let needed = result_words(asked, &search.tree, &search.query);
+    refuse_unless(work >= WORK_WORDS && results >= needed, AREA)?;
+    Ok(search)
+}
+
+/// The tests before the areas': the books', then "13, the wanted byte is 0, tested directly after 11."
+pub fn tested_books(
+    asked: Asked,
+    wanted: u8,
+    [road, tree, query]: [&[u8]; 3],
 ) -> Result<Search, u32> {
     let road = road::read(road)?;
     let tree = tree::read(tree, road.junctions)?;
     let query = query::read(query, road.junctions)?;
     refuse_unless(wanted != 0, WANTED)?;
-    let needed = result_words(asked, &tree, &query);
-    refuse_unless(work >= WORK_WORDS && results >= needed, AREA)?;
     let sheet = Sheet::new(&road, &tree);
     let distances = |&crew: &u16| road.least_distances(crew);
     let crew_distances = query.crews.iter().map(distances).collect();

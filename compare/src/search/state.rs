@@ -2,7 +2,7 @@
 
 use std::collections::{BTreeMap, BTreeSet, VecDeque};
 
-use super::bound::{f, pick_landmark, region_key, yard_bound};
+use super::bound::{f, picked, region_key, yard_bound};
 use super::measure::{measure, Drive, Measured};
 use super::{Asked, Measuring, Search};
 use crate::tree::Entry;
@@ -130,23 +130,17 @@ fn take_leaf(search: &Search, state: &mut State, key: u64, number: usize) {
 /// "A leaf when first taken picks its landmark [...]. Its list's elements leave by f, [...] then by place." It "passes
 /// over its unwanted elements".
 fn first_taken(search: &Search, key: u64, number: usize) -> Leaf {
-    let region = &search.tree.regions[number];
-    let landmark = &region.landmarks[pick_landmark(search, number)];
-    let at_landmark = |row: &Vec<u32>| row[usize::from(landmark.junction)];
-    let crew_values: Vec<u32> = search.crew_distances.iter().map(at_landmark).collect();
-    let wanted = region.wanted_yards(search.wanted);
-    let is_wanted = |entry: &&Entry| wanted.contains(&entry.yard);
-    let element = |entry: &Entry| Element {
-        f: f(search.query.aggregate, &crew_values, entry.distance),
+    let leaf = picked(search, number);
+    let element = |entry: &&Entry| Element {
+        f: f(search.query.aggregate, &leaf.crew_values, entry.distance),
         distance: entry.distance,
         yard: entry.yard,
     };
-    let entries = landmark.list().iter().filter(is_wanted);
-    let mut elements: Vec<Element> = entries.map(element).collect();
+    let mut elements: Vec<Element> = leaf.wanted.iter().map(element).collect();
     elements.sort_by_key(|element| element.f); // stable, so equal f stay by place
     Leaf {
         first_key: key,
-        crew_values,
+        crew_values: leaf.crew_values,
         elements: elements.into(),
     }
 }

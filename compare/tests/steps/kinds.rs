@@ -22,7 +22,12 @@ const KINDS: [u8; 6] = [1, 2, 1, 4, 2, 3];
 
 /// The chain's tree with one landmark and leaves of at most two yards: region 1 has yard 0, region 2 yards 1 and 2,
 /// region 3 yard 3, region 4 yards 4 and 5; each leaf's landmark is its first yard.
-fn tree_of_six() -> Tree {
+pub fn tree_of_six() -> Tree {
+    built_six(2)
+}
+
+/// The chain's tree with one landmark and this leaf limit.
+pub fn built_six(leaf_limit: u32) -> Tree {
     let yard = |(junction, &kinds): (usize, &u8)| Yard {
         junction: junction as u16,
         kinds,
@@ -31,12 +36,12 @@ fn tree_of_six() -> Tree {
     let yard = yard::write_version(kinds::VERSION, &yards);
     let mut area = vec![0; KINDS_AREA_BYTES];
     let work = &mut [0; WORK_WORDS];
-    let built = build(&chain(&SECONDS), &yard, 1, 2, work, &mut area);
+    let built = build(&chain(&SECONDS), &yard, 1, leaf_limit, work, &mut area);
     tree::read(&area[..built.length as usize], 6).unwrap()
 }
 
 /// A search of the chain for crews at 0 and 3 by the sum, with k 2.
-fn six(tree: &Tree, wanted: u8, asked: Asked) -> Search {
+pub fn six(tree: &Tree, wanted: u8, asked: Asked) -> Search {
     let query = query::write(0, 2, 100, &[0, 3]);
     let books: [&[u8]; 3] = [&chain(&SECONDS), &tree::write(tree), &query];
     tested(asked, wanted, books, WORK_WORDS, 12).unwrap()
@@ -200,7 +205,7 @@ fn a_region_with_a_bit_too_few() {
 }
 
 /// The chain of six as one leaf with landmarks 0 and 5, and these kinds in its two lists, each yard's by its number.
-fn leaf_of_six(kinds: [[u8; 6]; 2]) -> Tree {
+pub fn leaf_of_six(kinds: [[u8; 6]; 2]) -> Tree {
     let lists = [
         [(0, 0), (1, 1), (3, 2), (6, 3), (10, 4), (15, 5)],
         [(0, 5), (5, 4), (9, 3), (12, 2), (14, 1), (15, 0)],

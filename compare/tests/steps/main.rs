@@ -1,6 +1,7 @@
 //! Searches worked out by hand, step by step: the whole queue after each step.
 
 mod follow;
+mod keys;
 mod kinds;
 
 use compare::generate::damage::{false_root, sound_road, sound_tree, JUNCTIONS};

@@ -1,10 +1,12 @@
 //! The command `calls`: how long the proved calls take beside the plain ones, on the grid district with 256 yards,
 //! there also for yards of a wanted kind, on the even grid, where many yards have the same sum, and on full books of
 //! each kind; searches also beside the plain one with no ceiling ever, with the junctions that each measured yard's
-//! walk walks on from, and beside brute force, in Rust and, where LEMON is installed, with its Dijkstra in C++.
+//! walk walks on from, beside the yards' keys, which say without a run how many yards are measured, and beside brute
+//! force, in Rust and, where LEMON is installed, with its Dijkstra in C++.
 #![forbid(unsafe_code)]
 
 use std::fs;
+use std::hint::black_box;
 use std::path::Path;
 use std::process::Command;
 use std::time::Duration;
@@ -13,8 +15,9 @@ use compare::build::KINDS_AREA_BYTES;
 use compare::generate::{standard, Numbers};
 use compare::query::Aggregate;
 use compare::refusal::WORK_WORDS;
+use compare::search::keys::{greatest_worth, keys, worth_measuring};
 use compare::search::state::State;
-use compare::search::{run, tested};
+use compare::search::{run, tested_books};
 use compare::{ask_by, kinds, query, road, yard, Asked, Found, Measuring};
 use proved::turns::{shortest, Call};
 
@@ -50,8 +53,9 @@ const WANTED_OF_SEARCHES: f64 = 0.8;
 /// Above the rows of checks and builds.
 const HEADING: &str = "call   leaf limit   proved ms   plain ms   ratio   wanted";
 /// The columns of a search's row: two lines of heading, and the width. "No ceiling" is the plain search with none ever.
-/// Walked on from are so many junctions for each measured yard, on average.
-const COLUMNS: [(&str, &str, usize); 16] = [
+/// By keys are the yards worth measuring, which the measured ones must be, and the plain time from the books to the
+/// keys of all wanted yards. Walked on from are so many junctions for each measured yard, on average.
+const COLUMNS: [(&str, &str, usize); 18] = [
     ("", "call", 6),
     ("", "crews", 5),
     ("", "yards", 5),
@@ -62,6 +66,8 @@ const COLUMNS: [(&str, &str, usize); 16] = [
     ("", "wanted", 6),
     ("no ceiling", "ms", 10),
     ("measured", "yards", 8),
+    ("by keys", "yards", 7),
+    ("keys", "ms", 6),
     ("walked on", "junctions", 9),
     ("no ceiling", "junctions", 10),
     ("brute", "ms", 6),
@@ -301,7 +307,8 @@ fn row(call: &str, leaf_limit: u32, ours: Call, theirs: Call) {
     println!("{call:<6} {leaf_limit:>10} {best:>11.2} {plain:>10.2} {ratio:>7.2} {WANTED:>8.1}");
 }
 
-/// One search's row, also beside the plain search with no ceiling and brute force. All must give the same list.
+/// One search's row, also beside the plain search with no ceiling, the keys and brute force. All must give the same
+/// list, and the keys the measured count.
 fn search_row(district: &District, tree: &[u8], row: &Row, peer: Option<&str>) {
     let (asked, wanted, yards) = (row.asked, district.wanted, district.wanted_yards());
     let books: [&[u8]; 3] = [&district.road, tree, &row.query];
@@ -310,19 +317,29 @@ fn search_row(district: &District, tree: &[u8], row: &Row, peer: Option<&str>) {
         |way, work: &mut [u32], list: &mut [u32]| ask_by(way, asked, wanted, books, work, list);
     let mut lists = [[0; 2 * YARDS as usize]; 4];
     let [one, other, third, fourth] = &mut lists;
-    let ours: Call = &mut |work| settled(proved::ask(asked, wanted, books, work, one));
+    let mut measured = 0;
+    let ours: Call = &mut |work| {
+        let found = proved::ask(asked, wanted, books, work, one);
+        measured = found.measured as usize;
+        settled(found)
+    };
     let theirs: Call = &mut |work| settled(by(Measuring::Walks, work, other));
     let whole: Call = &mut |work| settled(by(Measuring::WalksWithoutCeiling, work, third));
     let brute: Call = &mut |_| brute_force(asked, without_tree, fourth);
-    let [best, plain, whole, brute] = shortest(SEARCH_TURNS, [ours, theirs, whole, brute]);
+    let keyed: Call = &mut |_| all_keys(asked, wanted, books);
+    let [best, plain, whole, brute, keyed] =
+        shortest(SEARCH_TURNS, [ours, theirs, whole, brute, keyed]);
     assert!(lists.iter().all(|list| *list == lists[0]));
+    let list = &lists[0][..2 * row.listed];
+    let worth = worth(asked, wanted, books, list);
+    assert_eq!(measured, worth);
     let mut words = row.words();
     words.extend([milliseconds(best), milliseconds(plain), ratio(best, plain)]);
     words.extend([format!("{WANTED_OF_SEARCHES:.1}"), milliseconds(whole)]);
+    words.extend([measured.to_string(), worth.to_string(), milliseconds(keyed)]);
     words.extend(walks(asked, wanted, books));
     words.extend([milliseconds(brute), ratio(best, brute)]);
     if let Some(peer) = peer {
-        let list = &lists[0][..2 * row.listed];
         let lemon = by_peer(Path::new(peer), asked, without_tree, list);
         words.extend([milliseconds(lemon), ratio(best, lemon)]);
     }
@@ -339,22 +356,36 @@ fn ratio(time: f64, other: f64) -> String {
     format!("{:.2}", time / other)
 }
 
-/// How many yards a search measures, and how many junctions each one's walk walks on from, on average, with the ceiling
-/// and without.
-fn walks(asked: Asked, wanted: u8, books: [&[u8]; 3]) -> [String; 3] {
-    let last = |measuring| {
-        let results = 2 * YARDS as usize;
-        let search = tested(asked, wanted, books, WORK_WORDS, results).expect("sound books");
-        run(&search.by(measuring)).state
-    };
-    let each = |state: &State| state.walked_on as f64 / state.measured.len() as f64;
-    let walks = last(Measuring::Walks);
-    let whole = last(Measuring::WalksWithoutCeiling);
-    [
-        walks.measured.len().to_string(),
-        format!("{:.1}", each(&walks)),
-        format!("{:.1}", each(&whole)),
-    ]
+/// The plain computation of the keys of all wanted yards, from the books. The answer is the refusal.
+fn all_keys(asked: Asked, wanted: u8, books: [&[u8]; 3]) -> u32 {
+    match tested_books(asked, wanted, books) {
+        Ok(search) => {
+            black_box(keys(&search));
+            0
+        }
+        Err(refusal) => refusal,
+    }
+}
+
+/// How many yards are worth measuring by the keys, for a search that settles with this list.
+fn worth(asked: Asked, wanted: u8, books: [&[u8]; 3], list: &[u32]) -> usize {
+    let search = tested_books(asked, wanted, books).expect("sound books");
+    let pairs = list.chunks(2);
+    let pairs: Vec<(u64, u16)> = pairs.map(|p| (p[1].into(), p[0] as u16)).collect();
+    worth_measuring(&keys(&search), greatest_worth(&search, &pairs)).len()
+}
+
+/// How many junctions each measured yard's walk walks on from, on average, with the ceiling and without.
+fn walks(asked: Asked, wanted: u8, books: [&[u8]; 3]) -> [String; 2] {
+    [Measuring::Walks, Measuring::WalksWithoutCeiling].map(|measuring| {
+        let search = tested_books(asked, wanted, books).expect("sound books");
+        let State {
+            walked_on,
+            measured,
+            ..
+        } = run(&search.by(measuring)).state;
+        format!("{:.1}", walked_on as f64 / measured.len() as f64)
+    })
 }
 
 /// The shortest time of brute force by the LEMON peer, which must give the same list.
