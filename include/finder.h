@@ -128,10 +128,14 @@ struct finder_found {
  * FINDER_SETTLING_LIMIT. If no yard of it is wanted, the search is settled with no yard listed and no step taken.
  *
  * On a tree that passes the check beside these roads the list is exactly the first k of the tree's wanted yards in yard
- * order, or all of them if there are fewer: no wanted yard left out comes before one listed. A search itself doesn't
- * make the check's test 9. On a tree that a check would refuse by 9 the list's yards are distinct, wanted, in order and
- * with true distances, but a yard may be left out. So check a tree once before searching on it, and again beside other
- * roads. */
+ * order, or all of them if there are fewer: no wanted yard left out comes before one listed. The settled search has
+ * then measured exactly the wanted yards whose key isn't above the last listed distance, or all wanted yards if fewer
+ * than k are listed, each once. A yard's key follows from the tree, the roads and the query alone, and is never above
+ * its aggregate: on such a tree it is what the landmarks' distances say that the aggregate is at least.
+ *
+ * A search itself doesn't make the check's test 9. On a tree that a check would refuse by 9 the list's yards are
+ * distinct, wanted, in order and with true distances, but a yard may be left out. So check a tree once before searching
+ * on it, and again beside other roads. */
 struct finder_found finder_search(const uint8_t *road, size_t road_len, const uint8_t *tree, size_t tree_len,
                                   const uint8_t *query, size_t query_len, uint8_t wanted,
                                   uint32_t *work, size_t work_len, uint32_t *results, size_t results_len);
@@ -146,9 +150,10 @@ struct finder_found finder_search(const uint8_t *road, size_t road_len, const ui
  * one writes nothing. The limits that settle every search are the same. However many yards are wanted or within the
  * seconds, results holds two words for each yard of the tree, or the call is refused by 12.
  *
- * On a tree that passes the check beside these roads the list is exactly the tree's wanted yards within the seconds,
- * and no yard is measured whose bound exceeds them. On a tree that a check would refuse by 9 the list's yards are
- * distinct, wanted, in order, with true distances and within the seconds, but a yard may be left out. */
+ * On a tree that passes the check beside these roads the list is exactly the tree's wanted yards within the seconds.
+ * The settled search has then measured exactly the wanted yards whose key, as there, isn't above the seconds, each
+ * once; a spent one has measured none whose key is above them. On a tree that a check would refuse by 9 the list's
+ * yards are distinct, wanted, in order, with true distances and within the seconds, but a yard may be left out. */
 struct finder_found finder_within(const uint8_t *road, size_t road_len, const uint8_t *tree, size_t tree_len,
                                   const uint8_t *query, size_t query_len, uint8_t wanted, uint32_t seconds,
                                   uint32_t *work, size_t work_len, uint32_t *results, size_t results_len);

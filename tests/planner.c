@@ -189,6 +189,19 @@ static void search_ties(size_t length)
     query[LIMIT] = 4;
 }
 
+/* Searches for one yard and for four, more than there are: as many are measured as have a key that isn't above the last
+ * listed distance, and all of them if the list is short. For crews at 0 and 2 they are 5, 13 and 15 seconds away. */
+static void search_keys(const char *one, const char *four, size_t length)
+{
+    query[LIMIT] = 6;
+    query[K] = 1;
+    search(one, length, RESULT_WORDS);
+    query[K] = 4;
+    search(four, length, 2 * RESULT_WORDS);
+    query[K] = 2;
+    query[LIMIT] = 4;
+}
+
 /* The same tree with its landmark at junction 2, from where the yards are 3, 4 and 5 seconds away. For crews at 0 and
  * 2 each yard's bound is 5 then, and the yards are 5, 13 and 15 seconds away in sum. */
 static void move_landmark(void)
@@ -292,6 +305,7 @@ int main(void)
 
     search_all(length);
     search_ties(length);
+    search_keys("search for one yard, keys 5, 13 and 15", "search for four yards", length); /* measured 1, 3 */
 
     tree[length - 3] = 11; /* yard 4 is 10 seconds away from junction 0: a second too long */
     check("check of a false distance", length, FINDER_WORK_WORDS);
@@ -304,6 +318,7 @@ int main(void)
 
     move_landmark();
     check("check of another landmark", length, FINDER_WORK_WORDS);
+    search_keys("search for one yard, each key 5", "search for four yards", length); /* measured 3, 3 */
     within_all(length);
 
     length = build_kinds();
