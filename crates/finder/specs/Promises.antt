@@ -279,12 +279,12 @@ SearchSafe = (c : Call) (a : Lent) → SearchKept c a (foundOn c a) (callOn c a)
 --
 -- Any list of searches of both kinds, mixed, on one work area and one result area, which hold anything at first: each
 -- is given both areas as the one before left them, and brings its own books. `Promised`
--- (crates/search_call/specs/Demand.antt) has the demand's sentences: a settled search on a tree that passes lists exactly
--- the first k wanted yards, or exactly those within its drive, in yard order; none of these measured a yard whose bound
--- exceeds the last listed distance of a full list, or the seconds, and measured are exactly the wanted yards whose key
--- is not above these, each once, or all of them if the list is short of k; enough steps always settle; at the end the
--- result area is what it held at first with all the settled lists written over its start in turn. A tree book is asked
--- to be of bytes, which a lent book is.
+-- (crates/search_call/specs/Demand.antt) has the demand's sentences: a settled search on a tree that passes lists
+-- exactly the first k wanted yards, or exactly those within its drive, in yard order; none of these measured a yard
+-- whose bound exceeds the last listed distance of a full list, or the seconds; measured are exactly the wanted yards
+-- whose key is not above it, each once, or all of them if the list is short of k; enough steps always settle; at the
+-- end the result area is what it held at first with all the settled lists written over its start in turn. A tree book
+-- is asked to be of bytes, which a lent book is.
 abbrev pub SearchesTrue : Type 0
 SearchesTrue = (calls : List Call) → OfBytes calls → (first : Lent) → Promised calls first
 

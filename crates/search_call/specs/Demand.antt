@@ -129,8 +129,8 @@ pub record BoundIn (i : Instance) (y b : ℕ) : Type 0 where
 abbrev pub BoundOf : Search → ℕ → ℕ → Type 0
 BoundOf s y b = BoundIn (instanceOf s) y b
 
--- its key, "the greater of its bound and its leaf's first key, which is the greatest bound on the way from the root", by
--- the tree, the roads and the query alone
+-- its key, the greater of its bound and its leaf's first key, which is the greatest bound on the way from the root: a
+-- value of the tree, the roads and the query alone
 abbrev pub keyOf : Search → ℕ → ℕ
 keyOf s y = yardKey (instanceOf s) y
 
@@ -254,11 +254,11 @@ AnyTree = (calls : List Call) → OfBytes calls → (first : Areas) → (s : Sea
 
 -- what holds of keys beside demand 3
 pub record KeysTrue : Type 0 where
-  -- "by the tree, the roads and the query alone": neither the wanted byte nor the seconds matter
+  -- they are values of the tree, the roads and the query alone: neither the wanted byte nor the seconds matter
   pub alone : (road tree query : List ℕ) (v w : Want) (y : ℕ)
       → yardKey (searchIn road tree query v) y ≡ yardKey (searchIn road tree query w) y
-  -- what a run queues a yard with is this key, and a leaf's first key is the greatest bound on the way from the root, on
-  -- any tree that the search's own tests accept
+  -- on any tree that the search's own tests accept: what a run queues a yard with is its key, and a leaf's first key is
+  -- the greatest bound on the way from the root
   pub queued : (s : Search) → Bytes (s .call .tree) → NotRefused s → KeysOf (instanceOf s)
   -- on a tree that passes, no bound on the way to a wanted yard is above its own: its key is its bound
   pub bounds : (s : Search) → Bytes (s .call .tree) → OnPassing s → NotRefused s → (y b : ℕ) → Mem y (wantedYards s)

@@ -18,11 +18,11 @@ use Rattle.search_rules.specs.Keeping.{keep, enough, keepBy, enoughBy}
 use Rattle.search_rules.specs.Step.{left, noElement, againKey, passed, waiting, nextPlace, nextF, queueChildren, openInner, queueNext, closeLeaf, openLeaf}
 use Rattle.search_rules.specs.Step.{takeRegion, takeYard, nextRegion, nextYard, leastKey, step, settled, rootKeys, startSearch}
 use Rattle.search_rules.specs.Run.{advance, run, report, answer}
-use Rattle.search_rules.specs.Examples.{onChain, at, found, leafOf, three, from0, near, six, driven, lists, measuredAfter, regionKeysAfter, yardKeysAfter}
-use Rattle.search_rules.specs.KeyExamples.{falseSix, WorkedKeys}
+use Rattle.search_rules.specs.Examples.{onChain, at, found, leafOf, three, from0, near, sixFor, six, driven, lists, measuredAfter, regionKeysAfter, yardKeysAfter}
+use Rattle.search_rules.specs.KeyExamples.{seven, WorkedKeys}
 
 pub worked-keys : WorkedKeys
-unfolding falseSix onChain at found leafOf three from0 near six driven lists measuredAfter regionKeysAfter yardKeysAfter onWay greatestBound firstKey isHome homeFrom home
+unfolding seven onChain at found leafOf three from0 near sixFor six driven lists measuredAfter regionKeysAfter yardKeysAfter onWay greatestBound firstKey isHome homeFrom home
     boundIn yardKey choose leafMark innerMark firstDistance lastFrom
     noRegion regionAt noMark all comes names once inRange namedBy firstList agreeing sameYards leafOk childFits siblings subtree endOf starts childrenOf size keepIf children
     marks leaf absDiff combine aggregate greatestOf leastFrom leastOf crewBound tableAt lower upper over total furthest markBound bound weight best bestOf chosen
@@ -32,6 +32,10 @@ worked-keys = record {
   first-keys = refl;
   homes = refl;
   keys = refl;
+  bounds-of-seven = refl;
+  first-keys-of-seven = refl;
+  beside-the-way = refl;
+  keys-beside = refl;
   false-keys = refl;
   false-queue = refl;
   first-not-current = refl;

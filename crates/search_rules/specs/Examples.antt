@@ -67,16 +67,20 @@ heavy code = onChain (0 ∷ 6 ∷ 10 ∷ []) code 1 (0 ∷ 0 ∷ 2 ∷ []) 2
     (leafOf 0 3 (leafMark 0 (at 6 1 ∷ at 10 2 ∷ []) ∷ leafMark 1 (at 0 1 ∷ at 4 2 ∷ []) ∷ []) (at 6 1 ∷ at 10 2 ∷ [])
     ∷ [])
 
--- A chain of six, seconds 2, 4, 4, 2, 8: junctions at 0, 2, 6, 10, 12 and 20. Crew 1, sum, k 1. The root's landmark is
--- junction 0, with A 10 and B 20; its children are a leaf with yards 3 and 4, whose landmark is junction 2, and a leaf
--- with yard 5, its own landmark.
+-- A chain of six, seconds 2, 4, 4, 2, 8: junctions at 0, 2, 6, 10, 12 and 20. One crew, sum, k 1. The root's landmark
+-- is junction 0, with some A, truly 10, and B 20; its children are a leaf with yards 3 and 4, whose landmark is
+-- junction 2, and a leaf with yard 5, its own landmark.
 unfoldable pub near : Mark
 near = leafMark 2 (at 4 3 ∷ at 6 4 ∷ [])
 
-unfoldable pub six : Instance
-six = onChain (0 ∷ 2 ∷ 6 ∷ 10 ∷ 12 ∷ 20 ∷ []) 0 1 (1 ∷ []) 3
-    (record { first = 0; after = 6; children = 2; yards = 3; kinds = 255; marks = innerMark 0 10 20 ∷ [] }
+unfoldable pub sixFor : (crew least : ℕ) → Instance
+sixFor crew least = onChain (0 ∷ 2 ∷ 6 ∷ 10 ∷ 12 ∷ 20 ∷ []) 0 1 (crew ∷ []) 3
+    (record { first = 0; after = 6; children = 2; yards = 3; kinds = 255; marks = innerMark 0 least 20 ∷ [] }
     ∷ leafOf 0 5 (near ∷ []) (at 4 3 ∷ at 6 4 ∷ []) ∷ leafOf 5 6 (leafMark 5 (at 0 5 ∷ []) ∷ []) (at 0 5 ∷ []) ∷ [])
+
+-- for crew 1, with the true A
+unfoldable pub six : Instance
+six = sixFor 1 10
 
 -- A chain of three, seconds 1 and 1, the crew at one end and the one yard at the other, the landmark between them: the
 -- yard's bound is |1 − 1|, and its aggregate 2.
