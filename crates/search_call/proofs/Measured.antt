@@ -3,16 +3,14 @@ use mathlib.Core.Path.{_≡_, sym, ap, _∙_}
 use mathlib.Core.Bool.{Bool, true}
 use mathlib.Core.List.{List, List·Memᴰ as Mem}
 use Prim.Native.Nat.{ℕ, _≤_, _<_}
-use native.Mathlib.Omega.{arith}
 use lib.ListN.{length}
-use lib.Dec.{T, leb, leb→le, le→leb}
+use lib.Dec.{T, leb→le, le→leb}
 use Rattle.book.specs.Lists.{Distinct, keepIf}
 use Rattle.book.proofs.Lists.{kept-from, kept-in, kept-distinct, kept-all}
 use Rattle.check_rules.specs.Facts.{Same}
 use Rattle.search_rules.specs.Books.{Passed}
-use Rattle.search_rules.specs.Order.{Entry}
 use Rattle.search_rules.specs.Run.{run, answer}
-use Rattle.search_rules.specs.Theorems.{NotPast, TreeYards}
+use Rattle.search_rules.specs.Theorems.{NotPast}
 use Rattle.search_rules.proofs.Theorems.{decided, answer-settled, answer-measured, answer-listed}
 use Rattle.search_rules.proofs.Keys.{key-bound}
 use Rattle.search_rules.proofs.Level.{run-within, run-measured, run-bound-within}

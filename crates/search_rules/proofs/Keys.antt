@@ -1,19 +1,18 @@
 -- A run's keys are values of the tree, the roads and the query: the first keys, and the yards'. Assumes nothing.
 use mathlib.Core.Path.{_≡_, refl, sym, ap, _∙_}
-use mathlib.Core.Logic.{_⊎_, inl, inr, _≢_}
-use mathlib.Core.Bool.{Bool, true, not, _&&_}
+use mathlib.Core.Logic.{_⊎_, inl, inr}
+use mathlib.Core.Bool.{true, not}
 use mathlib.Core.List.{List, [], _∷_, List·Memᴰ as Mem, List·Memᴰ·head as head, List·Memᴰ·tail as tail, List·Memᴰ·not-nil as not-nil}
 use mathlib.Core.List.{List·Memᴰ·cases-cons as cases-cons}
 use mathlib.Core.Option.{Option, none, some}
 use Prim.Native.Nat.{ℕ, zero, suc, _+_, _≤_, _<_, max}
 use native.Mathlib.Decide.{ℕ-discrete}
 use native.Mathlib.Omega.{arith}
-use lib.ListN.{set}
 use lib.Dec.{T, T-not, eqb, eqb→eq}
 use Rattle.book.specs.Choose.{choose}
-use Rattle.book.proofs.Choosing.{choose-case, choose-yes, choose-no, and-left, and-right, and-both}
-use Rattle.book.proofs.Lists.{eq→eqb, ne→neqb}
-use Rattle.tree_layout.specs.Values.{Element, Mark}
+use Rattle.book.proofs.Choosing.{choose-case, choose-yes, and-left, and-right, and-both}
+use Rattle.book.proofs.Lists.{eq→eqb}
+use Rattle.tree_layout.specs.Values.{Element}
 use Rattle.tree_leaf.specs.Leaf.{names}
 use Rattle.tree_leaf.proofs.Named.{names-mem, mem-names, yards-of, yards-from}
 use Rattle.tree.specs.Yards.{onWay}
@@ -23,13 +22,12 @@ use Rattle.search_rules.specs.Rule.{Rule}
 use Rattle.search_rules.specs.Books.{searchOf}
 use Rattle.search_rules.specs.Bounds.{tableAt, lower, upper, over, markBound, bound, weight, best, bestOf, chosen, listAbsDiff, yardBound}
 use Rattle.search_rules.specs.Keys.{greatestBound, firstKey, isHome, homeFrom, home, boundIn, yardKey}
-use Rattle.search_rules.specs.Queue.{unqueued, wordAt}
-use Rattle.search_rules.specs.Step.{SearchState, passed, againKey, nextF, openInner, queueNext, closeLeaf, takeYard, step, settled, startSearch}
+use Rattle.search_rules.specs.Step.{SearchState, passed, openInner, queueNext, closeLeaf, takeYard, step, settled, startSearch}
 use Rattle.search_rules.specs.Run.{Outcome, advance, run}
 use Rattle.search_rules.specs.Facts.{Listed, Below, inside, under, Shape, WellFormed, SoundInstance}
 use Rattle.search_rules.specs.Theorems.{KeysOf}
 use Rattle.search_rules.proofs.Bounds.{chosen-mem, lower-under, bound-under}
-use Rattle.search_rules.proofs.Queue.{seen, key, key-word, word-key, key-eq, no-key, Entered, queued-child, kept}
+use Rattle.search_rules.proofs.Queue.{key, word-key, key-eq, no-key, Entered, queued-child, kept}
 use Rattle.search_rules.proofs.Stepping.{step-case}
 use Rattle.search_rules.proofs.Kept.{Kept, InnerKey, child, taken, same, inner-key, inner-first, region-range, leaf-yard-key, leaf-region-key, closed-key}
 use Rattle.search_rules.proofs.Kept.{taken-yard-key, region-case, start-key, start-yard, run-kept}
@@ -37,6 +35,11 @@ use Rattle.search_rules.proofs.Kept.{taken-yard-key, region-case, start
 -- ---- the greatest bound on the way
 
 module _ (i : Instance) where
+  -- a yard's key, by its leaf
+  key-is : (y : ℕ) → yardKey i y ≡ max (boundIn i (chosen i (home i y)) (chosen i (home i y) .list) y) (firstKey i (home i y))
+  unfolding yardKey
+  key-is y = refl
+
   -- no bound on the way is above it
   greatest-up : (n s r v : ℕ) → s ≤ v → v < s + n → T (onWay (i .tree .regions) v r) → bound i v ≤ greatestBound i n s r
   unfolding greatestBound
@@ -140,8 +143,7 @@ module _ (i : Instance) where
 
       -- its key
       pub yard-is : yardKey i (e .yard) ≡ max (yardBound i (chosen i r) e) (firstKey i r)
-      unfolding yardKey
-      yard-is = rw (home-is, bound-from (chosen i r .list) k (λ g m. m)) refl
+      yard-is = key-is (e .yard) ∙ rw (home-is, bound-from (chosen i r .list) k (λ g m. m)) refl
 
     -- the key of a yard below a region is not below the region's first key
     pub below-up : {r y : ℕ} → r < size i → Below i r y → firstKey i r ≤ yardKey i y

@@ -1,8 +1,7 @@
 -- Keys and measured yards of small districts, each value computed by hand from the paper. Assumes nothing: these are
 -- definitions and statements.
 use mathlib.Core.Path.{_≡_}
-use mathlib.Core.List.{List, [], _∷_, _++_}
-use Prim.Native.Nat.{ℕ}
+use mathlib.Core.List.{[], _∷_, _++_}
 use Rattle.tree_layout.specs.Values.{innerMark, leafMark}
 use Rattle.search_rules.specs.Instance.{Instance}
 use Rattle.search_rules.specs.Bounds.{bound}
