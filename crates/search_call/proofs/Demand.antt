@@ -25,7 +25,8 @@ use Rattle.search_rules.proofs.Books.{accepted-of}
 use Rattle.search_rules.proofs.ByKinds.{asked-in, asked-out, asked-held}
 use Rattle.search_rules.proofs.Asked.{asked-there, asked-ends, asked-settles}
 use Rattle.search_rules.proofs.Theorems.{decided, answer-taken, answer-measured, answer-listing, answer-spent, words-length, unrooted-answer}
-use Rattle.search_rules.proofs.Keys.{key-alone, keys-of}
+use Rattle.search_rules.proofs.Keys.{key-alone}
+use Rattle.search_rules.proofs.Keyed.{keys-of}
 use Rattle.search_rules.proofs.Order.{before-not}
 use Rattle.search_rules.proofs.Found.{entry-same}
 use Rattle.search_rules.proofs.Walks.{yards-distinct, entry-true, first-yards, drive-yards}

@@ -13,8 +13,8 @@ use Rattle.search_rules.specs.Run.{run, answer}
 use Rattle.search_rules.specs.Theorems.{NotPast}
 use Rattle.search_rules.proofs.Theorems.{decided, answer-settled, answer-measured, answer-listed}
 use Rattle.search_rules.proofs.Keys.{key-bound}
-use Rattle.search_rules.proofs.Level.{run-within, run-measured, run-bound-within}
-use Rattle.search_rules.proofs.Found.{same-length}
+use Rattle.search_rules.proofs.Level.{run-within, run-bound-within}
+use Rattle.search_rules.proofs.Found.{same-length, run-measured}
 use Rattle.search_rules.proofs.Fronts.{nearest-not-past, nearest-within, nearest-short, drive-not-past, drive-within}
 use Rattle.search_call.specs.Call.{Search}
 use Rattle.search_call.specs.Demand.{OnPassing, NotRefused, ForYards, ForDrive, k, crews, limit, wantedYards, instanceOf, list, Full, lastDistance, measured}
@@ -77,7 +77,7 @@ module _ (s : Search) (p : Passed (road s) (tree s) (crews s)) where
           to = λ y m. kept-in worth (wantedYards s) y (covers s p y (decided (instanceOf s) (well s p) (limit s) .measured-in y m))
               (to y (rw held-is (run-within (instanceOf s) (sound s p q) (limit s) y m)));
           from = λ y m. let x = kept-from worth (wantedYards s) y m in
-              run-measured (instanceOf s) (sound s p q) (limit s) (rw answer-settled at t) y (reaches s p q .below y (x .0)) (rw held-is at (from y (x .1)));
+              run-measured (instanceOf s) (well s p) (limit s) (rw answer-settled at t) y (reaches s p q .below y (x .0)) (rw held-is at (from y (x .1)));
         }
 
     -- of a full list by its last distance

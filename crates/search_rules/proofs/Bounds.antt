@@ -5,7 +5,7 @@ use mathlib.Core.Bool.{Bool, true, false, not}
 use mathlib.Core.List.{List, [], _∷_, List·Memᴰ as Mem, List·Memᴰ·head as head, List·Memᴰ·tail as tail}
 use Prim.Native.Nat.{ℕ, _+_, _-_, _≤_, _<_, max}
 use native.Mathlib.Omega.{arith}
-use lib.Dec.{T, leb, eqb}
+use lib.Dec.{T, T-not, leb, eqb}
 use Rattle.book.specs.Choose.{choose}
 use Rattle.book.proofs.Choosing.{choose-case, choose-yes, choose-no}
 use Rattle.tree_layout.specs.Values.{Element, Mark}
@@ -13,7 +13,7 @@ use Rattle.search_rules.specs.Instance.{Instance, children, marks, leaf}
 use Rattle.search_rules.specs.Bounds.{absDiff, combine, aggregate, greatestOf, leastFrom, leastOf, crewBound, tableAt, lower, upper, over, total}
 use Rattle.search_rules.specs.Bounds.{markBound}
 use Rattle.search_rules.specs.Bounds.{bound, best, bestOf, chosen, listAbsDiff, f, yardBound}
-use Rattle.search_rules.specs.Facts.{Below, inside, under, Shape, Triangle, Symmetric, Truth}
+use Rattle.search_rules.specs.Facts.{Listed, Below, inside, under, Shape, Triangle, Symmetric, Truth}
 use Rattle.search_rules.proofs.Choices.{choose-two}
 
 -- ---- the greatest, the least, the aggregate
@@ -124,6 +124,15 @@ module _ (i : Instance) where
   pub below-wanted : {r y : ℕ} → Below i r y → T (i .wants y)
   below-wanted (inside m a l e k w) = w
   below-wanted (under c a l e b) = below-wanted b
+
+  -- what is below an inner region is below a child, and what is below a leaf stands in one of its lists
+  pub open-below : {r y : ℕ} → T (not (leaf i r)) → Below i r y → (c : ℕ) × Mem c (children i r) × Below i c y
+  open-below {r} n (inside m a l k x w) = absurd (T-not (leaf i r) n l)
+  open-below n (under c a l k b) = (c, k, b)
+
+  pub leaf-below : {r y : ℕ} → T (leaf i r) → Below i r y → (m : Mark) × Mem m (marks i r) × Listed m y
+  leaf-below l (inside m a t k x w) = (m, k, x)
+  leaf-below {r} l (under c a n k b) = absurd (T-not (leaf i r) n l)
 
   -- a landmark's bound is by its least and its greatest, in a leaf its whole list's first and last, whatever is wanted
   pub mark-bound-is : (q : ℕ) (m : Mark)

@@ -1,4 +1,5 @@
--- A settled search holds exactly what its rule asks for of the tree's yards, in yard order. Assumes nothing.
+-- A settled search has measured every yard whose key is not past what ends it, and holds exactly what its rule asks for of the tree's yards, in yard order.
+-- Assumes nothing.
 use mathlib.Core.Path.{_≡_, refl, sym, ap, _∙_}
 use mathlib.Core.Logic.{_⊎_, inl, inr, _≢_}
 use mathlib.Core.List.{List, [], _∷_, List·Memᴰ as Mem, List·Memᴰ·head as head, List·Memᴰ·tail as tail, List·Memᴰ·not-nil as not-nil}
@@ -12,18 +13,21 @@ use Rattle.search_rules.specs.Order.{Entry, YardBefore}
 use Rattle.search_rules.specs.Rule.{Rule, nearest, inDrive}
 use Rattle.search_rules.specs.Instance.{Instance}
 use Rattle.search_rules.specs.Bounds.{total, furthest}
+use Rattle.search_rules.specs.Keys.{yardKey}
 use Rattle.search_rules.specs.Held.{entry, ranked}
 use Rattle.search_rules.specs.Keeping.{front}
 use Rattle.search_rules.specs.Step.{SearchState, settled}
 use Rattle.search_rules.specs.Run.{run}
 use Rattle.search_rules.specs.Facts.{Below, WellFormed, SoundInstance}
-use Rattle.search_rules.specs.Theorems.{SortedBy, Sorted, Out, LeftOut, Allowed, TreeYards, Listing, Complete}
+use Rattle.search_rules.specs.Theorems.{SortedBy, Sorted, Out, LeftOut, Allowed, NotPast, TreeYards, Listing, Complete}
 use Rattle.search_rules.proofs.Order.{before-not}
 use Rattle.search_rules.proofs.Held.{ranked-mem, ranked-in, ranked-sorted, greatestHeld-le}
 use Rattle.search_rules.proofs.Fronts.{front-mem, front-sorted, front-allowed, front-rest}
-use Rattle.search_rules.proofs.Stepping.{Past, past-more, past-out, settled-regions, settled-yards}
+use Rattle.search_rules.proofs.Stepping.{Past, past-more, past-not, past-out, settled-regions, settled-yards}
 use Rattle.search_rules.proofs.Kept.{Kept, run-kept}
-use Rattle.search_rules.proofs.Low.{Low, Cover, is-measured, in-queue, below-queued, run-low}
+use Rattle.search_rules.proofs.Keys.{key-low}
+use Rattle.search_rules.proofs.Keyed.{Keyed, run-keyed, waits}
+use Rattle.search_rules.proofs.Cover.{Cover, is-measured, in-queue, below-queued, run-covers}
 
 -- ---- distinct members of another list are no more than it has
 
@@ -159,28 +163,6 @@ module _ (i : Instance) where
       sort : Sorted (front (i .rule) all)
       sort = front-sorted (i .rule) all (ranked-sorted i (st .measured) (was .once))
 
-  -- A yard that is measured, or lies past what ends the search.
-  settled-cover : (st : SearchState) → Kept i st → Low i st → T (settled i st) → (y : ℕ) → Below i 0 y → Mem y (st .measured) ⊎ Past (i .rule) (st .held) (total
-      i y)
-  settled-cover st was low t y below = go (low .cover y below)
-    where
-      go : Cover i st y → Mem y (st .measured) ⊎ Past (i .rule) (st .held) (total i y)
-      go (is-measured k) = inl k
-      go (in-queue a e) = inr (past-more (i .rule) (st .held) a (total i y) (low .yard-low y a e) (settled-yards i st (was .sizes) t y a e))
-      go (below-queued r a e b n) =
-          inr (past-more (i .rule) (st .held) a (total i y) (low .region-low r a y e b n) (settled-regions i st (was .sizes) t r a e))
-
-  -- a yard of the tree is held, or the rule leaves it out
-  module _ (st : SearchState) (was : Kept i st) (low : Low i st) (t : T (settled i st)) where
-    settled-rest : (y : ℕ) → Below i 0 y → Mem (entry i y) (st .held) ⊎ LeftOut (i .rule) (st .held) (entry i y)
-    unfolding entry
-    settled-rest y below = place (settled-cover st was low t y below)
-      where
-        place : Mem y (st .measured) ⊎ Past (i .rule) (st .held) (total i y) → Mem (entry i y) (st .held) ⊎ LeftOut (i .rule) (st .held) (entry i y)
-        place (inl k) = rw (was .first-ranked) (front-rest (i .rule) (entry i y) (ranked i (st .measured)) (ranked-sorted i (st .measured) (was .once))
-            (ranked-in i y (st .measured) k))
-        place (inr p) = inr (past-out (i .rule) (st .held) (entry i y) (kept-listing st was .greatest) p)
-
   -- a yard of the tree, with its aggregate
   abbrev TreeYard : Entry → Type 0
   TreeYard h = (h ≡ entry i (h .yard)) × Below i 0 (h .yard)
@@ -213,17 +195,62 @@ module _ (i : Instance) where
       sort : Sorted all
       sort = ranked-sorted i ys (tree .distinct)
 
-  settled-complete : (st : SearchState) → Kept i st → Low i st → T (settled i st) → Complete i (st .held)
-  settled-complete st was low t = record {
-    rest = settled-rest st was low t;
-    exact = λ ys tree. asked-one TreeYard (i .rule) (st .held) (front (i .rule) (ranked i ys)) (listing-asked (st .held) (kept-listing st was) (settled-rest st
-        was low t)) (ranked-asked ys tree);
+  settled-complete : (st : SearchState) → Kept i st → ((y : ℕ) → Below i 0 y → Mem (entry i y) (st .held) ⊎ LeftOut (i .rule) (st .held) (entry i y))
+      → Complete i (st .held)
+  settled-complete st was rest = record {
+    rest = rest;
+    exact = λ ys tree. asked-one TreeYard (i .rule) (st .held) (front (i .rule) (ranked i ys)) (listing-asked (st .held) (kept-listing st was) rest)
+        (ranked-asked ys tree);
   }
 
 -- whatever the limit and whatever the tree's numbers say
 pub run-listing : (i : Instance) → WellFormed i → (limit : ℕ) → Listing i (run i limit .state .held)
 run-listing i well limit = kept-listing i (run i limit .state) (run-kept i well limit)
 
--- a settled search on a true tree
+-- ---- a settled search
+
+module _ (i : Instance) (well : WellFormed i) (limit : ℕ) (t : T (settled i (run i limit .state))) where
+  abbrev st : SearchState
+  st = run i limit .state
+
+  was : Kept i st
+  was = run-kept i well limit
+
+  -- A yard that isn't measured has a key past what ends the search: it is queued with it, or it waits below a queued region of no greater key.
+  settled-keys : (y : ℕ) → Below i 0 y → Mem y (st .measured) ⊎ Past (i .rule) (st .held) (yardKey i y)
+  settled-keys y below = go (run-covers i well limit y below)
+    where
+      keyed : Keyed i st
+      keyed = run-keyed i well limit
+
+      go : Cover i st y → Mem y (st .measured) ⊎ Past (i .rule) (st .held) (yardKey i y)
+      go (is-measured k) = inl k
+      go (in-queue a e) = inr (rw (← keyed .queued-is y a e) (settled-yards i st (was .sizes) t y a e))
+      go (below-queued r a e b n) =
+          inr (past-more (i .rule) (st .held) a (yardKey i y) (waits i well st was keyed r a y e b n) (settled-regions i st (was .sizes) t r a e))
+
+  -- every wanted yard whose key is not past what ends the search is measured, whatever the tree's numbers say
+  pub run-measured : (y : ℕ) → Below i 0 y → NotPast (i .rule) (run i limit .state .held) (yardKey i y) → Mem y (run i limit .state .measured)
+  run-measured y below within = go (settled-keys y below)
+    where
+      go : Mem y (st .measured) ⊎ Past (i .rule) (st .held) (yardKey i y) → Mem y (st .measured)
+      go (inl k) = k
+      go (inr p) = absurd (past-not (i .rule) (st .held) (yardKey i y) p within)
+
+-- on a true tree a yard is held, or the rule leaves it out
 pub run-complete : (i : Instance) → SoundInstance i → (limit : ℕ) → T (settled i (run i limit .state)) → Complete i (run i limit .state .held)
-run-complete i sound limit t = settled-complete i (run i limit .state) (run-kept i (sound .well) limit) (run-low i sound limit) t
+unfolding entry
+run-complete i sound limit t = settled-complete i st was (λ y below. place y below (settled-keys i (sound .well) limit t y below))
+  where
+    st : SearchState
+    st = run i limit .state
+
+    was : Kept i st
+    was = run-kept i (sound .well) limit
+
+    place : (y : ℕ) → Below i 0 y → Mem y (st .measured) ⊎ Past (i .rule) (st .held) (yardKey i y)
+        → Mem (entry i y) (st .held) ⊎ LeftOut (i .rule) (st .held) (entry i y)
+    place y below (inl k) = rw (was .first-ranked) (front-rest (i .rule) (entry i y) (ranked i (st .measured)) (ranked-sorted i (st .measured) (was .once))
+        (ranked-in i y (st .measured) k))
+    place y below (inr p) = inr (past-out (i .rule) (st .held) (entry i y) (kept-listing i st was .greatest)
+        (past-more (i .rule) (st .held) (yardKey i y) (total i y) (key-low i sound y below) p))

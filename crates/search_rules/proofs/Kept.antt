@@ -97,7 +97,7 @@ module _ (i : Instance) (gone : List Bool) (y : ℕ) (h : y < length gone) where
   pub stays-before : (v : ℕ) → T (not (passed i (set gone y true) v)) → T (not (passed i gone v))
   stays-before v t = stays-by i gone v (left-not gone y h v (stays-left i (set gone y true) v t)) (stays-wanted i (set gone y true) v t)
 
-pub first-of : (o : Option ℕ) → T (has o) → (a : ℕ) × (o ≡ some a)
+first-of : (o : Option ℕ) → T (has o) → (a : ℕ) × (o ≡ some a)
 first-of none t = absurd t
 first-of (some a) t = (a, refl)
 

@@ -1,10 +1,9 @@
--- A run's keys are values of the tree, the roads and the query: the first keys, and the yards'. Assumes nothing.
+-- The keys of regions and yards as values of the tree, the roads and the query. Assumes nothing.
 use mathlib.Core.Path.{_≡_, refl, sym, ap, _∙_}
 use mathlib.Core.Logic.{_⊎_, inl, inr}
 use mathlib.Core.Bool.{true, not}
 use mathlib.Core.List.{List, [], _∷_, List·Memᴰ as Mem, List·Memᴰ·head as head, List·Memᴰ·tail as tail, List·Memᴰ·not-nil as not-nil}
 use mathlib.Core.List.{List·Memᴰ·cases-cons as cases-cons}
-use mathlib.Core.Option.{Option, none, some}
 use Prim.Native.Nat.{ℕ, zero, suc, _+_, _≤_, _<_, max}
 use native.Mathlib.Decide.{ℕ-discrete}
 use native.Mathlib.Omega.{arith}
@@ -20,17 +19,10 @@ use Rattle.tree.proofs.Reaching.{way-is}
 use Rattle.search_rules.specs.Instance.{Instance, size, children, marks, leaf}
 use Rattle.search_rules.specs.Rule.{Rule}
 use Rattle.search_rules.specs.Books.{searchOf}
-use Rattle.search_rules.specs.Bounds.{tableAt, lower, upper, over, markBound, bound, weight, best, bestOf, chosen, listAbsDiff, yardBound}
+use Rattle.search_rules.specs.Bounds.{tableAt, lower, upper, over, total, markBound, bound, weight, best, bestOf, chosen, listAbsDiff, yardBound}
 use Rattle.search_rules.specs.Keys.{greatestBound, firstKey, isHome, homeFrom, home, boundIn, yardKey}
-use Rattle.search_rules.specs.Step.{SearchState, passed, openInner, queueNext, closeLeaf, takeYard, step, settled, startSearch}
-use Rattle.search_rules.specs.Run.{Outcome, advance, run}
-use Rattle.search_rules.specs.Facts.{Listed, Below, inside, under, Shape, WellFormed, SoundInstance}
-use Rattle.search_rules.specs.Theorems.{KeysOf}
-use Rattle.search_rules.proofs.Bounds.{chosen-mem, lower-under, bound-under}
-use Rattle.search_rules.proofs.Queue.{key, word-key, key-eq, no-key, Entered, queued-child, kept}
-use Rattle.search_rules.proofs.Stepping.{step-case}
-use Rattle.search_rules.proofs.Kept.{Kept, InnerKey, child, taken, same, inner-key, inner-first, region-range, leaf-yard-key, leaf-region-key, closed-key}
-use Rattle.search_rules.proofs.Kept.{taken-yard-key, region-case, start-key, start-yard, run-kept}
+use Rattle.search_rules.specs.Facts.{Listed, Below, inside, under, Shape, SoundInstance}
+use Rattle.search_rules.proofs.Bounds.{chosen-mem, lower-under, bound-under, yardBound-le}
 
 -- ---- the greatest bound on the way
 
@@ -181,6 +173,23 @@ module _ (i : Instance) (sound : SoundInstance i) where
     lower-under i (chosen i r) e,
   )
 
+  -- which is not above its aggregate
+  pub key-low : (y : ℕ) → Below i 0 y → yardKey i y ≤ total i y
+  key-low y below = go (shape .root) below
+    where
+      go : {r : ℕ} → r < size i → Below i r y → yardKey i y ≤ total i y
+      go {r} h (inside m a l k x w) =
+          let c = chosen-mem i r (shape .marked r h) in
+          let z : Listed (chosen i r) y = shape .alike r m (chosen i r) y l k c x in
+          omega (
+            arith,
+            ap (yardKey i) (z .names),
+            key-bound r (z .element) h l (z .mem) (rw (z .names) below),
+            yardBound-le i shape (sound .metric) (sound .symmetric) (sound .truth) r (chosen i r) (z .element) l c (z .mem),
+            ap (total i) (z .names),
+          )
+      go {r} h (under c a l k b) = go (shape .range r c k) b
+
 -- ---- a search of two books: what is asked for beside the aggregate matters to no key
 
 pub key-alone : (road tree crews : List ℕ) (code : ℕ) (r s : Rule) (v w : ℕ) (y : ℕ)
@@ -188,101 +197,3 @@ pub key-alone : (road tree crews : List ℕ) (code : ℕ) (r s : Rule) (v w : �
     ≡ yardKey (searchOf road tree (record { code = code; rule = s; wanted = w }) crews) y
 unfolding searchOf yardKey home homeFrom isHome boundIn firstKey greatestBound size leaf chosen bestOf best weight lower upper tableAt marks yardBound listAbsDiff over bound markBound
 key-alone road tree crews code r s v w y = refl
-
--- ---- a run's keys
-
--- what is queued for the first time, an inner region that is queued, and a queued yard have the key of their own
-pub record Keyed (i : Instance) (st : SearchState) : Type 0 where
-  pub first-is : (r a : ℕ) → key (st .firsts) r ≡ some a → a ≡ firstKey i r
-  pub inner-is : (r a : ℕ) → T (not (leaf i r)) → key (st .regionKeys) r ≡ some a → a ≡ firstKey i r
-  pub queued-is : (y a : ℕ) → key (st .yardKeys) y ≡ some a → a ≡ yardKey i y
-
-module _ (i : Instance) (well : WellFormed i) where
-  module _ (st : SearchState) (was : Kept i st) (keyed : Keyed i st) where
-    module _ (r a : ℕ) (at : key (st .regionKeys) r ≡ some a) where
-      inner-keyed : T (not (leaf i r)) → Keyed i (openInner i st r a)
-      unfolding openInner
-      inner-keyed inner = record {
-        first-is = λ v b e. first v b (inner-first i well st was r a at v) e;
-        inner-is = λ v b n e. queued v b n (inner-key i well st was r a at v) e;
-        queued-is = keyed .queued-is;
-      }
-        where
-          raised : (v b : ℕ) → Mem v (children i r) → _≡_ {A = Option ℕ} (some (max (bound i v) a)) (some b) → b ≡ firstKey i v
-          raised v b k e = omega (arith, key-eq e, keyed .inner-is r a inner at, first-child i (well .shape) r v k)
-
-          first : (v b : ℕ) {o : Option ℕ} → Entered i a (children i r) (st .firsts) v o → o ≡ some b → b ≡ firstKey i v
-          first v b (queued-child k) e = raised v b k e
-          first v b (kept n q) e = keyed .first-is v b (sym q ∙ e)
-
-          queued : (v b : ℕ) → T (not (leaf i v)) → {o : Option ℕ} → InnerKey i well st was r a at v o → o ≡ some b → b ≡ firstKey i v
-          queued v b n (child k) e = raised v b k e
-          queued v b n (taken p) e = absurd (no-key e)
-          queued v b n (same p m q) e = keyed .inner-is v b n (sym q ∙ e)
-
-      leaf-keyed : (is-leaf : T (leaf i r)) (first : ℕ) → key (st .firsts) r ≡ some first → (e : Element) → (mem : Mem e (chosen i r .list))
-          → T (not (passed i (st .gone) (e .yard)))
-          → Keyed i (queueNext i st r first (chosen i r) e)
-      unfolding queueNext
-      leaf-keyed is-leaf first first-is e mem stays = record {
-        first-is = keyed .first-is;
-        inner-is = λ v b n. leaf-region-key i well st was r a at is-leaf first first-is e mem stays (λ o. o ≡ some b → b ≡ firstKey i v) v
-            (λ p. absurd (T-not (leaf i v) n (rw p is-leaf))) (λ p q. keyed .inner-is v b n q);
-        queued-is = λ v b. leaf-yard-key i well st was r a at is-leaf first first-is e mem stays (λ o. o ≡ some b → b ≡ yardKey i v) v
-            (λ p q. rw p (omega (
-              arith,
-              key-eq q,
-              keyed .first-is r first first-is,
-              yard-is i (well .shape) r e (region-range i well st was r at) is-leaf mem,
-            )))
-            (λ p q. keyed .queued-is v b q);
-      }
-
-      closed-keyed : Keyed i (closeLeaf i st r)
-      unfolding closeLeaf
-      closed-keyed = record {
-        first-is = keyed .first-is;
-        inner-is = λ v b n. closed-key i well st was r a at (λ o. o ≡ some b → b ≡ firstKey i v) v (λ p q. absurd (no-key q)) (λ p q. keyed .inner-is v b n q);
-        queued-is = keyed .queued-is;
-      }
-
-    yard-keyed : (y b : ℕ) → key (st .yardKeys) y ≡ some b → Keyed i (takeYard i st y)
-    unfolding takeYard
-    yard-keyed y b at = record {
-      first-is = keyed .first-is;
-      inner-is = keyed .inner-is;
-      queued-is = λ v c. taken-yard-key i well st was y b at (λ o. o ≡ some c → c ≡ yardKey i v) v (λ p q. absurd (no-key q)) (λ p q. keyed .queued-is v c q);
-    }
-
-    step-keyed : T (not (settled i st)) → Keyed i (step i st)
-    step-keyed u = step-case i st (was .sizes) (Keyed i) u
-        (λ r a at due. region-case i well st was (Keyed i) r a at (λ l. inner-keyed r a at l) (λ l first q e k n h. leaf-keyed r a at l first q e k n)
-        (λ t. closed-keyed r a at))
-        (λ y b at due. yard-keyed y b at)
-
-  start-keyed : Keyed i (startSearch i)
-  unfolding startSearch
-  start-keyed = record {
-    first-is = λ r a. start-key i well (λ o. o ≡ some a → a ≡ firstKey i r) r (λ p t e. root r a p e) (λ p e. absurd (no-key e));
-    inner-is = λ r a n. start-key i well (λ o. o ≡ some a → a ≡ firstKey i r) r (λ p t e. root r a p e) (λ p e. absurd (no-key e));
-    queued-is = λ y a e. absurd (start-yard i well y e);
-  }
-    where
-      root : (r a : ℕ) → r ≡ 0 → _≡_ {A = Option ℕ} (some (bound i 0)) (some a) → a ≡ firstKey i r
-      root r a p e = rw p (omega (arith, key-eq e, first-root i (well .shape)))
-
-  pub run-keyed : (steps : ℕ) → Keyed i (run i steps .state)
-  unfolding run advance
-  run-keyed zero = start-keyed
-  run-keyed (suc steps) = choose-case (λ (o : Outcome). Keyed i (o .state)) (settled i (run i steps .state)) (λ t. run-keyed steps)
-      (λ t. step-keyed (run i steps .state) (run-kept i well steps) (run-keyed steps) t)
-
-  -- the keys of the tree, the roads and the query, and a run's
-  pub keys-of : KeysOf i
-  keys-of = record {
-    root = first-root i (well .shape);
-    child = first-child i (well .shape);
-    yard = yard-is i (well .shape);
-    regions = λ steps r w. run-keyed steps .first-is r _ (word-key (run i steps .state .firsts) r _ refl w);
-    yards = λ steps y w. run-keyed steps .queued-is y _ (word-key (run i steps .state .yardKeys) y _ refl w);
-  }

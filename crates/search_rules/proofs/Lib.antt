@@ -10,7 +10,8 @@ pub mod Barren
 pub mod Stepping
 pub mod Kept
 pub mod Keys
-pub mod Low
+pub mod Keyed
+pub mod Cover
 pub mod Found
 pub mod Ends
 pub mod Level

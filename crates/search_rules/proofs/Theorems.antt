@@ -24,10 +24,10 @@ use Rattle.search_rules.proofs.Queue.{word-key}
 use Rattle.search_rules.proofs.Held.{ranked-length}
 use Rattle.search_rules.proofs.Fronts.{front-length}
 use Rattle.search_rules.proofs.Kept.{word-nothing, run-kept}
-use Rattle.search_rules.proofs.Found.{fewer, run-listing, run-complete}
+use Rattle.search_rules.proofs.Found.{fewer, run-listing, run-complete, run-measured}
 use Rattle.search_rules.proofs.Ends.{enough, unsettled-taken, taken-within, settled-stays}
 use Rattle.search_rules.proofs.Keys.{key-bound}
-use Rattle.search_rules.proofs.Level.{run-measured, run-within, run-bound-within}
+use Rattle.search_rules.proofs.Level.{run-within, run-bound-within}
 use Rattle.search_rules.proofs.Fitting.{run-fits}
 use Rattle.search_rules.proofs.Limits.{lower-most, upper-most, bound-most, weight-most, f-most, yardBound-most, total-most}
 use Rattle.search_rules.proofs.Trees.{Accepted, tree-covers}
@@ -77,7 +77,7 @@ pub right : (i : Instance) → SoundInstance i → (limit : ℕ) → T (settled 
 right i sound limit t = record {
   complete = run-complete i sound limit t;
   key-within = run-within i sound limit;
-  key-measured = run-measured i sound limit t;
+  key-measured = run-measured i (sound .well) limit t;
   bound-within = run-bound-within i sound limit;
 }
 
