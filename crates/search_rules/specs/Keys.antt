@@ -23,7 +23,7 @@ module _ (i : Instance) where
   unfoldable pub firstKey : ℕ → ℕ
   firstKey r = greatestBound (size i) 0 r
 
-  -- region r is yard y's leaf
+  -- region r is yard y's leaf: the list of the landmark that it picks names y, as each of its lists does
   unfoldable pub isHome : ℕ → ℕ → Bool
   isHome r y = leaf i r && names (chosen i r .list) y
 
