@@ -9,7 +9,7 @@ use lib.Dec.{T, T-not, leb, eqb}
 use Rattle.book.specs.Choose.{choose}
 use Rattle.book.proofs.Choosing.{choose-case, choose-yes, choose-no}
 use Rattle.tree_layout.specs.Values.{Element, Mark}
-use Rattle.search_rules.specs.Instance.{Instance, children, marks, leaf}
+use Rattle.search_rules.specs.Instance.{Instance, size, children, marks, leaf}
 use Rattle.search_rules.specs.Bounds.{absDiff, combine, aggregate, greatestOf, leastFrom, leastOf, crewBound, tableAt, lower, upper, over, total}
 use Rattle.search_rules.specs.Bounds.{markBound}
 use Rattle.search_rules.specs.Bounds.{bound, best, bestOf, chosen, listAbsDiff, f, yardBound}
@@ -130,7 +130,7 @@ module _ (i : Instance) where
   open-below {r} n (inside m a l k x w) = absurd (T-not (leaf i r) n l)
   open-below n (under c a l k b) = (c, k, b)
 
-  pub leaf-below : {r y : ℕ} → T (leaf i r) → Below i r y → (m : Mark) × Mem m (marks i r) × Listed m y
+  leaf-below : {r y : ℕ} → T (leaf i r) → Below i r y → (m : Mark) × Mem m (marks i r) × Listed m y
   leaf-below l (inside m a t k x w) = (m, k, x)
   leaf-below {r} l (under c a n k b) = absurd (T-not (leaf i r) n l)
 
@@ -145,6 +145,10 @@ module _ (i : Instance) where
     pub below-range : {r y : ℕ} → Below i r y → y < i .tree .junctions
     below-range (inside {r = r} m a l e k w) = rw (← k .names) (shape .yards r m (k .element) l e (k .mem))
     below-range (under c a l e b) = below-range b
+
+    -- a yard below a leaf stands in the list of the landmark that the leaf picks
+    pub in-chosen : {r y : ℕ} → r < size i → T (leaf i r) → Below i r y → Listed (chosen i r) y
+    in-chosen {r} {y} h l b = let (m, k, x) = leaf-below l b in shape .alike r m (chosen i r) y l k (chosen-mem r (shape .marked r h)) x
 
     module _ (metric : Triangle i) (symmetric : Symmetric i) where
       -- two distances from one junction differ by no more than the distance between

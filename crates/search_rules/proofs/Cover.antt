@@ -15,13 +15,13 @@ use Rattle.search_rules.specs.Instance.{Instance, children, leaf}
 use Rattle.search_rules.specs.Bounds.{bound, chosen, f, yardBound}
 use Rattle.search_rules.specs.Step.{SearchState, left, passed, againKey, nextF, openInner, queueNext, closeLeaf, takeYard, step, settled, startSearch}
 use Rattle.search_rules.specs.Run.{Outcome, advance, run}
-use Rattle.search_rules.specs.Facts.{Listed, Below, WellFormed}
+use Rattle.search_rules.specs.Facts.{Below, WellFormed}
 use Rattle.search_rules.specs.Theorems.{barren}
-use Rattle.search_rules.proofs.Bounds.{below-admitted, below-wanted, open-below, leaf-below}
+use Rattle.search_rules.proofs.Bounds.{below-admitted, below-wanted, open-below, in-chosen}
 use Rattle.search_rules.proofs.Queue.{seen, key, Again, empty, more, stays-by}
 use Rattle.search_rules.proofs.Barren.{barren-leaf, barren-none}
 use Rattle.search_rules.proofs.Stepping.{step-case}
-use Rattle.search_rules.proofs.Kept.{Kept, left-other, InnerKey, child, taken, same, inner-key, mark-mem, yard-fits, closed-key}
+use Rattle.search_rules.proofs.Kept.{Kept, left-other, InnerKey, child, taken, same, inner-key, region-range, yard-fits, closed-key}
 use Rattle.search_rules.proofs.Kept.{leaf-yard-key, leaf-region-key, leaf-again, taken-yard-key, region-case, start-key, start-left, run-kept}
 
 -- Where a yard of the tree stands.
@@ -95,11 +95,6 @@ module _ (i : Instance) (well : WellFormed i) where
               → P (key (new .regionKeys) v)
           region-key = leaf-region-key i well st was r a at is-leaf first first-is e mem stays
 
-          -- a yard of this leaf in the chosen list
-          listed : Below i r z → Listed m z
-          listed below = let x = leaf-below i is-leaf below in
-              well .shape .alike r (x .0) m z is-leaf (x .1) (mark-mem i well st was r a at is-leaf) (x .2)
-
           left-queued : z ≡ y → Cover i new z
           left-queued p = in-queue (max (yardBound i m e) first) (yard-key (λ o. o ≡ some (max (yardBound i m e) first)) z (λ s. refl) (λ s. absurd (s p)))
 
@@ -113,7 +108,7 @@ module _ (i : Instance) (well : WellFormed i) where
           covers (below-queued v b q below n) = go (ℕ-discrete z y)
             where
               again-cover : v ≡ r → z ≢ y → {o : Option ℕ} → Again i gone′ first m o → key (new .regionKeys) v ≡ o → Cover i new z
-              again-cover p s (empty h) c = let x = listed (rw p at below) in
+              again-cover p s (empty h) c = let x = in-chosen i (well .shape) (region-range i well st was r at) is-leaf (rw p at below) in
                   absurd (T-not (passed i gone′ z) (stays-by i gone′ z (left-other (st .gone) y fits z s n) (below-wanted i below)) (rw (x .names) at (h (x .element) (x
                   .mem))))
               again-cover p s (more g k t l) c = below-queued v (max first (f i m g)) c below (left-other (st .gone) y fits z s n)
@@ -136,9 +131,7 @@ module _ (i : Instance) (well : WellFormed i) where
           -- nothing is below it
           bare : Below i r z → ⊥
           bare below =
-              let l = barren-leaf i r t in
-              let x = leaf-below i l below in
-              let j = well .shape .alike r (x .0) (chosen i r) z l (x .1) (mark-mem i well st was r a at l) (x .2) in
+              let j = in-chosen i (well .shape) (region-range i well st was r at) (barren-leaf i r t) below in
               barren-none i r t (j .element) (j .mem) (rw (j .names) (below-wanted i below))
 
           covers : Cover i st z → Cover i (closeLeaf i st r) z

@@ -17,7 +17,7 @@ use Rattle.search_rules.specs.Step.{SearchState, left, passed, openInner
 use Rattle.search_rules.specs.Run.{Outcome, advance, run}
 use Rattle.search_rules.specs.Facts.{Below, WellFormed}
 use Rattle.search_rules.specs.Theorems.{KeysOf}
-use Rattle.search_rules.proofs.Bounds.{f-le, chosen-mem, below-wanted, leaf-below}
+use Rattle.search_rules.proofs.Bounds.{f-le, below-wanted, in-chosen}
 use Rattle.search_rules.proofs.Queue.{key, word-key, key-eq, no-key, Entered, queued-child, kept, Again, empty, more, stays-by}
 use Rattle.search_rules.proofs.Stepping.{step-case}
 use Rattle.search_rules.proofs.Kept.{Kept, stays-before, InnerKey, child, taken, same, inner-key, inner-first, region-range, yard-fits, leaf-yard-key, leaf-region-key}
@@ -151,8 +151,7 @@ module _ (i : Instance) (well : WellFormed i) where
       go : T (leaf i r) ⊎ T (not (leaf i r)) → a ≤ yardKey i y
       go (inr inner) = omega (arith, keyed .inner-is r a inner e, below-up i (well .shape) h b)
       go (inl l) =
-          let x = leaf-below i l b in
-          let z = well .shape .alike r (x .0) (chosen i r) y l (x .1) (chosen-mem i r (well .shape .marked r h)) (x .2) in
+          let z = in-chosen i (well .shape) h l b in
           omega (
             arith,
             keyed .leaf-is r a (z .element) l e (z .mem) (rw (z .names) (stays-by i (st .gone) y n (below-wanted i b))),

@@ -21,8 +21,8 @@ use Rattle.search_rules.specs.Rule.{Rule}
 use Rattle.search_rules.specs.Books.{searchOf}
 use Rattle.search_rules.specs.Bounds.{tableAt, lower, upper, over, total, markBound, bound, weight, best, bestOf, chosen, listAbsDiff, yardBound}
 use Rattle.search_rules.specs.Keys.{greatestBound, firstKey, isHome, homeFrom, home, boundIn, yardKey}
-use Rattle.search_rules.specs.Facts.{Listed, Below, inside, under, Shape, SoundInstance}
-use Rattle.search_rules.proofs.Bounds.{chosen-mem, lower-under, bound-under, yardBound-le}
+use Rattle.search_rules.specs.Facts.{Below, inside, under, Shape, SoundInstance}
+use Rattle.search_rules.proofs.Bounds.{chosen-mem, in-chosen, lower-under, bound-under, yardBound-le}
 
 -- ---- the greatest bound on the way
 
@@ -140,7 +140,7 @@ module _ (i : Instance) where
     -- the key of a yard below a region is not below the region's first key
     pub below-up : {r y : ℕ} → r < size i → Below i r y → firstKey i r ≤ yardKey i y
     below-up {r} {y} h (inside m a l k x w) =
-        let z : Listed (chosen i r) y = shape .alike r m (chosen i r) y l k (chosen-mem i r (shape .marked r h)) x in
+        let z = in-chosen i shape h l (inside m a l k x w) in
         omega (arith, ap (yardKey i) (z .names), yard-is r (z .element) h l (z .mem))
     below-up {r} {y} h (under c a l k b) = omega (arith, first-child r c k, below-up (shape .range r c k) b)
 
@@ -153,7 +153,7 @@ module _ (i : Instance) (sound : SoundInstance i) where
   -- no bound on the way to a yard is above the aggregate of what the table gives of it
   first-under : {r y : ℕ} → r < size i → Below i r y → firstKey i r ≤ over i (lower i y) → firstKey i (home i y) ≤ over i (lower i y)
   first-under {r} {y} h (inside m a l k x w) p =
-      let z : Listed (chosen i r) y = shape .alike r m (chosen i r) y l k (chosen-mem i r (shape .marked r h)) x in
+      let z = in-chosen i shape h l (inside m a l k x w) in
       let e : home i y ≡ r = rw (z .names) at (home-is i shape r (z .element) h l (z .mem)) in
       rw e p
   first-under {r} {y} h (under c a l k b) p = first-under (shape .range r c k) b (omega (
@@ -179,8 +179,8 @@ module _ (i : Instance) (sound : SoundInstance i) where
     where
       go : {r : ℕ} → r < size i → Below i r y → yardKey i y ≤ total i y
       go {r} h (inside m a l k x w) =
+          let z = in-chosen i shape h l (inside m a l k x w) in
           let c = chosen-mem i r (shape .marked r h) in
-          let z : Listed (chosen i r) y = shape .alike r m (chosen i r) y l k c x in
           omega (
             arith,
             ap (yardKey i) (z .names),
