@@ -55,6 +55,8 @@ use Rattle.check_rules.specs.Truth.{trueTree, kindsElement, kindsList, kindsReg
 use Rattle.check_tree.specs.Check.{has, sameSet, treeRefusalBeside, checkAnswer}
 use Rattle.search_call.proofs.Demand.{demand-3}
 use Rattle.examples.specs.InTurn.{yardN, yardOne, yardThree, yardKinds, four, InTurn}
+use Rattle.search_rules.specs.Step.{takeLeaf}
+use Rattle.search_rules.specs.Bounds.{picked, twoWayBound, twoWayYardBound}
 
 -- every number of a list is below another, and so is 0
 below-all : (n : ℕ) (l : List ℕ) → 0 < n → T (all (λ x. ltb x n) l) → (v : ℕ) → getD l v 0 < n
@@ -82,7 +84,7 @@ unfolding choose refuse firstOf u8At u16At u32At write keepIf version openRefusa
     weight best bestOf chosen listAbsDiff f yardBound queued wordAt pick yardFirst insert hold lastDistance greatestHeld entry keepBy enoughBy keep enough
     left noElement againKey passed waiting nextPlace nextF queueChildren openInner queueNext closeLeaf openLeaf takeRegion takeYard nextRegion nextYard
     leastKey step settled rootKeys startSearch words advance run report answer treeRefusalIn areasRefusal searchRefusal refused accepted searchFound
-    resultsAfter foundOn callOn roadN treeN roadOne treeOne roadThree treeThree crewBytes asking onN onOne onThree lent row settledRow spentRow yardsIn
+    resultsAfter foundOn callOn roadN treeN roadOne treeOne roadThree treeThree crewBytes asking onN onOne onThree lent row settledRow spentRow yardsIn twoWayBound picked twoWayYardBound takeLeaf
     yardsSize yardPlace yardAt yardKind kindsSet yardKinds′ kindTable kindOf yardsFrom yardsOf yardsRise yardsInside yardBody yardRefusal yardRefusalIn
     ownYards leafYards yardsBelow treeYards listYards leastYard least greatestFrom greatest trueElement trueList trueSpan trueRegion trueFrom trueTree
     kindsElement kindsList kindsRegion regionKinds kindsTree has sameSet treeRefusalBeside checkAnswer yardN yardOne yardThree yardKinds treeKinds onKinds

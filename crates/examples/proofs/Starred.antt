@@ -43,6 +43,8 @@ use Rattle.search_call.specs.Call.{treeRefusalIn, areasRefusal, searchRefusal, 
 use Rattle.examples.specs.Books.{roadN, treeN, roadOne, treeOne, roadThree, treeThree, crewBytes, asking, onN, onOne, onThree, lent, row, settledRow}
 use Rattle.examples.specs.Books.{spentRow}
 use Rattle.examples.specs.Starred.{valued, exampleList, Starred}
+use Rattle.search_rules.specs.Step.{takeLeaf}
+use Rattle.search_rules.specs.Bounds.{picked, twoWayBound, twoWayYardBound}
 
 -- where the region is further out than the crew
 far : (lb b : ℕ) → lb ≤ 4 → 9 ≤ b → crewBound lb 4 9 b ≡ 5
@@ -61,7 +63,7 @@ unfolding choose refuse firstOf u8At u16At u32At write keepIf version openRefusa
     chosen listAbsDiff f yardBound queued wordAt pick yardFirst insert hold lastDistance greatestHeld entry keepBy enoughBy keep enough left noElement
     againKey passed waiting nextPlace nextF queueChildren openInner queueNext closeLeaf openLeaf takeRegion takeYard nextRegion nextYard leastKey step
     settled rootKeys startSearch words advance run report answer treeRefusalIn areasRefusal searchRefusal refused accepted searchFound resultsAfter foundOn
-    callOn roadN treeN roadOne treeOne roadThree treeThree crewBytes asking onN onOne onThree lent row settledRow spentRow valued exampleList
+    callOn roadN treeN roadOne treeOne roadThree treeThree crewBytes asking onN onOne onThree lent row settledRow spentRow valued exampleList twoWayBound picked twoWayYardBound takeLeaf
 starred = record {
   listing = refl;
   limit-3 = refl;

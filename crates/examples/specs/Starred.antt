@@ -1,6 +1,6 @@
 -- The paper's starred examples, as the rows of one result. Assumes nothing: these are statements.
 use mathlib.Core.Path.{_≡_}
-use mathlib.Core.Bool.{true}
+use mathlib.Core.Bool.{true, false}
 use mathlib.Core.List.{List, [], _∷_}
 use Prim.Native.Nat.{ℕ, _≤_}
 use Rattle.tree_layout.specs.Values.{Element}
@@ -26,6 +26,9 @@ valued crews = record {
   d = λ l q. q;
   admits = λ r. true;
   wants = λ y. true;
+  oneWay = false;
+  towards = λ r. [];
+  back = λ y. 0;
 }
 
 -- a list's element at a distance

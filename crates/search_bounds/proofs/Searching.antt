@@ -16,7 +16,7 @@ use Rattle.search_rules.specs.Books.{searchOf, Passed}
 use Rattle.search_rules.specs.Bounds.{lower, bound, chosen}
 use Rattle.tree_layout.specs.Values.{noMark}
 use Rattle.search_rules.proofs.Books.{accepted-of, well-of, count}
-use Rattle.search_rules.proofs.Equations.{marks-is, search-of}
+use Rattle.search_rules.proofs.Equations.{marks-is, search-of, two-way}
 use Rattle.search_bounds.specs.code.Rows.{rowsLower}
 use Rattle.search_bounds.specs.code.Bounds.{rowsBound, rowsChosen, Crews}
 use Rattle.search_bounds.specs.code.Tables.{LandmarkTable}
@@ -67,7 +67,7 @@ module _ (road tree : List ℕ) (a : Asking) (crews : List ℕ) where
             e
             ∙ same-bound table rows (a .code) (i .code) crews (i .crews) (regionAt (decode tree .regions) r .marks) (marks i r) (sym code-is)
             (sym crews-is) (sym (marks-book r))
-            ∙ bound-table i (well-of road tree a crews p) rows table s r
+            ∙ bound-table i (well-of road tree a crews p) rows table s (two-way road tree a crews) r
 
         module _ (h : r < length (decode tree .regions)) (j : ℕ)
             (e : j ≡ rowsChosen table rows crews (regionAt (decode tree .regions) r .marks)) where
@@ -86,7 +86,7 @@ module _ (road tree : List ℕ) (a : Asking) (crews : List ℕ) where
 
           -- the landmark that leaf r picks is its landmark j
           pub chosen-of : getD (regionAt (decode tree .regions) r .marks) j noMark ≡ chosen i r
-          chosen-of = rw (← marks-book r, chosen-is) (chosen-table i (well-of road tree a crews p) rows table s r marked)
+          chosen-of = rw (← marks-book r, chosen-is) (chosen-table i (well-of road tree a crews p) rows table s r (two-way road tree a crews) marked)
 
           pub chosen-few : j < landmarkCount tree
           chosen-few =

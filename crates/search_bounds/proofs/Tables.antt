@@ -1,12 +1,13 @@
 -- What the rows of a search's landmark table give: LB, UB, a region's bound, and the landmark that a leaf picks. Assumes nothing.
 use mathlib.Core.Path.{_≡_, refl, sym, ap, _∙_}
 use mathlib.Core.Logic.{_≢_}
+use mathlib.Core.Bool.{not}
 use mathlib.Core.List.{List, [], _∷_, List·Memᴰ as Mem}
 use Prim.Native.Nat.{ℕ, zero, suc, _+_, _≤_, _<_, min, max}
 use native.Mathlib.Omega.{arith}
 use lib.ListN.{length, getD, take}
 use lib.Seq.{take-all}
-use lib.Dec.{ltb}
+use lib.Dec.{T, ltb}
 use Rattle.book.proofs.Choosing.{choose-map}
 use Rattle.book.proofs.Lists.{getD-mem}
 use Rattle.tree_layout.specs.Values.{Mark}
@@ -83,11 +84,11 @@ module _ (i : Instance) (well : WellFormed i) (rows : ℕ) (table : List ℕ) (s
   crew-table r q c = greatest-same (rowsMark table rows q) (markBound i q) (marks i r) (λ k m. mark-table r q k m c)
 
   -- a region's bound
-  pub bound-table : (r : ℕ) → rowsBound table rows (i .code) (i .crews) (marks i r) ≡ bound i r
+  pub bound-table : T (not (i .oneWay)) → (r : ℕ) → rowsBound table rows (i .code) (i .crews) (marks i r) ≡ bound i r
   unfolding rowsBound
-  bound-table r =
+  bound-table two r =
       aggregate-same (i .code) (rowsCrew table rows (marks i r)) (λ q. greatestOf (markBound i q) (marks i r)) (i .crews) (λ q c. crew-table r q c)
-      ∙ sym (bound-is i r)
+      ∙ sym (bound-is i two r)
 
   -- a landmark's sum of LB
   pub weight-table : (r : ℕ) (k : Mark) → Mem k (marks i r) → rowsWeight table rows (i .crews) (k .place) ≡ weight i k
@@ -124,11 +125,11 @@ module _ (i : Instance) (well : WellFormed i) (rows : ℕ) (table : List ℕ) (s
         positive (m ∷ ms) n = omega arith
 
     -- the landmark that is picked
-    pub chosen-table : marks i r ≢ [] → getD (marks i r) (rowsChosen table rows (i .crews) (marks i r)) noMark ≡ chosen i r
+    pub chosen-table : T (not (i .oneWay)) → marks i r ≢ [] → getD (marks i r) (rowsChosen table rows (i .crews) (marks i r)) noMark ≡ chosen i r
     unfolding rowsChosen
-    chosen-table n =
+    chosen-table two n =
         chosen-rows (length (marks i r)) (some n) (omega arith) ∙ ap (bestOf i) (take-all (length (marks i r)) (marks i r) (omega arith))
-        ∙ sym (chosen-is i r)
+        ∙ sym (chosen-is i two r)
 
     -- and its number
     pub chosen-below : marks i r ≢ [] → rowsChosen table rows (i .crews) (marks i r) < length (marks i r)

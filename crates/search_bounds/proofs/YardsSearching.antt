@@ -1,5 +1,6 @@
 -- What is computed of a yard is what the search's definitions say of it. Assumes nothing.
 use mathlib.Core.Path.{_≡_, refl, sym, ap, _∙_}
+use mathlib.Core.Bool.{false}
 use mathlib.Core.List.{List, [], _∷_, List·Memᴰ as Mem}
 use Prim.Native.Nat.{ℕ, zero, suc, _≤_, _<_, max}
 use native.Mathlib.Omega.{arith}
@@ -45,6 +46,9 @@ module _ (road tree : List ℕ) (a : Asking) (crews : List ℕ) where
     d = dist road;
     admits = i .admits;
     wants = i .wants;
+    oneWay = false;
+    towards = λ r. [];
+    back = λ y. 0;
   }
 
   module _ (m : Mark) (e : Element) (out : List ℕ) (o : out ≡ toCrews road (m .place) crews) where
@@ -69,7 +73,7 @@ module _ (road tree : List ℕ) (a : Asking) (crews : List ℕ) where
       whole = first (length crews) (omega arith) ∙ ap (aggregate (a .code) g) (take-all (length crews) crews (omega arith))
 
       pub bound-by : yardBoundBy (a .code) table rows crews out (e .yard) (e .distance) (length crews) ≡ yardBound i m e
-      bound-by = whole ∙ alike ∙ sym (yard-bound-is j m e) ∙ sym (ap (λ (z : Instance). yardBound z m e) (search-of road tree a crews))
+      bound-by = whole ∙ alike ∙ sym (yard-bound-is j tt m e) ∙ sym (ap (λ (z : Instance). yardBound z m e) (search-of road tree a crews))
         where
           alike : aggregate (a .code) g crews ≡ aggregate (a .code) (λ q. max (lower j (e .yard) q) (absDiff (dist road (m .place) q) (e .distance))) crews
           alike = aggregate-same (a .code) g (λ q. max (lower j (e .yard) q) (absDiff (dist road (m .place) q) (e .distance))) crews

@@ -19,6 +19,7 @@ use Rattle.search_rules.specs.Theorems.{TreeYards, Covers}
 use Rattle.search_rules.proofs.Bounds.{below-range}
 use Rattle.search_rules.proofs.Trees.{tree-covers}
 use Rattle.search_rules.proofs.Wanted.{sound-yards}
+use Rattle.search_rules.proofs.Equations.{two-way}
 use Rattle.search_rules.proofs.Books.{count, accepted-of, well-of}
 use Rattle.search_rules.proofs.Theorems.{accepted-ends, sound-ends}
 
@@ -62,9 +63,9 @@ module _ (road tree : List ℕ) (a : Asking) (crews : List ℕ) where
     -- a limit of inner regions plus twice the yards settles, of a true tree plus twice the wanted yards
     pub asked-ends : (limit : ℕ) → inners (decode tree) + 2 * length (treeYards (decode tree)) ≤ limit → T (answer i limit .settled)
     unfolding searchOf
-    asked-ends limit h = accepted-ends i (accepted-of road tree a crews p) limit (well-of road tree a crews p)
+    asked-ends limit h = accepted-ends i (accepted-of road tree a crews p) limit (two-way road tree a crews) (well-of road tree a crews p)
         (omega (arith, accepted-of road tree a crews p .whole .yard-count))
 
     pub asked-settles : SoundInstance i → (limit : ℕ) → inners (decode tree) + 2 * length ys ≤ limit → T (answer i limit .settled)
     unfolding searchOf
-    asked-settles sound limit h = sound-ends i (accepted-of road tree a crews p) limit sound h
+    asked-settles sound limit h = sound-ends i (accepted-of road tree a crews p) limit (two-way road tree a crews) sound h

@@ -1,6 +1,6 @@
 -- A search of a road book and a tree book that the tests accept is well formed, and sound if the tree's numbers are true. Assumes nothing.
 use mathlib.Core.Path.{_≡_, refl, sym, ap, _∙_}
-use mathlib.Core.List.{List, [], _∷_, List·Memᴰ as Mem}
+use mathlib.Core.List.{List, [], _∷_, List·Memᴰ as Mem, List·Memᴰ·not-nil as not-nil}
 use Prim.Native.Nat.{ℕ, _≤_, _<_}
 use native.Mathlib.Omega.{arith}
 use lib.ListN.{length, getD}
@@ -44,6 +44,7 @@ module _ (road tree : List ℕ) (a : Asking) (crews : List ℕ) (p : Passed road
   unfolding searchOf
   well-of = well-formed i accepted-of (λ q k. omega (arith, count, p .there q k)) (p .few)
       (λ u v h k. omega (arith, metric road (p .roads) .bounded u v (omega (arith, count)) (omega (arith, count))))
+      (λ r m k. absurd (not-nil k))
 
   pub metric-of : Triangle i
   unfolding searchOf
@@ -66,8 +67,8 @@ module _ (road tree : List ℕ) (a : Asking) (crews : List ℕ) (p : Passed road
   sound-of lists encloses kinds = record {
     well = well-of;
     metric = metric-of;
-    symmetric = symmetric-of;
-    truth = truth-of i accepted-of lists encloses kinds;
+    symmetric = λ two. symmetric-of;
+    truth = truth-of i accepted-of lists encloses kinds (λ one. absurd one) (λ r m y k. absurd (not-nil k));
   }
 
   -- "a yard is wanted if its byte in its leaf's first list shares a bit"

@@ -12,6 +12,7 @@ use Rattle.tree_layout.specs.Values.{Element, Mark}
 use Rattle.search_rules.specs.Instance.{Instance, size, children, marks, leaf}
 use Rattle.search_rules.specs.Bounds.{absDiff, combine, aggregate, greatestOf, leastFrom, leastOf, crewBound, tableAt, lower, upper, over, total}
 use Rattle.search_rules.specs.Bounds.{markBound}
+use Rattle.search_rules.specs.Bounds.{pointBound, firstMark, twoWayBound, lowerTo, upperFrom, awayBound, towardsBound, oneWayBound, picked, twoWayYardBound, oneWayYardBound}
 use Rattle.search_rules.specs.Bounds.{bound, best, bestOf, chosen, listAbsDiff, f, yardBound}
 use Rattle.search_rules.specs.Facts.{Listed, Below, inside, under, Shape, Triangle, Symmetric, Truth}
 use Rattle.search_rules.proofs.Choices.{choose-two}
@@ -94,9 +95,37 @@ module _ (i : Instance) where
   bestOf-mem [] s = absurd (s refl)
   bestOf-mem (m ∷ ms) s = best-mem m ms
 
+  first-mem : (ms : List Mark) → ms ≢ [] → Mem (firstMark ms) ms
+  unfolding firstMark
+  first-mem [] s = absurd (s refl)
+  first-mem (m ∷ ms) s = head refl
+
   pub chosen-mem : (r : ℕ) → marks i r ≢ [] → Mem (chosen i r) (marks i r)
+  unfolding chosen picked
+  chosen-mem r s = choose-case (λ (m : Mark). Mem m (marks i r)) (i .oneWay) (λ t. first-mem (marks i r) s) (λ t. bestOf-mem (marks i r) s)
+
+  -- on a tree with both directions it is the first
+  pub chosen-first : T (i .oneWay) → (r : ℕ) → chosen i r ≡ firstMark (marks i r)
   unfolding chosen
-  chosen-mem r s = bestOf-mem (marks i r) s
+  chosen-first t r = choose-yes (i .oneWay) (firstMark (marks i r)) (picked i r) t
+
+  -- ---- bounds by the tree's version
+
+  pub bound-one : T (i .oneWay) → (r : ℕ) → bound i r ≡ oneWayBound i r
+  unfolding bound
+  bound-one t r = choose-yes (i .oneWay) (oneWayBound i r) (twoWayBound i r) t
+
+  pub bound-two : T (not (i .oneWay)) → (r : ℕ) → bound i r ≡ twoWayBound i r
+  unfolding bound
+  bound-two t r = choose-no (i .oneWay) (oneWayBound i r) (twoWayBound i r) t
+
+  pub yard-one : T (i .oneWay) → (m : Mark) (e : Element) → yardBound i m e ≡ oneWayYardBound i m e
+  unfolding yardBound
+  yard-one t m e = choose-yes (i .oneWay) (oneWayYardBound i m e) (twoWayYardBound i m e) t
+
+  pub yard-two : T (not (i .oneWay)) → (m : Mark) (e : Element) → yardBound i m e ≡ twoWayYardBound i m e
+  unfolding yardBound
+  yard-two t m e = choose-no (i .oneWay) (oneWayYardBound i m e) (twoWayYardBound i m e) t
 
   -- ---- bounds
 
@@ -105,14 +134,18 @@ module _ (i : Instance) where
   over-mono g h k = aggregate-mono (i .code) g h (i .crews) k
 
   -- f is at most the yard's bound, whatever the tree says
-  pub f-le : (m : Mark) (e : Element) → f i m e ≤ yardBound i m e
-  unfolding f yardBound
-  f-le m e = over-mono _ _ (λ q k. omega arith)
+  pub f-le : T (not (i .oneWay)) → (m : Mark) (e : Element) → f i m e ≤ yardBound i m e
+  unfolding f twoWayYardBound
+  f-le t m e = rw (yard-two t m e) (over-mono _ _ (λ q k. omega arith))
 
-  -- so is the aggregate of the table's differences
-  pub lower-under : (m : Mark) (e : Element) → over i (lower i (e .yard)) ≤ yardBound i m e
-  unfolding yardBound
-  lower-under m e = over-mono _ _ (λ q k. omega arith)
+  -- what the table says of a crew and a yard, by the tree's version
+  unfoldable pub tableBound : ℕ → ℕ
+  tableBound y = choose (i .oneWay) (over i (lowerTo i y)) (over i (lower i y))
+
+  -- its aggregate is at most the yard's bound
+  pub lower-under : (m : Mark) (e : Element) → tableBound (e .yard) ≤ yardBound i m e
+  unfolding tableBound yardBound twoWayYardBound oneWayYardBound
+  lower-under m e = choose-two _≤_ (i .oneWay) (λ t. over-mono _ _ (λ q k. omega arith)) (λ t. over-mono _ _ (λ q k. omega arith))
 
   -- ---- yards below a region
 
@@ -220,21 +253,21 @@ module _ (i : Instance) where
             )
 
         -- so a region's bound is at most the aggregate of these, and the bound of every yard below it
-        pub bound-under : {r y : ℕ} → Below i r y → bound i r ≤ over i (lower i y)
-        unfolding bound
-        bound-under {r} {y} b = over-mono (λ q. greatestOf (markBound i q) (marks i r)) (lower i y)
+        two-under : {r y : ℕ} → Below i r y → twoWayBound i r ≤ over i (lower i y)
+        unfolding twoWayBound
+        two-under {r} {y} b = over-mono (λ q. greatestOf (markBound i q) (marks i r)) (lower i y)
             (λ q k. greatestOf-le (markBound i q) (lower i y q) (marks i r) (λ m e. markBound-lower r m y q e b (shape .crews q k)))
 
         -- a region's bound is at most the aggregate of every yard below it
-        pub bound-le : {r y : ℕ} → Below i r y → bound i r ≤ total i y
-        unfolding bound total
-        bound-le {r} {y} b = over-mono (λ q. greatestOf (markBound i q) (marks i r)) (λ q. i .d q y)
+        two-le : {r y : ℕ} → Below i r y → twoWayBound i r ≤ total i y
+        unfolding twoWayBound total
+        two-le {r} {y} b = over-mono (λ q. greatestOf (markBound i q) (marks i r)) (λ q. i .d q y)
             (λ q k. greatestOf-le (markBound i q) (i .d q y) (marks i r) (λ m e. markBound-le r m y q e b (shape .crews q k)))
 
         -- a yard's bound is at most its aggregate
-        pub yardBound-le : (r : ℕ) (m : Mark) (e : Element) → T (leaf i r) → Mem m (marks i r) → Mem e (m .list) → yardBound i m e ≤ total i (e .yard)
-        unfolding yardBound total listAbsDiff
-        yardBound-le r m e l k j = over-mono _ _ (λ q c. omega (arith, one q (shape .crews q c)))
+        two-yard-le : (r : ℕ) (m : Mark) (e : Element) → T (leaf i r) → Mem m (marks i r) → Mem e (m .list) → twoWayYardBound i m e ≤ total i (e .yard)
+        unfolding twoWayYardBound total listAbsDiff
+        two-yard-le r m e l k j = over-mono _ _ (λ q c. omega (arith, one q (shape .crews q c)))
           where
             y : e .yard < i .tree .junctions
             y = shape .yards r m e l k j
@@ -243,5 +276,132 @@ module _ (i : Instance) where
             one q c = rw (truth .lists r m e l k j)
                 (omega (arith, lower-le (e .yard) q y c, symmetric .turn q (e .yard) c y, abs-diff-le (m .place) q (e .yard) (shape .places r m k) c y))
 
-        pub f-le-total : (r : ℕ) (m : Mark) (e : Element) → T (leaf i r) → Mem m (marks i r) → Mem e (m .list) → f i m e ≤ total i (e .yard)
-        f-le-total r m e l k j = omega (arith, f-le m e, yardBound-le r m e l k j)
+    -- ---- one way: the triangle alone
+
+    module _ (metric : Triangle i) where
+      -- "A crew's bound for a yard by one landmark": by true distances it is at most the distance from the crew
+      point-le : (l q p : ℕ) → l < i .tree .junctions → q < i .tree .junctions → p < i .tree .junctions
+          → pointBound (i .d l p) (i .d l q) (i .d q l) (i .d p l) ≤ i .d q p
+      unfolding pointBound
+      point-le l q p a b c = omega (arith, metric .triangle l q p a b c, metric .triangle q p l b c a)
+
+      pub lowerTo-le : (l q : ℕ) → l < i .tree .junctions → q < i .tree .junctions → lowerTo i l q ≤ i .d q l
+      unfolding lowerTo
+      lowerTo-le l q a b =
+          greatestOf-le (λ r. pointBound (i .d (r .place) l) (i .d (r .place) q) (i .d q (r .place)) (i .d l (r .place))) (i .d q l) (marks i 0)
+          (λ m e. point-le (m .place) q l (shape .places 0 m e) b a)
+
+      pub upperFrom-le : (l q : ℕ) → l < i .tree .junctions → q < i .tree .junctions → i .d l q ≤ upperFrom i l q
+      unfolding upperFrom
+      upperFrom-le l q a b = leastOf-le (λ r. i .d l (r .place) + i .d (r .place) q) (i .d l q) (marks i 0) (shape .marked 0 (shape .root))
+          (λ m e. metric .triangle l (m .place) q a (shape .places 0 m e) b)
+
+      module _ (truth : Truth i) where
+        -- each part of a region's bound is at most what the table says of a yard below it
+        away-under : (r : ℕ) (m : Mark) (y q : ℕ) → Mem m (marks i r) → Below i r y → q < i .tree .junctions → awayBound i q m ≤ lowerTo i y q
+        unfolding awayBound upperFrom lowerTo pointBound
+        away-under r m y q e b c = under
+          where
+            l : ℕ
+            l = m .place
+
+            a : l < i .tree .junctions
+            a = shape .places r m e
+
+            n : ℕ
+            n = greatestOf (λ x. pointBound (i .d (x .place) y) (i .d (x .place) q) (i .d q (x .place)) (i .d y (x .place))) (marks i 0)
+
+            row : (x : Mark) → Mem x (marks i 0) → pointBound (i .d (x .place) y) (i .d (x .place) q) (i .d q (x .place)) (i .d y (x .place)) ≤ n
+            row x k = greatestOf-up (λ z. pointBound (i .d (z .place) y) (i .d (z .place) q) (i .d q (z .place)) (i .d y (z .place))) (marks i 0) x k
+
+            high : (x : Mark) → Mem x (marks i 0) → m .least - n ≤ i .d l (x .place) + i .d (x .place) q
+            high x k = omega (arith, row x k, metric .triangle l (x .place) y a (shape .places 0 x k) (below-range b), truth .least r m y e b)
+
+            under : m .least - leastOf (λ x. i .d l (x .place) + i .d (x .place) q) (marks i 0) ≤ n
+            under = omega (
+              arith,
+              leastOf-le (λ x. i .d l (x .place) + i .d (x .place) q) (m .least - n) (marks i 0) (shape .marked 0 (shape .root)) high,
+            )
+
+        towards-under : (r : ℕ) (m : Mark) (y q : ℕ) → Mem m (i .towards r) → Below i r y → q < i .tree .junctions → towardsBound i q m ≤ lowerTo i y q
+        unfolding towardsBound lowerTo pointBound
+        towards-under r m y q e b c = under
+          where
+            l : ℕ
+            l = m .place
+
+            a : l < i .tree .junctions
+            a = shape .returns r m e
+
+            n : ℕ
+            n = greatestOf (λ x. pointBound (i .d (x .place) y) (i .d (x .place) q) (i .d q (x .place)) (i .d y (x .place))) (marks i 0)
+
+            row : (x : Mark) → Mem x (marks i 0) → pointBound (i .d (x .place) y) (i .d (x .place) q) (i .d q (x .place)) (i .d y (x .place)) ≤ n
+            row x k = greatestOf-up (λ z. pointBound (i .d (z .place) y) (i .d (z .place) q) (i .d q (z .place)) (i .d y (z .place))) (marks i 0) x k
+
+            low : (x : Mark) → Mem x (marks i 0)
+                → pointBound (i .d (x .place) l) (i .d (x .place) q) (i .d q (x .place)) (i .d l (x .place)) ≤ m .greatest + n
+            low x k = omega (
+              arith,
+              row x k,
+              metric .triangle (x .place) y l (shape .places 0 x k) (below-range b) a,
+              metric .triangle y l (x .place) (below-range b) a (shape .places 0 x k),
+              truth .furthest r m y e b,
+            )
+
+            under : greatestOf (λ x. pointBound (i .d (x .place) l) (i .d (x .place) q) (i .d q (x .place)) (i .d l (x .place))) (marks i 0) - m .greatest ≤ n
+            under = omega (
+              arith,
+              greatestOf-le (λ x. pointBound (i .d (x .place) l) (i .d (x .place) q) (i .d q (x .place)) (i .d l (x .place))) (m .greatest + n) (marks i 0) low,
+            )
+
+        one-under : {r y : ℕ} → Below i r y → oneWayBound i r ≤ over i (lowerTo i y)
+        unfolding oneWayBound
+        one-under {r} {y} b = over-mono _ (lowerTo i y) (λ q k. omega (
+          arith,
+          greatestOf-le (awayBound i q) (lowerTo i y q) (marks i r) (λ m e. away-under r m y q e b (shape .crews q k)),
+          greatestOf-le (towardsBound i q) (lowerTo i y q) (i .towards r) (λ m e. towards-under r m y q e b (shape .crews q k)),
+        ))
+
+        lowerTo-total : {r y : ℕ} → Below i r y → over i (lowerTo i y) ≤ total i y
+        unfolding total
+        lowerTo-total {r} {y} b = over-mono (lowerTo i y) (λ q. i .d q y) (λ q k. lowerTo-le y q (below-range b) (shape .crews q k))
+
+        one-yard-le : (r : ℕ) (e : Element) → T (i .oneWay) → r < size i → T (leaf i r) → Mem e (chosen i r .list)
+            → oneWayYardBound i (chosen i r) e ≤ total i (e .yard)
+        unfolding oneWayYardBound total
+        one-yard-le r e t h l j = over-mono _ _ (λ q c. omega (arith, one q (shape .crews q c)))
+          where
+            k : Mem (chosen i r) (marks i r)
+            k = chosen-mem r (shape .marked r h)
+
+            y : e .yard < i .tree .junctions
+            y = shape .yards r (chosen i r) e l k j
+
+            was : i .back (e .yard) ≡ i .d (e .yard) (chosen i r .place)
+            was = rw (chosen-first t r) (truth .backs t r e h l (rw (chosen-first t r) at j))
+
+            one : (q : ℕ) → q < i .tree .junctions
+                → max (lowerTo i (e .yard) q) (pointBound (e .distance) (i .d (chosen i r .place) q) (i .d q (chosen i r .place)) (i .back (e .yard)))
+                ≤ i .d q (e .yard)
+            one q c = rw (truth .lists r (chosen i r) e l k j, was)
+                (omega (arith, lowerTo-le (e .yard) q y c, point-le (chosen i r .place) q (e .yard) (shape .places r (chosen i r) k) c y))
+
+    -- ---- by the tree's version
+
+    module _ (metric : Triangle i) (symmetric : T (not (i .oneWay)) → Symmetric i) (truth : Truth i) where
+      pub bound-under : {r y : ℕ} → Below i r y → bound i r ≤ tableBound y
+      unfolding bound tableBound
+      bound-under b = choose-two _≤_ (i .oneWay) (λ t. one-under metric truth b) (λ t. two-under metric (symmetric t) truth b)
+
+      -- a region's bound is at most the aggregate of every yard below it
+      pub bound-le : {r y : ℕ} → Below i r y → bound i r ≤ total i y
+      unfolding bound
+      bound-le {r} {y} b = choose-case (λ x. x ≤ total i y) (i .oneWay) (λ t. omega (arith, one-under metric truth b, lowerTo-total metric truth b))
+          (λ t. two-le metric (symmetric t) truth b)
+
+      -- a yard's bound, by its leaf's landmark, is at most its aggregate
+      pub yardBound-le : (r : ℕ) (e : Element) → r < size i → T (leaf i r) → Mem e (chosen i r .list) → yardBound i (chosen i r) e ≤ total i (e .yard)
+      unfolding yardBound
+      yardBound-le r e h l j = choose-case (λ x. x ≤ total i (e .yard)) (i .oneWay) (λ t. one-yard-le metric truth r e t h l j)
+          (λ t. two-yard-le metric (symmetric t) truth r (chosen i r) e l (chosen-mem r (shape .marked r h)) j)

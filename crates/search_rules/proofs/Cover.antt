@@ -1,8 +1,9 @@
 -- Every wanted yard that may be reached is measured, queued, or waits below a queued region. Assumes nothing.
 use mathlib.Core.Path.{_≡_, refl, _∙_}
-use mathlib.Core.Logic.{_≢_}
+use mathlib.Core.Logic.{_⊎_, inl, inr, ⊎-elim, _≢_}
 use mathlib.Core.Bool.{Bool, true, not}
-use mathlib.Core.List.{List, List·Memᴰ as Mem, List·Memᴰ·head as head, List·Memᴰ·tail as tail}
+use mathlib.Core.List.{List, [], _∷_, List·Memᴰ as Mem, List·Memᴰ·head as head, List·Memᴰ·tail as tail, List·Memᴰ·not-nil as not-nil}
+use mathlib.Core.List.{List·Memᴰ·cases-cons as cases-cons}
 use mathlib.Core.Option.{Option, some}
 use Prim.Native.Nat.{ℕ, zero, suc, _<_, max}
 use native.Mathlib.Decide.{ℕ-discrete}
@@ -11,8 +12,11 @@ use lib.ListN.{length, set}
 use lib.Dec.{T, T-not}
 use Rattle.book.proofs.Choosing.{choose-case}
 use Rattle.tree_layout.specs.Values.{Element, Mark}
-use Rattle.search_rules.specs.Instance.{Instance, children, leaf}
+use Rattle.tree_leaf.specs.Leaf.{yardsIn}
+use Rattle.tree_leaf.proofs.Named.{yards-of}
+use Rattle.search_rules.specs.Instance.{Instance, size, children, leaf}
 use Rattle.search_rules.specs.Bounds.{bound, chosen, f, yardBound}
+use Rattle.search_rules.specs.Step.{queueYard, queueWanted}
 use Rattle.search_rules.specs.Step.{SearchState, left, passed, againKey, nextF, openInner, queueNext, closeLeaf, takeYard, step, settled, startSearch}
 use Rattle.search_rules.specs.Run.{Outcome, advance, run}
 use Rattle.search_rules.specs.Facts.{Below, WellFormed}
@@ -22,6 +26,7 @@ use Rattle.search_rules.proofs.Queue.{seen, key, Again, empty, more, st
 use Rattle.search_rules.proofs.Barren.{barren-leaf, barren-none}
 use Rattle.search_rules.proofs.Stepping.{step-case}
 use Rattle.search_rules.proofs.Kept.{Kept, left-other, InnerKey, child, taken, same, inner-key, region-range, yard-fits, closed-key}
+use Rattle.search_rules.proofs.Kept.{Rest, whole-gone, whole-yard-key, whole-keeps, whole-rest}
 use Rattle.search_rules.proofs.Kept.{leaf-yard-key, leaf-region-key, leaf-again, taken-yard-key, region-case, start-key, start-left, run-kept}
 
 -- Where a yard of the tree stands.
@@ -33,7 +38,53 @@ pub data Cover (i : Instance) (st : SearchState) (y : ℕ) : Type 0 where
 abbrev pub Covered : Instance → SearchState → Type 0
 Covered i st = (y : ℕ) → Below i 0 y → Cover i st y
 
+-- the same while a leaf queues some elements: or it is named by one of them
+abbrev CoveredBut : Instance → SearchState → List Element → Type 0
+CoveredBut i st es = (y : ℕ) → Below i 0 y → Cover i st y ⊎ Mem y (yardsIn es)
+
 module _ (i : Instance) (well : WellFormed i) where
+  -- ---- a yard of a leaf that queues all of them
+
+  queue-covers : (r first : ℕ) (h : r < size i) (l : T (leaf i r)) (s : SearchState) (e : Element) (es : List Element) → Rest i well r first h l s (e ∷ es)
+      → CoveredBut i s (e ∷ es) → CoveredBut i (queueYard i s first (chosen i r) e) es
+  unfolding queueYard yardsIn
+  queue-covers r first h l s e es rest but z below₀ = ⊎-elim (λ c. inl (covers c)) (λ k. by-name (cases-cons k)) (but z below₀)
+    where
+      new : SearchState
+      new = queueYard i s first (chosen i r) e
+
+      yard-key : (P : Option ℕ → Type 0) (v : ℕ) → (v ≡ e .yard → P (some (max (yardBound i (chosen i r) e) first))) → (v ≢ e .yard → P (key (s .yardKeys) v))
+          → P (key (new .yardKeys) v)
+      yard-key = whole-yard-key i well r first h l s e es rest
+
+      own : z ≡ e .yard → Cover i new z
+      own p = in-queue (max (yardBound i (chosen i r) e) first) (yard-key (λ o. o ≡ some (max (yardBound i (chosen i r) e) first)) z (λ q. refl) (λ q. absurd (q p)))
+
+      covers : Cover i s z → Cover i new z
+      covers (is-measured k) = is-measured k
+      covers (in-queue b q) = go (ℕ-discrete z (e .yard))
+        where
+          go : Dec (z ≡ e .yard) → Cover i new z
+          go (yes p) = own p
+          go (no p) = in-queue b (yard-key (λ o. o ≡ some b) z (λ t. absurd (p t)) (λ t. q))
+      covers (below-queued v b q below n) = go (ℕ-discrete z (e .yard))
+        where
+          go : Dec (z ≡ e .yard) → Cover i new z
+          go (yes p) = own p
+          go (no p) = below-queued v b q below (left-other (s .gone) (e .yard) (whole-gone i well r first h l s e es rest) z p n)
+
+      by-name : (z ≡ e .yard) ⊎ Mem z (yardsIn es) → Cover i new z ⊎ Mem z (yardsIn es)
+      by-name (inl p) = inl (own p)
+      by-name (inr k) = inr k
+
+  pass-covers : (s : SearchState) (e : Element) (es : List Element) → T (not (i .wants (e .yard))) → CoveredBut i s (e ∷ es) → CoveredBut i s es
+  unfolding yardsIn
+  pass-covers s e es w but z below = ⊎-elim (λ c. inl c) (λ k. by-name (cases-cons k)) (but z below)
+    where
+      by-name : (z ≡ e .yard) ⊎ Mem z (yardsIn es) → Cover i s z ⊎ Mem z (yardsIn es)
+      by-name (inl p) = absurd (T-not (i .wants (e .yard)) w (rw p at (below-wanted i below)))
+      by-name (inr k) = inr k
+
   module _ (st : SearchState) (was : Kept i st) (covered : Covered i st) where
     module _ (r a : ℕ) (at : key (st .regionKeys) r ≡ some a) where
       -- ---- an inner region
@@ -140,6 +191,32 @@ module _ (i : Instance) (well : WellFormed i) where
           covers (below-queued v b q below n) =
               below-queued v b (closed-key i well st was r a at (λ o. o ≡ some b) v (λ p. absurd (bare (rw p at below))) (λ p. q)) below n
 
+    -- ---- a leaf that queues its yards all at once
+
+    taken-covers : (r a : ℕ) → key (st .regionKeys) r ≡ some a → T (leaf i r) → CoveredBut i (closeLeaf i st r) (chosen i r .list)
+    unfolding closeLeaf
+    taken-covers r a at l z below₀ = covers (covered z below₀)
+      where
+        covers : Cover i st z → Cover i (closeLeaf i st r) z ⊎ Mem z (yardsIn (chosen i r .list))
+        covers (is-measured k) = inl (is-measured k)
+        covers (in-queue b q) = inl (in-queue b q)
+        covers (below-queued v b q below n) = go (ℕ-discrete v r)
+          where
+            go : Dec (v ≡ r) → Cover i (closeLeaf i st r) z ⊎ Mem z (yardsIn (chosen i r .list))
+            go (yes p) =
+                let x = in-chosen i (well .shape) (region-range i well st was r at) l (rw p at below) in
+                inr (rw (x .names) at (yards-of (chosen i r .list) (x .element) (x .mem)))
+            go (no p) = inl (below-queued v b (closed-key i well st was r a at (λ o. o ≡ some b) v (λ t. absurd (p t)) (λ t. q)) below n)
+
+    whole-covers : (r a : ℕ) → key (st .regionKeys) r ≡ some a → T (i .oneWay) → T (leaf i r) → (first : ℕ) → key (st .firsts) r ≡ some first
+        → Covered i (queueWanted i (closeLeaf i st r) first (chosen i r) (chosen i r .list))
+    unfolding yardsIn
+    whole-covers r a at one l first first-is z below =
+        let h = region-range i well st was r at in
+        let all = whole-keeps i well r first h l (CoveredBut i) (λ s e es rest w q. queue-covers r first h l s e es rest q) (λ s e es rest w q. pass-covers s e es w q)
+            (closeLeaf i st r) (chosen i r .list) (whole-rest i well st was r a at one l first first-is) (taken-covers r a at l) in
+        ⊎-elim (λ c. c) (λ k. absurd (not-nil k)) (all .1 z below)
+
     -- ---- a yard
 
     yard-covers : (y b : ℕ) → key (st .yardKeys) y ≡ some b → Covered i (takeYard i st y)
@@ -157,8 +234,8 @@ module _ (i : Instance) (well : WellFormed i) where
 
     step-covers : T (not (settled i st)) → Covered i (step i st)
     step-covers u = step-case i st (was .sizes) (Covered i) u
-        (λ r a at due. region-case i well st was (Covered i) r a at (λ l. inner-covers r a at l) (λ l first q e k n h. leaf-covers r a at l first q e k n)
-        (λ t. closed-covers r a at t))
+        (λ r a at due. region-case i well st was (Covered i) r a at (λ l. inner-covers r a at l) (λ two l first q e k n h. leaf-covers r a at l first q e k n)
+        (λ t. closed-covers r a at t) (λ one l first q. whole-covers r a at one l first q))
         (λ y b at due. yard-covers y b at)
 
   start-covers : Covered i (startSearch i)

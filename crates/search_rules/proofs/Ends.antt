@@ -19,14 +19,17 @@ use Rattle.tree.proofs.Counts.{numbers-none, numbers-more, numbers-mem, sum-non
 use Rattle.search_rules.specs.Instance.{Instance, size, children, marks, leaf}
 use Rattle.search_rules.specs.Bounds.{chosen, yardBound}
 use Rattle.search_rules.specs.Queue.{unqueued}
+use Rattle.search_rules.specs.Step.{queueYard, queueWanted}
 use Rattle.search_rules.specs.Step.{SearchState, left, passed, openInner, queueNext, closeLeaf, takeYard, step, settled, startSearch}
 use Rattle.search_rules.specs.Run.{Outcome, advance, run}
 use Rattle.search_rules.specs.Facts.{Below, WellFormed}
-use Rattle.search_rules.specs.Theorems.{barren, barrenFrom, barrens}
+use Rattle.search_rules.specs.Theorems.{barren, barrenFrom, barrens, allowance}
+use Rattle.search_rules.proofs.Choices.{choose-two}
 use Rattle.search_rules.proofs.Queue.{key, has, has-key, Entered, queued-child, kept, stays-left, stays-wanted}
 use Rattle.search_rules.proofs.Barren.{barren-none}
 use Rattle.search_rules.proofs.Stepping.{step-case}
 use Rattle.search_rules.proofs.Kept.{Kept, left-not, left-new, region-range, InnerKey, child, taken, same, inner-key, inner-first, fresh-child, leaf-own, closed-key}
+use Rattle.search_rules.proofs.Kept.{Rest, whole-gone, whole-yard-key, whole-keeps, whole-rest}
 use Rattle.search_rules.proofs.Kept.{yard-fits, leaf-yard-key, leaf-region-key, taken-yard-key, region-case, run-kept}
 
 -- How many numbers of a list pass a test.
@@ -70,9 +73,12 @@ tally-or p q (x ∷ l) = omega (arith, one (p x) (q x), tally-or p q l)
 -- ---- what is left to do
 
 module _ (i : Instance) where
-  -- what is opened once: an inner region, or a leaf that is taken in vain
+  -- what is opened once: an inner region, or a leaf that is taken in vain; every region where a leaf queues its yards all at once
+  opens-two : ℕ → Bool
+  opens-two r = not (leaf i r) || barren i r
+
   opens : ℕ → Bool
-  opens r = not (leaf i r) || barren i r
+  opens r = i .oneWay || opens-two r
 
   inner-sum : (n j : ℕ) → tally (λ r. not (leaf i r)) (numbers n j) ≡ sumFrom (i .tree .regions) oneInner n j
   unfolding tally leaf
@@ -94,8 +100,8 @@ module _ (i : Instance) where
   barren-sum zero j = rw numbers-none refl
   barren-sum (suc n) j = rw (numbers-more, barren-sum n (suc j)) refl
 
-  opens-count : tally opens (numbers (size i) 0) ≤ inners (i .tree) + barrens i
-  unfolding opens barrens
+  opens-count : tally opens-two (numbers (size i) 0) ≤ inners (i .tree) + barrens i
+  unfolding opens-two barrens
   opens-count = omega (arith, inner-count, barren-sum (size i) 0, tally-or (λ r. not (leaf i r)) (barren i) (numbers (size i) 0))
 
   -- One of these that has not been taken.
@@ -110,31 +116,55 @@ module _ (i : Instance) where
   unmeasured : SearchState → ℕ → Bool
   unmeasured st y = not (left (st .gone) y) || has (key (st .yardKeys) y)
 
+  -- where a leaf queues its yards all at once, no step is theirs
   work : List ℕ → SearchState → ℕ
-  work ys st = tally (unopened st) (numbers (size i) 0) + tally (unleft st) ys + tally (unmeasured st) ys
+  work ys st = tally (unopened st) (numbers (size i) 0) + choose (i .oneWay) 0 (tally (unleft st) ys) + tally (unmeasured st) ys
 
-  work-most : (ys : List ℕ) (st : SearchState) → work ys st ≤ inners (i .tree) + barrens i + 2 * length ys
-  unfolding work unopened
-  work-most ys st = omega (
-    arith,
-    opens-count,
-    tally-le opens (unopened st) (λ r t. and-left (opens r) _ t) (numbers (size i) 0),
-    tally-length (unleft st) ys,
-    tally-length (unmeasured st) ys,
-  )
+  numbers-length : (n j : ℕ) → length (numbers n j) ≡ n
+  numbers-length zero j = rw numbers-none refl
+  numbers-length (suc n) j = rw numbers-more (ap suc (numbers-length n (suc j)))
+
+  opens-more : T (not (i .oneWay)) → (r : ℕ) → T (opens r) → T (opens-two r)
+  unfolding opens
+  opens-more two r t = go (or-cases (i .oneWay) _ t)
+    where
+      go : T (i .oneWay) ⊎ T (opens-two r) → T (opens-two r)
+      go (inl one) = absurd (T-not (i .oneWay) two one)
+      go (inr s) = s
+
+  work-most : (ys : List ℕ) (st : SearchState) → work ys st ≤ allowance i ys
+  unfolding work unopened allowance
+  work-most ys st = choose-two (λ (x y : ℕ). tally (unopened st) (numbers (size i) 0) + x + tally (unmeasured st) ys ≤ y) (i .oneWay)
+      (λ one. omega (
+        arith,
+        tally-length (unopened st) (numbers (size i) 0),
+        numbers-length (size i) 0,
+        tally-length (unmeasured st) ys,
+      ))
+      (λ two. omega (
+        arith,
+        opens-count,
+        tally-le opens-two (unopened st) (λ r t. opens-more two r (and-left (opens r) _ t)) (numbers (size i) 0),
+        tally-length (unleft st) ys,
+        tally-length (unmeasured st) ys,
+      ))
 
   -- an inner region is opened once; a leaf with a wanted yard is not
   inner-opens : (r : ℕ) → T (not (leaf i r)) → T (opens r)
-  unfolding opens
-  inner-opens r t = or-left (not (leaf i r)) _ t
+  unfolding opens opens-two
+  inner-opens r t = or-right (i .oneWay) _ (or-left (not (leaf i r)) _ t)
 
   barren-opens : (r : ℕ) → T (barren i r) → T (opens r)
-  unfolding opens
-  barren-opens r t = or-right (not (leaf i r)) _ t
+  unfolding opens opens-two
+  barren-opens r t = or-right (i .oneWay) _ (or-right (not (leaf i r)) _ t)
 
-  leaf-opens : (r : ℕ) → T (leaf i r) → T (opens r) → T (barren i r)
+  one-opens : T (i .oneWay) → (r : ℕ) → T (opens r)
   unfolding opens
-  leaf-opens r l t = go (or-cases (not (leaf i r)) _ t)
+  one-opens one r = or-left (i .oneWay) _ one
+
+  leaf-opens : T (not (i .oneWay)) → (r : ℕ) → T (leaf i r) → T (opens r) → T (barren i r)
+  unfolding opens-two
+  leaf-opens two r l t = go (or-cases (not (leaf i r)) _ (opens-more two r t))
     where
       go : T (not (leaf i r)) ⊎ T (barren i r) → T (barren i r)
       go (inl n) = absurd (T-not (leaf i r) n l)
@@ -206,10 +236,12 @@ module _ (i : Instance) where
 
       leaf-less : (is-leaf : T (leaf i r)) (first : ℕ) → key (st .firsts) r ≡ some first → (e : Element) → (mem : Mem e (chosen i r .list))
           → T (not (passed i (st .gone) (e .yard)))
-          → work ys (queueNext i st r first (chosen i r) e) < work ys st
+          → T (not (i .oneWay)) → work ys (queueNext i st r first (chosen i r) e) < work ys st
       unfolding work unopened unleft unmeasured queueNext
-      leaf-less is-leaf first first-is e mem stays = omega (
+      leaf-less is-leaf first first-is e mem stays two = omega (
         arith,
+        choose-no (i .oneWay) 0 (tally (unleft st) ys) two,
+        choose-no (i .oneWay) 0 (tally (unleft new) ys) two,
         tally-le (unopened st) (unopened new) opened (numbers (size i) 0),
         tally-less (unleft st) (unleft new) (left-not (st .gone) y fits) y ys mine here marked,
         tally-le (unmeasured st) (unmeasured new) measured ys,
@@ -248,7 +280,7 @@ module _ (i : Instance) where
 
           -- the leaf has a wanted yard
           fertile : T (opens r) → ⊥
-          fertile t = barren-none i r (leaf-opens r is-leaf t) e mem (stays-wanted i (st .gone) y stays)
+          fertile t = barren-none i r (leaf-opens two r is-leaf t) e mem (stays-wanted i (st .gone) y stays)
 
           opened : (v : ℕ) → T (unopened new v) → T (unopened st v)
           opened v t = leaf-region-key i well st was r a at is-leaf first first-is e mem stays (λ o. T (opens v
@@ -261,7 +293,7 @@ module _ (i : Instance) where
               (λ p s. or-left (not (left (st .gone) v)) (has (key (st .yardKeys) v)) (rw p here))
               (λ p s. or-more (not (left (st .gone) v)) (not (left gone′ v)) (has (key (st .yardKeys) v)) (left-not (st .gone) y fits v) s) t
 
-      closed-less : T (barren i r) → work ys (closeLeaf i st r) < work ys st
+      closed-less : T (opens r) → work ys (closeLeaf i st r) < work ys st
       unfolding work unopened unleft unmeasured closeLeaf
       closed-less t = omega (
         arith,
@@ -270,7 +302,7 @@ module _ (i : Instance) where
           region-range i well st was r
               at,
         )))
-            (queued-open (opens r) (has (key (st .regionKeys) r)) (has (key (st .firsts) r)) (barren-opens r t) (has-key at)) (shut r refl),
+            (queued-open (opens r) (has (key (st .regionKeys) r)) (has (key (st .firsts) r)) t (has-key at)) (shut r refl),
       )
         where
           new : SearchState
@@ -288,6 +320,33 @@ module _ (i : Instance) where
               (λ p u. absurd (T-not (opens v && (false || not (has (key (st .firsts) v)))) (taken-closed (opens v) (has (key (st .firsts) v)) (rw p (was .has-first r a
               at))) u))
               (λ p u. u)
+
+    -- a yard of a leaf that queues all of them was not measured before
+    queue-less : (r first : ℕ) (h : r < size i) (l : T (leaf i r)) (one : T (i .oneWay)) (s : SearchState) (e : Element) (es : List Element)
+        → Rest i well r first h l s (e ∷ es) → work ys s < work ys st → work ys (queueYard i s first (chosen i r) e) < work ys st
+    unfolding work unopened unleft unmeasured queueYard
+    queue-less r first h l one s e es rest less = omega (
+      arith,
+      choose-yes (i .oneWay) 0 (tally (unleft s) ys) one,
+      choose-yes (i .oneWay) 0 (tally (unleft new) ys) one,
+      tally-le (unmeasured s) (unmeasured new) measured ys,
+    )
+      where
+        new : SearchState
+        new = queueYard i s first (chosen i r) e
+
+        measured : (v : ℕ) → T (unmeasured new v) → T (unmeasured s v)
+        measured v t = whole-yard-key i well r first h l s e es rest (λ o. T (not (left (set (s .gone) (e .yard) true) v) || has o) → T (unmeasured s v)) v
+            (λ p x. or-left (not (left (s .gone) v)) (has (key (s .yardKeys) v)) (rw p (rest .here e (head refl))))
+            (λ p x. or-more (not (left (s .gone) v)) (not (left (set (s .gone) (e .yard) true) v)) (has (key (s .yardKeys) v))
+                (left-not (s .gone) (e .yard) (whole-gone i well r first h l s e es rest) v) x) t
+
+    whole-less : (r a : ℕ) → key (st .regionKeys) r ≡ some a → T (i .oneWay) → T (leaf i r) → (first : ℕ) → key (st .firsts) r ≡ some first
+        → work ys (queueWanted i (closeLeaf i st r) first (chosen i r) (chosen i r .list)) < work ys st
+    whole-less r a at one l first first-is =
+        let h = region-range i well st was r at in
+        whole-keeps i well r first h l (λ s es. work ys s < work ys st) (λ s e es rest w q. queue-less r first h l one s e es rest q) (λ s e es rest w q. q)
+            (closeLeaf i st r) (chosen i r .list) (whole-rest i well st was r a at one l first first-is) (closed-less r a at (one-opens one r)) .1
 
     yard-less : (y b : ℕ) → key (st .yardKeys) y ≡ some b → work ys (takeYard i st y) < work ys st
     unfolding work unopened unleft unmeasured takeYard
@@ -321,28 +380,28 @@ module _ (i : Instance) where
     -- Each step leaves less to do.
     step-less : T (not (settled i st)) → work ys (step i st) < work ys st
     step-less u = step-case i st (was .sizes) (λ new. work ys new < work ys st) u
-        (λ r a at due. region-case i well st was (λ new. work ys new < work ys st) r a at (λ l. inner-less r a at l) (λ l first q e k n h. leaf-less r a at l
-        first q e k n) (λ t. closed-less r a at t))
+        (λ r a at due. region-case i well st was (λ new. work ys new < work ys st) r a at (λ l. inner-less r a at l) (λ two l first q e k n h. leaf-less r a at l
+        first q e k n two) (λ t. closed-less r a at (barren-opens r t)) (λ one l first q. whole-less r a at one l first q))
         (λ y b at due. yard-less y b at)
 
   module _ (well : WellFormed i) (ys : List ℕ) (all : (y : ℕ) → Below i 0 y → Mem y ys) where
-    so-far : (limit : ℕ) → T (settled i (run i limit .state)) ⊎ (work ys (run i limit .state) + limit ≤ inners (i .tree) + barrens i + 2 * length ys)
+    so-far : (limit : ℕ) → T (settled i (run i limit .state)) ⊎ (work ys (run i limit .state) + limit ≤ allowance i ys)
     unfolding run advance
     so-far zero = inr (omega (arith, work-most ys (startSearch i)))
-    so-far (suc limit) = choose-case (λ (o : Outcome). T (settled i (o .state)) ⊎ (work ys (o .state) + suc limit ≤ inners (i .tree) + barrens i + 2 * length ys)) (settled i
+    so-far (suc limit) = choose-case (λ (o : Outcome). T (settled i (o .state)) ⊎ (work ys (o .state) + suc limit ≤ allowance i ys)) (settled i
         (run i limit .state))
         (λ t. inl t) (λ t. on t (so-far limit))
       where
         st : SearchState
         st = run i limit .state
 
-        on : T (not (settled i st)) → T (settled i st) ⊎ (work ys st + limit ≤ inners (i .tree) + barrens i + 2 * length ys)
-            → T (settled i (step i st)) ⊎ (work ys (step i st) + suc limit ≤ inners (i .tree) + barrens i + 2 * length ys)
+        on : T (not (settled i st)) → T (settled i st) ⊎ (work ys st + limit ≤ allowance i ys)
+            → T (settled i (step i st)) ⊎ (work ys (step i st) + suc limit ≤ allowance i ys)
         on t (inl s) = absurd (T-not (settled i st) t s)
         on t (inr h) = inr (omega (arith, step-less well ys all st (run-kept i well limit) t))
 
     -- a limit of one step for each inner region and each leaf that is taken in vain, and two for each yard, settles
-    pub enough : (limit : ℕ) → inners (i .tree) + barrens i + 2 * length ys ≤ limit → T (settled i (run i limit .state))
+    pub enough : (limit : ℕ) → allowance i ys ≤ limit → T (settled i (run i limit .state))
     enough limit h = go (so-far limit)
       where
         st : SearchState
@@ -352,7 +411,7 @@ module _ (i : Instance) where
         decide true f = tt
         decide false f = f tt
 
-        go : T (settled i st) ⊎ (work ys st + limit ≤ inners (i .tree) + barrens i + 2 * length ys) → T (settled i st)
+        go : T (settled i st) ⊎ (work ys st + limit ≤ allowance i ys) → T (settled i st)
         go (inl t) = t
         go (inr w) = decide (settled i st) (λ t. omega (arith, step-less well ys all st (run-kept i well limit) t))
 

@@ -1,6 +1,6 @@
 -- The definitions of the bounds, one equation for each, for those who compute them. Assumes nothing.
 use mathlib.Core.Path.{_≡_, refl}
-use mathlib.Core.Bool.{not}
+use mathlib.Core.Bool.{false, not}
 use mathlib.Core.List.{List, [], _∷_, List·Memᴰ as Mem, List·Memᴰ·head as head, List·Memᴰ·tail as tail}
 use Prim.Native.Nat.{ℕ, _+_, _-_, _≤_, _<_, max}
 use native.Mathlib.Omega.{arith}
@@ -17,7 +17,7 @@ use Rattle.search_rules.specs.Rule.{Asking}
 use Rattle.search_rules.specs.Instance.{Instance, marks}
 use Rattle.search_rules.specs.Books.{searchOf}
 use Rattle.search_rules.specs.Bounds.{absDiff, combine, aggregate, greatestOf, leastOf, crewBound, tableAt, lower, upper, over, markBound, bound, weight}
-use Rattle.search_rules.specs.Bounds.{bestOf, chosen}
+use Rattle.search_rules.specs.Bounds.{firstMark, twoWayBound, oneWayBound, picked, bestOf, chosen}
 
 -- ---- numbers
 
@@ -101,17 +101,17 @@ module _ (i : Instance) where
   unfolding upper
   upper-is l q = refl
 
-  pub bound-is : (r : ℕ) → bound i r ≡ aggregate (i .code) (λ q. greatestOf (markBound i q) (marks i r)) (i .crews)
-  unfolding bound over
-  bound-is r = refl
+  pub bound-is : T (not (i .oneWay)) → (r : ℕ) → bound i r ≡ aggregate (i .code) (λ q. greatestOf (markBound i q) (marks i r)) (i .crews)
+  unfolding bound twoWayBound over
+  bound-is two r = choose-no (i .oneWay) (oneWayBound i r) (twoWayBound i r) two
 
   pub weight-is : (m : Mark) → weight i m ≡ aggregate 0 (λ q. lower i (m .place) q) (i .crews)
   unfolding weight
   weight-is m = refl
 
-  pub chosen-is : (r : ℕ) → chosen i r ≡ bestOf i (marks i r)
-  unfolding chosen
-  chosen-is r = refl
+  pub chosen-is : T (not (i .oneWay)) → (r : ℕ) → chosen i r ≡ bestOf i (marks i r)
+  unfolding chosen picked
+  chosen-is two r = choose-no (i .oneWay) (firstMark (marks i r)) (picked i r) two
 
   pub marks-is : (r : ℕ) → marks i r ≡ regionAt (i .tree .regions) r .marks
   unfolding marks
@@ -127,9 +127,17 @@ pub search-of : (road tree : List ℕ) (a : Asking) (crews : List ℕ) → searc
   d = dist road;
   admits = searchOf road tree a crews .admits;
   wants = searchOf road tree a crews .wants;
+  oneWay = false;
+  towards = λ r. [];
+  back = λ y. 0;
 }
 unfolding searchOf
 search-of road tree a crews = refl
+
+-- roads run both ways
+pub two-way : (road tree : List ℕ) (a : Asking) (crews : List ℕ) → T (not (searchOf road tree a crews .oneWay))
+unfolding searchOf
+two-way road tree a crews = tt
 
 -- which regions may enter the queue, and which yards are wanted
 module _ (road tree : List ℕ) (a : Asking) (crews : List ℕ) where

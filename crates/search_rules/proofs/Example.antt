@@ -142,6 +142,9 @@ five = record {
   d = λ u v. absDiff (getD along u 0) (getD along v 0);
   admits = λ r. not (eqb r 3);
   wants = λ y. not (eqb y 3);
+  oneWay = false;
+  towards = λ r. [];
+  back = λ y. 0;
 }
 
 bytes : Bytes fiveRegions
@@ -188,12 +191,16 @@ crews-there q (tail (head e)) = rw e (omega arith)
 pub five-sound : SoundInstance five
 unfolding five junctionCount decode fiveRegions u16At
 five-sound = record {
-  well = well-formed five tree-accepted crews-there (omega arith) (λ u v h k. near u v);
+  well = well-formed five tree-accepted crews-there (omega arith) (λ u v h k. near u v) (λ r m k. absurd (not-nil k));
   metric = metric;
-  symmetric = symmetric;
+  symmetric = λ two. symmetric;
   truth = truth-of five tree-accepted (λ r h c m k. list-true five tree-accepted true-numbers r h m k) (λ r h m k. span-true five tree-accepted true-numbers r
-      h m k) (true-kinds five five-kinds);
+      h m k) (true-kinds five five-kinds) (λ one. absurd one) (λ r m y k. absurd (not-nil k));
 }
+
+five-two : T (not (five .oneWay))
+unfolding five
+five-two = tt
 
 -- two inner regions and twice two wanted yards settle, and these two are listed
 wanted-are : keepIf (five .wants) (treeYards (five .tree)) ≡ 1 ∷ 4 ∷ []
@@ -208,7 +215,7 @@ unfolding inners sumFrom oneInner five fiveRegions choose u8At u16At u32At versi
 five-inners = refl
 
 pub five-settles : T (answer five 6 .settled)
-five-settles = sound-ends five tree-accepted 6 five-sound (omega (arith, five-inners, ap (λ (l : List ℕ). length l) wanted-are))
+five-settles = sound-ends five tree-accepted 6 five-two five-sound (omega (arith, five-inners, ap (λ (l : List ℕ). length l) wanted-are))
 
 pub five-lists : answer five 6 .listed ≡ front (five .rule) (ranked five (1 ∷ 4 ∷ []))
 five-lists = rw (← wanted-are) (accepted-exact five tree-accepted 6 five-sound five-settles)

@@ -1,7 +1,8 @@
 -- A search for k yards holds and lists at most k, whatever the tree and the query say. Assumes nothing.
 use mathlib.Core.Path.{_≡_}
-use mathlib.Core.List.{List, []}
+use mathlib.Core.List.{List, [], _∷_}
 use Prim.Native.Nat.{ℕ, zero, suc, min, _≤_}
+use Rattle.tree_layout.specs.Values.{Element, Mark}
 use native.Mathlib.Omega.{arith}
 use lib.ListN.{length, length-take}
 use Rattle.book.proofs.Choosing.{choose-case}
@@ -13,6 +14,7 @@ use Rattle.search_rules.specs.Queue.{queued, wordAt}
 use Rattle.search_rules.specs.Keeping.{keepBy, keep}
 use Rattle.search_rules.specs.Held.{insert, hold, entry}
 use Rattle.search_rules.specs.Step.{SearchState, nextF, openInner, queueNext, closeLeaf, openLeaf, takeRegion, takeYard, nextRegion, nextYard, step}
+use Rattle.search_rules.specs.Step.{queueYard, queueWanted, openWhole, takeLeaf}
 use Rattle.search_rules.specs.Step.{settled}
 use Rattle.search_rules.specs.Step.{startSearch}
 use Rattle.search_rules.specs.Run.{Outcome, advance, run, report, answer}
@@ -26,9 +28,14 @@ module _ (i : Instance) (k : ℕ) (asked : i .rule ≡ nearest k) where
   Few st = length (st .held) ≤ k
 
   -- a region that is taken leaves the held yards
+  wanted-few : (st : SearchState) (first : ℕ) (m : Mark) (es : List Element) → Few st → Few (queueWanted i st first m es)
+  unfolding Few queueWanted queueYard
+  wanted-few st first m [] h = h
+  wanted-few st first m (e ∷ es) h = wanted-few _ first m es (choose-case Few (i .wants (e .yard)) (λ t. h) (λ t. h))
+
   region-few : (st : SearchState) (r a : ℕ) → Few st → Few (takeRegion i st r a)
-  unfolding Few takeRegion openLeaf openInner queueNext closeLeaf
-  region-few st r a h = choose-case Few (leaf i r) (λ l. choose-case Few (queued (nextF i (st .gone) (chosen i r))) (λ t. h) (λ t. h)) (λ l. h)
+  unfolding Few takeRegion takeLeaf openWhole openLeaf openInner queueNext closeLeaf
+  region-few st r a h = choose-case Few (leaf i r) (λ l. choose-case Few (i .oneWay) (λ one. wanted-few _ _ _ _ h) (λ two. choose-case Few (queued (nextF i (st .gone) (chosen i r))) (λ t. h) (λ t. h))) (λ l. h)
 
   yard-few : (st : SearchState) (y : ℕ) → Few (takeYard i st y)
   unfolding Few takeYard keep

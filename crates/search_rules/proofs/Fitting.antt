@@ -1,7 +1,7 @@
 -- No key is above sixteen times a u32, whatever the tree's numbers say: keys are far below `unqueued`. Assumes nothing.
 use mathlib.Core.Path.{_≡_, refl, sym, _∙_}
 use mathlib.Core.Bool.{Bool, true, not}
-use mathlib.Core.List.{List, List·Memᴰ as Mem}
+use mathlib.Core.List.{List, _∷_, List·Memᴰ as Mem, List·Memᴰ·head as head}
 use mathlib.Core.Option.{Option, none, some}
 use Prim.Native.Nat.{ℕ, zero, suc, _≤_, _<_, max}
 use native.Mathlib.Omega.{arith}
@@ -9,17 +9,20 @@ use lib.ListN.{length, set}
 use lib.Dec.{T}
 use Rattle.book.proofs.Choosing.{choose-case}
 use Rattle.tree_layout.specs.Values.{Element, Mark}
-use Rattle.search_rules.specs.Instance.{Instance, children, marks, leaf}
+use Rattle.search_rules.specs.Instance.{Instance, size, children, marks, leaf}
 use Rattle.search_rules.specs.Bounds.{bound, chosen, f, yardBound}
 use Rattle.search_rules.specs.Queue.{unqueued, wordAt}
+use Rattle.search_rules.specs.Step.{queueYard, queueWanted}
 use Rattle.search_rules.specs.Step.{SearchState, passed, againKey, nextF, openInner, queueNext, closeLeaf, takeYard, step, settled, startSearch}
 use Rattle.search_rules.specs.Run.{Outcome, advance, run}
 use Rattle.search_rules.specs.Facts.{WellFormed}
 use Rattle.search_rules.specs.Theorems.{KeysFit}
+use Rattle.search_rules.proofs.Bounds.{chosen-mem}
 use Rattle.search_rules.proofs.Limits.{bound-most, f-most, yardBound-most}
 use Rattle.search_rules.proofs.Queue.{seen, key, word-key, key-eq, no-key, Entered, queued-child, kept, Again, empty, more}
 use Rattle.search_rules.proofs.Stepping.{step-case}
 use Rattle.search_rules.proofs.Kept.{Kept, InnerKey, child, taken, same, inner-key, inner-first, mark-mem, leaf-yard-key, leaf-region-key, leaf-again}
+use Rattle.search_rules.proofs.Kept.{region-range, Rest, whole-yard-key, whole-keeps, whole-rest}
 use Rattle.search_rules.proofs.Kept.{closed-key, taken-yard-key, region-case, start-key, start-yard, run-kept}
 
 abbrev most : ℕ
@@ -32,6 +35,22 @@ record Low (st : SearchState) : Type 0 where
   firsts : (v a : ℕ) → key (st .firsts) v ≡ some a → a ≤ most
 
 module _ (i : Instance) (well : WellFormed i) where
+  queue-fits : (r first : ℕ) (h : r < size i) (l : T (leaf i r)) (s : SearchState) (e : Element) (es : List Element) → Rest i well r first h l s (e ∷ es)
+      → Low s → Low (queueYard i s first (chosen i r) e)
+  unfolding queueYard
+  queue-fits r first h l s e es rest low = record {
+    regions = low .regions;
+    yards = λ v b. whole-yard-key i well r first h l s e es rest (λ o. o ≡ some b → b ≤ most) v
+        (λ p q. omega (
+          arith,
+          key-eq q,
+          yardBound-most i well r (chosen i r) e l (chosen-mem i r (well .shape .marked r h)) (rest .sub e (head refl)),
+          low .firsts r first (rest .first-is),
+        ))
+        (λ p q. low .yards v b q);
+    firsts = low .firsts;
+  }
+
   module _ (st : SearchState) (was : Kept i st) (low : Low st) where
     module _ (r a : ℕ) (at : key (st .regionKeys) r ≡ some a) where
       inner-fits : Low (openInner i st r a)
@@ -78,6 +97,13 @@ module _ (i : Instance) (well : WellFormed i) where
         firsts = low .firsts;
       }
 
+    whole-fits-all : (r a : ℕ) → key (st .regionKeys) r ≡ some a → T (i .oneWay) → T (leaf i r) → (first : ℕ) → key (st .firsts) r ≡ some first
+        → Low (queueWanted i (closeLeaf i st r) first (chosen i r) (chosen i r .list))
+    whole-fits-all r a at one l first first-is =
+        let h = region-range i well st was r at in
+        whole-keeps i well r first h l (λ s es. Low s) (λ s e es rest w q. queue-fits r first h l s e es rest q) (λ s e es rest w q. q)
+            (closeLeaf i st r) (chosen i r .list) (whole-rest i well st was r a at one l first first-is) (closed-fits r a at) .1
+
     yard-low : (y b : ℕ) → key (st .yardKeys) y ≡ some b → Low (takeYard i st y)
     unfolding takeYard
     yard-low y b at = record {
@@ -88,8 +114,8 @@ module _ (i : Instance) (well : WellFormed i) where
 
     step-fits : T (not (settled i st)) → Low (step i st)
     step-fits u = step-case i st (was .sizes) Low u
-        (λ r a at due. region-case i well st was Low r a at (λ l. inner-fits r a at) (λ l first q e k n h. leaf-fits r a at l first q e k n)
-        (λ t. closed-fits r a at))
+        (λ r a at due. region-case i well st was Low r a at (λ l. inner-fits r a at) (λ two l first q e k n h. leaf-fits r a at l first q e k n)
+        (λ t. closed-fits r a at) (λ one l first q. whole-fits-all r a at one l first q))
         (λ y b at due. yard-low y b at)
 
   start-fits : Low (startSearch i)

@@ -2,7 +2,7 @@
 use mathlib.Core.Path.{_≡_, refl, sym, _∙_}
 use mathlib.Core.Logic.{_⊎_, inl, inr, _≢_}
 use mathlib.Core.Bool.{Bool, true, false, not}
-use mathlib.Core.List.{List, _∷_, List·Memᴰ as Mem, List·Memᴰ·not-nil as not-nil, List·Memᴰ·cases-cons as cases-cons}
+use mathlib.Core.List.{List, [], _∷_, List·Memᴰ as Mem, List·Memᴰ·head as head, List·Memᴰ·tail as tail, List·Memᴰ·not-nil as not-nil, List·Memᴰ·cases-cons as cases-cons}
 use mathlib.Core.Option.{Option, none, some}
 use Prim.Native.Nat.{ℕ, zero, suc, _≤_, _<_, max}
 use native.Mathlib.Omega.{arith}
@@ -14,12 +14,15 @@ use Rattle.book.specs.Lists.{Distinct}
 use Rattle.book.proofs.Choosing.{choose-case, choose-yes, choose-no}
 use Rattle.book.proofs.Lists.{kept-from}
 use Rattle.tree_layout.specs.Values.{Element, Mark}
+use Rattle.tree_leaf.specs.Leaf.{yardsIn}
+use Rattle.tree_leaf.proofs.Named.{yards-of}
 use Rattle.search_rules.specs.Instance.{Instance, size, children, marks, leaf}
 use Rattle.search_rules.specs.Bounds.{bound, chosen, f, yardBound}
 use Rattle.search_rules.specs.Queue.{unqueued, queued, wordAt}
 use Rattle.search_rules.specs.Keeping.{keepBy, keep, front}
 use Rattle.search_rules.specs.Held.{entry, ranked}
 use Rattle.search_rules.specs.Step.{SearchState, left, noElement, passed, againKey, nextPlace, nextF, queueChildren, openInner, queueNext, closeLeaf, openLeaf}
+use Rattle.search_rules.specs.Step.{queueYard, queueWanted, openWhole, takeLeaf}
 use Rattle.search_rules.specs.Step.{takeRegion, takeYard, step, settled, rootKeys, startSearch}
 use Rattle.search_rules.specs.Run.{Outcome, advance, run}
 use Rattle.search_rules.specs.Facts.{Below, inside, under, Shape, WellFormed}
@@ -67,6 +70,9 @@ pub record Kept (i : Instance) (st : SearchState) : Type 0 where
   pub leaf-open : (r a : ℕ) (e : Element) → T (leaf i r) → key (st .regionKeys) r ≡ some a → Mem e (chosen i r .list) → T (i .wants (e .yard))
       → OneLeft i (st .gone) (chosen i r)
   pub leaf-fresh : (r : ℕ) (e : Element) → T (leaf i r) → r < size i → Mem e (chosen i r .list) → T (not (has (key (st .firsts) r)))
+      → T (not (left (st .gone) (e .yard)))
+  -- where a leaf queues its yards all at once, none of a queued leaf's has left
+  pub leaf-whole : T (i .oneWay) → (r a : ℕ) (e : Element) → T (leaf i r) → key (st .regionKeys) r ≡ some a → Mem e (chosen i r .list)
       → T (not (left (st .gone) (e .yard)))
 
 -- ---- marking a yard
@@ -174,6 +180,7 @@ module _ (i : Instance) (well : WellFormed i) (st : SearchState) (was : Kept i s
         parent-taken = λ s c k t. gone-by s c k (inner-first c) t;
         leaf-open = λ v b g l e k w. opens v b g l k w (inner-key v) e;
         leaf-fresh = λ v e l h k t. fresh v e l h k (inner-first v) t;
+        leaf-whole = λ one v b g l e k. whole one v b g l k (inner-key v) e;
       }
         where
           enters : (v b : ℕ) {o : Option ℕ} → InnerKey v o → o ≡ some b → T (i .admits v)
@@ -230,6 +237,12 @@ module _ (i : Instance) (well : WellFormed i) (st : SearchState) (was : Kept i s
           fresh v g l h k (queued-child j) t = absurd t
           fresh v g l h k (kept n e) t = was .leaf-fresh v g l h k (rw e at t)
 
+          whole : T (i .oneWay) → (v b : ℕ) (g : Element) → T (leaf i v) → Mem g (chosen i v .list) → {o : Option ℕ} → InnerKey v o → o ≡ some b
+              → T (not (left (st .gone) (g .yard)))
+          whole one v b g l j (child k) e = was .leaf-fresh v g l (well .shape .range r v k) j (not-T (has (key (st .firsts) v)) (fresh-child v k))
+          whole one v b g l j (taken p) e = absurd (no-key e)
+          whole one v b g l j (same p n q) e = was .leaf-whole one v b g l (sym q ∙ e) j
+
     -- ---- a leaf
 
     module _ (is-leaf : T (leaf i r)) where
@@ -273,9 +286,9 @@ module _ (i : Instance) (well : WellFormed i) (st : SearchState) (was : Kept i s
               (chosen i r) g is-leaf mark-mem k,
         ))
 
-        leaf-kept : Kept i (queueNext i st r first (chosen i r) e)
+        leaf-kept : T (not (i .oneWay)) → Kept i (queueNext i st r first (chosen i r) e)
         unfolding queueNext
-        leaf-kept = record {
+        leaf-kept two = record {
           sizes = record {
             regions = length-set (st .regionKeys) r (againKey first (nextF i gone′ m)) ∙ was .sizes .regions;
             yards = length-set (st .yardKeys) y (max (yardBound i m e) first) ∙ was .sizes .yards;
@@ -303,6 +316,7 @@ module _ (i : Instance) (well : WellFormed i) (st : SearchState) (was : Kept i s
           leaf-open = λ v b g l. leaf-region-key (λ o. o ≡ some b → Mem g (chosen i v .list) → T (i .wants (g .yard)) → OneLeft i gone′ (chosen i v)) v
               (λ p q k w. rw p (opens (leaf-again) q)) (λ p q k w. others v p l (region-range v q) (was .leaf-open v b g l q k w));
           leaf-fresh = λ v g l h k t. fresh v g l h k t;
+          leaf-whole = λ one v b g l q k. absurd (T-not (i .oneWay) two one);
         }
           where
             m : Mark
@@ -341,7 +355,7 @@ module _ (i : Instance) (well : WellFormed i) (st : SearchState) (was : Kept i s
     pub closed-key : (P : Option ℕ → Type 0) (v : ℕ) → (v ≡ r → P none) → (v ≢ r → P (key (st .regionKeys) v)) → P (key (set (st .regionKeys) r unqueued) v)
     closed-key P v = key-drop P (st .regionKeys) r (rw (was .sizes .regions) (region-range r at)) v
 
-    closed-kept : Kept i (closeLeaf i st r)
+    pub closed-kept : Kept i (closeLeaf i st r)
     unfolding closeLeaf
     closed-kept = record {
       sizes = record {
@@ -365,6 +379,8 @@ module _ (i : Instance) (well : WellFormed i) (st : SearchState) (was : Kept i s
       leaf-open = λ v b g l. closed-key (λ o. o ≡ some b → Mem g (chosen i v .list) → T (i .wants (g .yard)) → OneLeft i (st .gone) (chosen i v)) v
           (λ p q. absurd (no-key q)) (λ p q. was .leaf-open v b g l q);
       leaf-fresh = was .leaf-fresh;
+      leaf-whole = λ one v b g l. closed-key (λ o. o ≡ some b → Mem g (chosen i v .list) → T (not (left (st .gone) (g .yard)))) v
+          (λ p q. absurd (no-key q)) (λ p q. was .leaf-whole one v b g l q);
     }
 
   -- ---- a yard
@@ -396,6 +412,7 @@ module _ (i : Instance) (well : WellFormed i) (st : SearchState) (was : Kept i s
       parent-taken = was .parent-taken;
       leaf-open = was .leaf-open;
       leaf-fresh = was .leaf-fresh;
+      leaf-whole = was .leaf-whole;
     }
       where
         new : (v c : ℕ) → v ≢ y → key (st .yardKeys) v ≡ some c → (v ≡ y) ⊎ Mem v (st .measured) → ⊥
@@ -416,14 +433,16 @@ module _ (i : Instance) (well : WellFormed i) (st : SearchState) (was : Kept i s
   -- Taking a region, by cases.
   pub region-case : (P : SearchState → Type 0) (r a : ℕ) → key (st .regionKeys) r ≡ some a
       → (T (not (leaf i r)) → P (openInner i st r a))
-      → (T (leaf i r) → (first : ℕ) → key (st .firsts) r ≡ some first → (e : Element) → Mem e (chosen i r .list) → T (not (passed i (st .gone) (e .yard)))
+      → (T (not (i .oneWay)) → T (leaf i r) → (first : ℕ) → key (st .firsts) r ≡ some first → (e : Element) → Mem e (chosen i r .list) → T (not (passed i (st .gone) (e .yard)))
       → ((g : Element) → Mem g (chosen i r .list) → T (not (passed i (st .gone) (g .yard))) → f i (chosen i r) e ≤ f i (chosen i r) g)
       → P (queueNext i st r first (chosen i r) e))
       → (T (barren i r) → P (closeLeaf i st r))
+      → (T (i .oneWay) → T (leaf i r) → (first : ℕ) → key (st .firsts) r ≡ some first → P (queueWanted i (closeLeaf i st r) first (chosen i r) (chosen i r .list)))
       → P (takeRegion i st r a)
-  unfolding takeRegion openLeaf
-  region-case P r a at onInner onLeaf onClosed = choose-case P (leaf i r) (λ l. go l (first-of (key (st .firsts) r) (was .has-first r a at)) (next-is i (st .gone) m
-      (small l))) onInner
+  unfolding takeRegion takeLeaf openWhole openLeaf
+  region-case P r a at onInner onLeaf onClosed onWhole = choose-case P (leaf i r) (λ l.
+      choose-case P (i .oneWay) (λ one. whole one l (first-of (key (st .firsts) r) (was .has-first r a at)))
+      (λ two. go two l (first-of (key (st .firsts) r) (was .has-first r a at)) (next-is i (st .gone) m (small l)))) onInner
     where
       m : Mark
       m = chosen i r
@@ -431,15 +450,18 @@ module _ (i : Instance) (well : WellFormed i) (st : SearchState) (was : Kept i s
       small : T (leaf i r) → (e : Element) → Mem e (m .list) → f i m e < unqueued
       small l e k = omega (arith, f-most i well r m e l (chosen-mem i r (well .shape .marked r (region-range r at))) k)
 
-      go : T (leaf i r) → (x : ℕ) × (key (st .firsts) r ≡ some x) → Next i (st .gone) m
+      whole : T (i .oneWay) → T (leaf i r) → (x : ℕ) × (key (st .firsts) r ≡ some x) → P (queueWanted i (closeLeaf i st r) (wordAt (st .firsts) r) m (m .list))
+      whole one l (first, q) = rw (key-word (st .firsts) r q) (onWhole one l first q)
+
+      go : T (not (i .oneWay)) → T (leaf i r) → (x : ℕ) × (key (st .firsts) r ≡ some x) → Next i (st .gone) m
           → P (choose (queued (nextF i (st .gone) m)) (queueNext i st r (wordAt (st .firsts) r) m (getD (m .list) (nextPlace i (st .gone) m) noElement))
           (closeLeaf i st r))
-      go l x (no-more h all) = rw (choose-no (queued (nextF i (st .gone) m)) (queueNext i st r (wordAt (st .firsts) r) m (getD (m .list) (nextPlace i (st .gone) m)
+      go two l x (no-more h all) = rw (choose-no (queued (nextF i (st .gone) m)) (queueNext i st r (wordAt (st .firsts) r) m (getD (m .list) (nextPlace i (st .gone) m)
           noElement)) (closeLeaf i st r) (not-T (queued (nextF i (st .gone) m)) (λ t. omega (arith, queued-small (nextF i (st .gone) m) t))))
           (onClosed (barren-by i r (was .admitted r a at) l (λ e k w.
           let z = was .leaf-open r a e l at k w in
           T-not (passed i (st .gone) (z .element .yard)) (z .stays) (all (z .element) (z .mem)))))
-      go l (first, q) (one-more e p w s k n h) =
+      go two l (first, q) (one-more e p w s k n h) =
           let t : T (queued (nextF i (st .gone) m)) = small-queued (nextF i (st .gone) m) (omega arith) in
           rw (
             choose-yes (queued (nextF i (st .gone) m)) (queueNext i st r (wordAt (st .firsts) r) m (getD (m .list) (nextPlace i (st .gone) m) noElement))
@@ -447,13 +469,162 @@ module _ (i : Instance) (well : WellFormed i) (st : SearchState) (was : Kept i s
             key-word (st .firsts) r q,
             p,
           )
-          (onLeaf l first q e k n h)
+          (onLeaf two l first q e k n h)
+
+-- ---- the yards of a leaf queued all at once
+
+-- a state in which a leaf that has left the queue queues some elements of its list: what is left of them
+module _ (i : Instance) (well : WellFormed i) (r first : ℕ) (number : r < size i) (is-leaf : T (leaf i r)) where
+  pub record Rest (st : SearchState) (es : List Element) : Type 0 where
+    pub kept : Kept i st
+    pub out : key (st .regionKeys) r ≡ none
+    pub first-is : key (st .firsts) r ≡ some first
+    pub sub : (g : Element) → Mem g es → Mem g (chosen i r .list)
+    pub in-tree : (g : Element) → Mem g es → T (i .wants (g .yard)) → Below i 0 (g .yard)
+    pub here : (g : Element) → Mem g es → T (not (left (st .gone) (g .yard)))
+    pub distinct : Distinct (yardsIn es)
+
+  abbrev m : Mark
+  m = chosen i r
+
+  mine : Mem m (marks i r)
+  mine = chosen-mem i r (well .shape .marked r number)
+
+  module _ (st : SearchState) (e : Element) (es : List Element) (rest : Rest st (e ∷ es)) where
+    abbrev was : Kept i st
+    was = rest .kept
+
+    mem : Mem e (m .list)
+    mem = rest .sub e (head refl)
+
+    pub whole-fits : e .yard < i .tree .junctions
+    whole-fits = well .shape .yards r m e is-leaf mine mem
+
+    pub whole-gone : e .yard < length (st .gone)
+    whole-gone = rw (was .sizes .gone) whole-fits
+
+    pub whole-yard-key : (P : Option ℕ → Type 0) (v : ℕ) → (v ≡ e .yard → P (some (max (yardBound i m e) first))) → (v ≢ e .yard → P (key (st .yardKeys) v))
+        → P (key (set (st .yardKeys) (e .yard) (max (yardBound i m e) first)) v)
+    whole-yard-key P v = key-put P (st .yardKeys) (e .yard) (max (yardBound i m e) first)
+        (omega (arith, yardBound-most i well r m e is-leaf mine mem, key-small (st .firsts) r (rest .first-is))) (rw (was .sizes .yards) whole-fits) v
+
+    -- an element of another leaf names another yard
+    other : (v : ℕ) (g : Element) → v ≢ r → T (leaf i v) → v < size i → Mem g (chosen i v .list) → g .yard ≢ e .yard
+    other v g n l h k p = n (well .shape .one-leaf v r (chosen i v) m (e .yard) l is-leaf (chosen-mem i v (well .shape .marked v h)) mine
+        (record { element = g; mem = k; names = p }) (record { element = e; mem = mem; names = refl }))
+
+    queued-other : (v b : ℕ) → key (st .regionKeys) v ≡ some b → v ≢ r
+    queued-other v b q p = no-key (sym (rest .out) ∙ rw p at q)
+
+    number-of : (v b : ℕ) → key (st .regionKeys) v ≡ some b → v < size i
+    number-of v b q = rw (← was .sizes .regions) (key-range (st .regionKeys) v q)
+
+    queue-kept : T (i .wants (e .yard)) → Kept i (queueYard i st first m e)
+    unfolding queueYard
+    queue-kept w = record {
+      sizes = record {
+        regions = was .sizes .regions;
+        yards = length-set (st .yardKeys) (e .yard) (max (yardBound i m e) first) ∙ was .sizes .yards;
+        firsts = was .sizes .firsts;
+        gone = length-set (st .gone) (e .yard) true ∙ was .sizes .gone;
+      };
+      queued-left = λ v b. whole-yard-key (λ o. o ≡ some b → T (left (set (st .gone) (e .yard) true) v)) v
+          (λ p q. rw p (left-new (st .gone) (e .yard) whole-gone)) (λ p q. left-more (st .gone) (e .yard) whole-gone v (was .queued-left v b q));
+      queued-new = λ v b. whole-yard-key (λ o. o ≡ some b → Mem v (st .measured) → ⊥) v
+          (λ p q k. T-not (left (st .gone) (e .yard)) (rest .here e (head refl)) (was .measured-left (e .yard) (rw p at k))) (λ p q. was .queued-new v b q);
+      measured-left = λ v k. left-more (st .gone) (e .yard) whole-gone v (was .measured-left v k);
+      once = was .once;
+      first-ranked = was .first-ranked;
+      admitted = was .admitted;
+      regions-in = was .regions-in;
+      yards-in = λ v b. whole-yard-key (λ o. o ≡ some b → Below i 0 v) v (λ p q. rw p (rest .in-tree e (head refl) w)) (λ p q. was .yards-in v b q);
+      measured-in = was .measured-in;
+      has-first = was .has-first;
+      parent-first = was .parent-first;
+      parent-taken = was .parent-taken;
+      leaf-open = λ v b g l q k x. others v b l q (was .leaf-open v b g l q k x);
+      leaf-fresh = λ v g l h k t. left-other (st .gone) (e .yard) whole-gone (g .yard)
+          (other v g (λ p. T-not (has (key (st .firsts) v)) t (rw p (has-key (rest .first-is)))) l h k) (was .leaf-fresh v g l h k t);
+      leaf-whole = λ one v b g l q k. left-other (st .gone) (e .yard) whole-gone (g .yard)
+          (other v g (queued-other v b q) l (number-of v b q) k) (was .leaf-whole one v b g l q k);
+    }
+      where
+        others : (v b : ℕ) → T (leaf i v) → key (st .regionKeys) v ≡ some b → OneLeft i (st .gone) (chosen i v)
+            → OneLeft i (set (st .gone) (e .yard) true) (chosen i v)
+        others v b l q x = record {
+          element = x .element;
+          mem = x .mem;
+          stays = stays-other i (st .gone) (e .yard) whole-gone (x .element .yard) (other v (x .element) (queued-other v b q) l (number-of v b q) (x .mem)) (x .stays);
+        }
+
+    -- the elements after it name other yards
+    after : (g : Element) → Mem g es → g .yard ≢ e .yard
+    unfolding yardsIn
+    after g k p = rest .distinct .0 (rw p at (yards-of es g k))
+
+    pub rest-on : T (i .wants (e .yard)) → Rest (queueYard i st first m e) es
+    unfolding queueYard yardsIn
+    rest-on w = record {
+      kept = queue-kept w;
+      out = rest .out;
+      first-is = rest .first-is;
+      sub = λ g k. rest .sub g (tail k);
+      in-tree = λ g k. rest .in-tree g (tail k);
+      here = λ g k. left-other (st .gone) (e .yard) whole-gone (g .yard) (after g k) (rest .here g (tail k));
+      distinct = rest .distinct .1;
+    }
+
+    pub rest-off : Rest st es
+    unfolding yardsIn
+    rest-off = record {
+      kept = was;
+      out = rest .out;
+      first-is = rest .first-is;
+      sub = λ g k. rest .sub g (tail k);
+      in-tree = λ g k. rest .in-tree g (tail k);
+      here = λ g k. rest .here g (tail k);
+      distinct = rest .distinct .1;
+    }
+
+  -- what each wanted yard that is queued keeps, and each unwanted one that is passed over, all of them keep
+  pub whole-keeps : (Q : SearchState → List Element → Type 0)
+      → ((st : SearchState) (e : Element) (es : List Element) → Rest st (e ∷ es) → T (i .wants (e .yard)) → Q st (e ∷ es) → Q (queueYard i st first m e) es)
+      → ((st : SearchState) (e : Element) (es : List Element) → Rest st (e ∷ es) → T (not (i .wants (e .yard))) → Q st (e ∷ es) → Q st es)
+      → (st : SearchState) (es : List Element) → Rest st es → Q st es → Rest (queueWanted i st first m es) [] × Q (queueWanted i st first m es) []
+  unfolding queueWanted
+  whole-keeps Q on off st [] rest q = (rest, q)
+  whole-keeps Q on off st (e ∷ es) rest q =
+      let both = choose-case (λ (s : SearchState). Rest s es × Q s es) (i .wants (e .yard)) (λ w. (rest-on st e es rest w, on st e es rest w q))
+          (λ w. (rest-off st e es rest, off st e es rest w q)) in
+      whole-keeps Q on off (choose (i .wants (e .yard)) (queueYard i st first m e) st) es (both .0) (both .1)
+
+module _ (i : Instance) (well : WellFormed i) (st : SearchState) (was : Kept i st) where
+  -- a leaf that is taken, before its first yard is queued
+  pub whole-rest : (r a : ℕ) (at : key (st .regionKeys) r ≡ some a) → T (i .oneWay) → (l : T (leaf i r)) → (first : ℕ) → key (st .firsts) r ≡ some first
+      → Rest i well r first (region-range i well st was r at) l (closeLeaf i st r) (chosen i r .list)
+  unfolding closeLeaf
+  whole-rest r a at one l first first-is = record {
+    kept = closed-kept i well st was r a at;
+    out = closed-key i well st was r a at (λ o. o ≡ none) r (λ p. refl) (λ p. absurd (p refl));
+    first-is = first-is;
+    sub = λ g k. k;
+    in-tree = λ g k w. was .regions-in r a (g .yard) at
+        (inside (chosen i r) (was .admitted r a at) l (mark-mem i well st was r a at l) (record { element = g; mem = k; names = refl }) w);
+    here = λ g k. was .leaf-whole one r a g l at k;
+    distinct = well .shape .distinct-listed r (chosen i r) l (mark-mem i well st was r a at l);
+  }
+
+  pub whole-kept : (r a : ℕ) → key (st .regionKeys) r ≡ some a → T (i .oneWay) → T (leaf i r) → (first : ℕ) → key (st .firsts) r ≡ some first
+      → Kept i (queueWanted i (closeLeaf i st r) first (chosen i r) (chosen i r .list))
+  whole-kept r a at one l first first-is =
+      whole-keeps i well r first (region-range i well st was r at) l (λ s es. Unit {0}) (λ s e es x w q. tt) (λ s e es x w q. tt)
+          (closeLeaf i st r) (chosen i r .list) (whole-rest r a at one l first first-is) tt .0 .kept
 
   pub step-kept : T (not (settled i st)) → Kept i (step i st)
   step-kept u = step-case i st (was .sizes) (Kept i) u
-      (λ r a at due. region-case (Kept i) r a at (λ l. inner-kept r a at l) (λ l first q e k n h. leaf-kept r a at l first q e k n)
-      (λ t. closed-kept r a at))
-      (λ y b at due. yard-kept y b at)
+      (λ r a at due. region-case i well st was (Kept i) r a at (λ l. inner-kept i well st was r a at l) (λ two l first q e k n h. leaf-kept i well st was r a at l first q e k n two)
+      (λ t. closed-kept i well st was r a at) (λ one l first q. whole-kept r a at one l first q))
+      (λ y b at due. yard-kept i well st was y b at)
 
 -- ---- the start
 
@@ -522,6 +693,7 @@ module _ (i : Instance) (well : WellFormed i) where
         → key (startSearch i .regionKeys) r ≡ none) c (λ p u. absurd (omega (arith, well .shape .rise r c k))) (λ p t. absurd t);
     leaf-open = λ v b g l e k w. record { element = g; mem = k; stays = stays-by i (startSearch i .gone) (g .yard) (start-left (g .yard)) w };
     leaf-fresh = λ v e l h k t. start-left (e .yard);
+    leaf-whole = λ one v b e l q k. start-left (e .yard);
   }
 
   pub run-kept : (limit : ℕ) → Kept i (run i limit .state)

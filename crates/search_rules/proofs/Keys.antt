@@ -22,7 +22,8 @@ use Rattle.search_rules.specs.Books.{searchOf}
 use Rattle.search_rules.specs.Bounds.{tableAt, lower, upper, over, total, markBound, bound, weight, best, bestOf, chosen, listAbsDiff, yardBound}
 use Rattle.search_rules.specs.Keys.{greatestBound, firstKey, isHome, homeFrom, home, boundIn, yardKey}
 use Rattle.search_rules.specs.Facts.{Below, inside, under, Shape, SoundInstance}
-use Rattle.search_rules.proofs.Bounds.{chosen-mem, in-chosen, lower-under, bound-under, yardBound-le}
+use Rattle.search_rules.proofs.Bounds.{tableBound, chosen-mem, in-chosen, lower-under, bound-under, yardBound-le}
+use Rattle.search_rules.specs.Bounds.{awayBound, firstMark, lowerTo, oneWayBound, oneWayYardBound, picked, pointBound, towardsBound, twoWayBound, twoWayYardBound, upperFrom}
 
 -- ---- the greatest bound on the way
 
@@ -151,7 +152,7 @@ module _ (i : Instance) (sound : SoundInstance i) where
   shape = sound .well .shape
 
   -- no bound on the way to a yard is above the aggregate of what the table gives of it
-  first-under : {r y : ℕ} → r < size i → Below i r y → firstKey i r ≤ over i (lower i y) → firstKey i (home i y) ≤ over i (lower i y)
+  first-under : {r y : ℕ} → r < size i → Below i r y → firstKey i r ≤ tableBound i y → firstKey i (home i y) ≤ tableBound i y
   first-under {r} {y} h (inside m a l k x w) p =
       let z = in-chosen i shape h l (inside m a l k x w) in
       let e : home i y ≡ r = rw (z .names) at (home-is i shape r (z .element) h l (z .mem)) in
@@ -180,12 +181,11 @@ module _ (i : Instance) (sound : SoundInstance i) where
       go : {r : ℕ} → r < size i → Below i r y → yardKey i y ≤ total i y
       go {r} h (inside m a l k x w) =
           let z = in-chosen i shape h l (inside m a l k x w) in
-          let c = chosen-mem i r (shape .marked r h) in
           omega (
             arith,
             ap (yardKey i) (z .names),
             key-bound r (z .element) h l (z .mem) (rw (z .names) below),
-            yardBound-le i shape (sound .metric) (sound .symmetric) (sound .truth) r (chosen i r) (z .element) l c (z .mem),
+            yardBound-le i shape (sound .metric) (sound .symmetric) (sound .truth) r (z .element) h l (z .mem),
             ap (total i) (z .names),
           )
       go {r} h (under c a l k b) = go (shape .range r c k) b
@@ -195,5 +195,5 @@ module _ (i : Instance) (sound : SoundInstance i) where
 pub key-alone : (road tree crews : List ℕ) (code : ℕ) (r s : Rule) (v w : ℕ) (y : ℕ)
     → yardKey (searchOf road tree (record { code = code; rule = r; wanted = v }) crews) y
     ≡ yardKey (searchOf road tree (record { code = code; rule = s; wanted = w }) crews) y
-unfolding searchOf yardKey home homeFrom isHome boundIn firstKey greatestBound size leaf chosen bestOf best weight lower upper tableAt marks yardBound listAbsDiff over bound markBound
+unfolding searchOf yardKey home homeFrom isHome boundIn firstKey greatestBound size leaf chosen bestOf best weight lower upper tableAt marks yardBound listAbsDiff over bound markBound twoWayBound oneWayBound awayBound towardsBound upperFrom lowerTo picked firstMark twoWayYardBound oneWayYardBound pointBound
 key-alone road tree crews code r s v w y = refl

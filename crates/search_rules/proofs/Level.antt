@@ -2,7 +2,7 @@
 use mathlib.Core.Path.{_≡_, sym, _∙_}
 use mathlib.Core.Logic.{_⊎_, inl, inr, _≢_}
 use mathlib.Core.Bool.{Bool, true, not}
-use mathlib.Core.List.{List, List·Memᴰ as Mem, List·Memᴰ·not-nil as not-nil, List·Memᴰ·cases-cons as cases-cons}
+use mathlib.Core.List.{List, _∷_, List·Memᴰ as Mem, List·Memᴰ·not-nil as not-nil, List·Memᴰ·cases-cons as cases-cons}
 use mathlib.Core.Option.{Option, none, some}
 use Prim.Native.Nat.{ℕ, zero, suc, _≤_, _<_, max}
 use native.Mathlib.Omega.{arith}
@@ -17,6 +17,7 @@ use Rattle.search_rules.specs.Keys.{yardKey}
 use Rattle.search_rules.specs.Queue.{unqueued}
 use Rattle.search_rules.specs.Keeping.{keepBy, keep}
 use Rattle.search_rules.specs.Held.{entry}
+use Rattle.search_rules.specs.Step.{queueYard, queueWanted}
 use Rattle.search_rules.specs.Step.{SearchState, passed, openInner, queueNext, closeLeaf, takeYard, step, settled, startSearch}
 use Rattle.search_rules.specs.Run.{Outcome, advance, run}
 use Rattle.search_rules.specs.Facts.{Below, WellFormed, SoundInstance}
@@ -26,6 +27,7 @@ use Rattle.search_rules.proofs.Bounds.{f-le}
 use Rattle.search_rules.proofs.Queue.{key, key-eq, no-key, Again, empty, more}
 use Rattle.search_rules.proofs.Stepping.{Due, step-case}
 use Rattle.search_rules.proofs.Kept.{Kept, stays-before, closed-key, InnerKey, child, taken, same, inner-key, yard-fits}
+use Rattle.search_rules.proofs.Kept.{region-range, Rest, whole-yard-key, whole-keeps, whole-rest}
 use Rattle.search_rules.proofs.Kept.{leaf-yard-key, leaf-region-key, leaf-again, taken-yard-key, yard-kept, region-case, run-kept}
 use Rattle.search_rules.proofs.Keys.{yard-is, key-low}
 use Rattle.search_rules.proofs.Keyed.{Keyed, run-keyed}
@@ -40,7 +42,25 @@ pub record MeasuredKey (i : Instance) (st : SearchState) (y : ℕ) : Type 0 wher
 abbrev pub Level : Instance → SearchState → Type 0
 Level i st = (y : ℕ) → Mem y (st .measured) → MeasuredKey i st y
 
+-- the same while a leaf queues its yards, whose first key no measured yard's is above
+record LevelBelow (i : Instance) (first : ℕ) (st : SearchState) : Type 0 where
+  level : Level i st
+  below : (y : ℕ) → Mem y (st .measured) → yardKey i y ≤ first
+
 module _ (i : Instance) (well : WellFormed i) where
+  queue-level : (r first : ℕ) (h : r < size i) (l : T (leaf i r)) (s : SearchState) (e : Element) (es : List Element) → Rest i well r first h l s (e ∷ es)
+      → LevelBelow i first s → LevelBelow i first (queueYard i s first (chosen i r) e)
+  unfolding queueYard
+  queue-level r first h l s e es rest q = record {
+    level = λ z k. record {
+      regions = q .level z k .regions;
+      yards = λ v b. whole-yard-key i well r first h l s e es rest (λ o. o ≡ some b → yardKey i z ≤ b) v
+          (λ p t. omega (arith, key-eq t, q .below z k)) (λ p t. q .level z k .yards v b t);
+      held = q .level z k .held;
+    };
+    below = q .below;
+  }
+
   module _ (st : SearchState) (was : Kept i st) (keyed : Keyed i st) (level : Level i st) where
     module _ (r a : ℕ) (at : key (st .regionKeys) r ≡ some a) where
       -- ---- an inner region
@@ -62,9 +82,9 @@ module _ (i : Instance) (well : WellFormed i) where
 
       leaf-level : (is-leaf : T (leaf i r)) (first : ℕ) → key (st .firsts) r ≡ some first → (e : Element) → (mem : Mem e (chosen i r .list))
           → T (not (passed i (st .gone) (e .yard)))
-          → Level i (queueNext i st r first (chosen i r) e)
+          → T (not (i .oneWay)) → Level i (queueNext i st r first (chosen i r) e)
       unfolding queueNext
-      leaf-level is-leaf first first-is e mem stays z k = record {
+      leaf-level is-leaf first first-is e mem stays two z k = record {
         regions = λ v b. leaf-region-key i well st was r a at is-leaf first first-is e mem stays (λ o. o ≡ some b → yardKey i z ≤ b) v
             (λ p q. omega (arith, again-up b (leaf-again i well st was r a at is-leaf first first-is e mem stays) q, level z k .regions r a at))
             (λ p q. level z k .regions v b q);
@@ -93,7 +113,7 @@ module _ (i : Instance) (well : WellFormed i) where
           )
 
           yard-up : a ≤ max (yardBound i m e) first
-          yard-up = omega (arith, keyed .first-is r first first-is, keyed .leaf-is r a e is-leaf at mem stays, f-le i m e)
+          yard-up = omega (arith, keyed .first-is r first first-is, keyed .leaf-is r a e is-leaf at mem stays, f-le i two m e)
 
       -- ---- a leaf without any wanted yard
 
@@ -104,6 +124,23 @@ module _ (i : Instance) (well : WellFormed i) where
         yards = level z k .yards;
         held = level z k .held;
       }
+
+    -- ---- a leaf that queues its yards all at once
+
+    taken-level : (r a : ℕ) (at : key (st .regionKeys) r ≡ some a) → T (i .oneWay) → (first : ℕ) → key (st .firsts) r ≡ some first
+        → LevelBelow i first (closeLeaf i st r)
+    unfolding closeLeaf
+    taken-level r a at one first first-is = record {
+      level = closed-level r a at;
+      below = λ z k. omega (arith, level z k .regions r a at, keyed .whole-is one r a at, keyed .first-is r first first-is);
+    }
+
+    whole-level : (r a : ℕ) → key (st .regionKeys) r ≡ some a → T (i .oneWay) → T (leaf i r) → (first : ℕ) → key (st .firsts) r ≡ some first
+        → Level i (queueWanted i (closeLeaf i st r) first (chosen i r) (chosen i r .list))
+    whole-level r a at one l first first-is =
+        let h = region-range i well st was r at in
+        whole-keeps i well r first h l (λ s es. LevelBelow i first s) (λ s e es rest w q. queue-level r first h l s e es rest q) (λ s e es rest w q. q)
+            (closeLeaf i st r) (chosen i r .list) (whole-rest i well st was r a at one l first first-is) (taken-level r a at one first first-is) .1 .level
 
     -- ---- a yard
 
@@ -138,8 +175,8 @@ module _ (i : Instance) (well : WellFormed i) where
 
     step-level : ((y : ℕ) → Below i 0 y → yardKey i y ≤ total i y) → T (not (settled i st)) → Level i (step i st)
     step-level low u = step-case i st (was .sizes) (Level i) u
-        (λ r a at due. region-case i well st was (Level i) r a at (λ l. inner-level r a at) (λ l first q e k n h. leaf-level r a at l first q e k n)
-        (λ t. closed-level r a at))
+        (λ r a at due. region-case i well st was (Level i) r a at (λ l. inner-level r a at) (λ two l first q e k n h. leaf-level r a at l first q e k n two)
+        (λ t. closed-level r a at) (λ one l first q. whole-level r a at one l first q))
         (λ y b at due. yard-level y b (omega (arith, keyed .queued-is y b at, low y (was .yards-in y b at))) at due)
 
   start-level : Level i (startSearch i)

@@ -41,3 +41,6 @@ pub mod Worked
 pub mod WorkedTies
 pub mod WorkedKeys
 pub mod Example
+pub mod TwoWay
+pub mod Agreement
+pub mod WorkedWays

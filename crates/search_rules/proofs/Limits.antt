@@ -1,7 +1,7 @@
 -- The limits of bounds and aggregates, whatever the tree's numbers say. Assumes nothing.
 use mathlib.Core.Path.{refl}
 use mathlib.Core.List.{List, [], _∷_, List·Memᴰ as Mem, List·Memᴰ·head as head}
-use Prim.Native.Nat.{ℕ, suc, _+_, _*_, _≤_, _<_}
+use Prim.Native.Nat.{ℕ, suc, _+_, _-_, _*_, _≤_, _<_, max}
 use native.Mathlib.Nat.{suc-mul, mul-le-mul-right}
 use native.Mathlib.Omega.{arith}
 use lib.ListN.{length}
@@ -11,6 +11,7 @@ use Rattle.tree_layout.specs.Values.{Element, Mark}
 use Rattle.search_rules.specs.Instance.{Instance, marks, leaf}
 use Rattle.search_rules.specs.Bounds.{absDiff, combine, aggregate, greatestOf, leastFrom, leastOf, crewBound, tableAt, lower, upper, over, total}
 use Rattle.search_rules.specs.Bounds.{markBound}
+use Rattle.search_rules.specs.Bounds.{pointBound, twoWayBound, lowerTo, awayBound, towardsBound, oneWayBound, twoWayYardBound, oneWayYardBound}
 use Rattle.search_rules.specs.Bounds.{bound, weight, listAbsDiff, f, yardBound}
 use Rattle.search_rules.specs.Facts.{WellFormed}
 use Rattle.search_rules.proofs.Bounds.{greatestOf-le, aggregate-mono}
@@ -67,11 +68,32 @@ module _ (i : Instance) (well : WellFormed i) where
       ))
 
   -- a region's bound: sixteen times a u32
-  pub bound-most : (r : ℕ) → bound i r ≤ 68719476720
-  unfolding bound markBound
-  bound-most r = over-most (λ q. greatestOf (markBound i q) (marks i r)) 4294967295
+  two-most : (r : ℕ) → twoWayBound i r ≤ 68719476720
+  unfolding twoWayBound markBound
+  two-most r = over-most (λ q. greatestOf (markBound i q) (marks i r)) 4294967295
       (λ q c. greatestOf-le (markBound i q) 4294967295 (marks i r) (λ m k. crewBound-most _ _ (m .least) (m .greatest) 4294967295
       (omega (arith, lower-most (m .place) q (well .shape .places r m k) (well .shape .crews q c))) (well .small .least r m k)))
+
+  pub lowerTo-most : (l q : ℕ) → l < i .tree .junctions → q < i .tree .junctions → lowerTo i l q ≤ 67042305
+  unfolding lowerTo pointBound
+  lowerTo-most l q a b = greatestOf-le (λ r. max (i .d (r .place) l - i .d (r .place) q) (i .d q (r .place) - i .d l (r .place))) 67042305 (marks i 0)
+      (λ m k. omega (
+        arith,
+        well .small .distances (m .place) l (well .shape .places 0 m k) a,
+        well .small .distances q (m .place) b (well .shape .places 0 m k),
+      ))
+
+  one-most : (r : ℕ) → oneWayBound i r ≤ 68719476720
+  unfolding oneWayBound awayBound towardsBound
+  one-most r = over-most _ 4294967295 (λ q c. omega (
+    arith,
+    greatestOf-le (awayBound i q) 4294967295 (marks i r) (λ m k. omega (arith, well .small .least r m k)),
+    greatestOf-le (towardsBound i q) 4294967295 (i .towards r) (λ m k. omega (arith, lowerTo-most (m .place) q (well .shape .returns r m k) (well .shape .crews q c))),
+  ))
+
+  pub bound-most : (r : ℕ) → bound i r ≤ 68719476720
+  unfolding bound
+  bound-most r = choose-case (λ x. x ≤ 68719476720) (i .oneWay) (λ t. one-most r) (λ t. two-most r)
 
   module _ (r : ℕ) (m : Mark) (e : Element) (l : T (leaf i r)) (k : Mem m (marks i r)) (j : Mem e (m .list)) where
     listAbsDiff-most : (q : ℕ) → q < i .tree .junctions → listAbsDiff i m e q ≤ 67042305
@@ -84,10 +106,23 @@ module _ (i : Instance) (well : WellFormed i) where
     unfolding f
     f-most = over-most _ 67042305 (λ q c. omega (arith, listAbsDiff-most q (well .shape .crews q c)))
 
+    one-yard-most : oneWayYardBound i m e ≤ 1072676880
+    unfolding oneWayYardBound pointBound
+    one-yard-most = over-most _ 67042305 (λ q c. omega (
+      arith,
+      lowerTo-most (e .yard) q (well .shape .yards r m e l k j) (well .shape .crews q c),
+      well .small .lists r m e l k j,
+      well .small .distances q (m .place) (well .shape .crews q c) (well .shape .places r m k),
+    ))
+
+    two-yard-most : twoWayYardBound i m e ≤ 1072676880
+    unfolding twoWayYardBound
+    two-yard-most = over-most _ 67042305
+        (λ q c. omega (arith, listAbsDiff-most q (well .shape .crews q c), lower-most (e .yard) q (well .shape .yards r m e l k j) (well .shape .crews q c)))
+
     pub yardBound-most : yardBound i m e ≤ 1072676880
     unfolding yardBound
-    yardBound-most = over-most _ 67042305
-        (λ q c. omega (arith, listAbsDiff-most q (well .shape .crews q c), lower-most (e .yard) q (well .shape .yards r m e l k j) (well .shape .crews q c)))
+    yardBound-most = choose-case (λ x. x ≤ 1072676880) (i .oneWay) (λ t. one-yard-most) (λ t. two-yard-most)
 
   -- a yard's aggregate, which is written in a word of 32 bits, and the sum by which a leaf picks its landmark
   pub total-most : (y : ℕ) → y < i .tree .junctions → total i y ≤ 1072676880

@@ -1,16 +1,16 @@
 -- What is computed of a yard: an equation for each definition, for those who compute it. Assumes nothing.
 use mathlib.Core.Path.{_≡_, refl}
-use mathlib.Core.Bool.{Bool, false}
+use mathlib.Core.Bool.{not, Bool, false}
 use mathlib.Core.List.{List, [], _∷_}
 use Prim.Native.Nat.{ℕ, _+_, _≤_, max}
 use native.Mathlib.Omega.{arith}
 use lib.ListN.{length, getD}
-use lib.Dec.{eqb}
+use lib.Dec.{T, eqb}
 use Rattle.book.specs.Choose.{choose}
-use Rattle.book.proofs.Choosing.{choose-case}
+use Rattle.book.proofs.Choosing.{choose-case, choose-no}
 use Rattle.tree_layout.specs.Values.{Element, Mark}
 use Rattle.search_rules.specs.Instance.{Instance}
-use Rattle.search_rules.specs.Bounds.{absDiff, combine, aggregate, lower, over, total, furthest, listAbsDiff, f, yardBound}
+use Rattle.search_rules.specs.Bounds.{absDiff, combine, aggregate, lower, over, total, furthest, listAbsDiff, f, twoWayYardBound, oneWayYardBound, yardBound}
 use Rattle.search_rules.specs.Queue.{unqueued, wordAt, pick}
 use Rattle.search_rules.specs.Step.{left, passed, waiting, nextPlace, nextF}
 
@@ -39,10 +39,10 @@ module _ (i : Instance) where
   unfolding f over listAbsDiff
   f-is m e = refl
 
-  pub yard-bound-is : (m : Mark) (e : Element)
+  pub yard-bound-is : T (not (i .oneWay)) → (m : Mark) (e : Element)
       → yardBound i m e ≡ aggregate (i .code) (λ q. max (lower i (e .yard) q) (absDiff (i .d (m .place) q) (e .distance))) (i .crews)
-  unfolding yardBound over listAbsDiff
-  yard-bound-is m e = refl
+  unfolding yardBound twoWayYardBound over listAbsDiff
+  yard-bound-is two m e = choose-no (i .oneWay) (oneWayYardBound i m e) (twoWayYardBound i m e) two
 
 -- ---- of a leaf's list
 

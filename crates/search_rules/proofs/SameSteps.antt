@@ -15,6 +15,7 @@ use Rattle.book.proofs.Lists.{or-left, or-cases}
 use Rattle.search_rules.specs.Rule.{Rule, nearest, inDrive}
 use Rattle.search_rules.specs.Instance.{Instance, leaf}
 use Rattle.search_rules.specs.Order.{Entry, yardFirst}
+use Rattle.tree_layout.specs.Values.{Element, Mark}
 use Rattle.search_rules.specs.Bounds.{chosen}
 use Rattle.search_rules.specs.Queue.{queued, wordAt}
 use Rattle.search_rules.specs.Held.{insert, hold, lastDistance, greatestHeld, entry}
@@ -26,6 +27,7 @@ use Rattle.search_rules.proofs.Choices.{choose-two}
 use Rattle.search_rules.proofs.Wanted.{length-map}
 use Rattle.search_rules.proofs.Held.{take-mem}
 use Rattle.search_rules.proofs.Order.{first-before, before-first, before-le}
+use Rattle.search_rules.specs.Step.{openWhole, queueWanted, queueYard, takeLeaf}
 
 -- ---- aggregates alone
 
@@ -181,9 +183,15 @@ module _ (i : Instance) where
   yard-same (inDrive s) e held es l =
       choose-two Level (leb (e .distance) s) (λ t. one-more e held (heldBefore (inDrive s) es) l) (λ t. l)
 
+  wanted-same : (st : SearchState) (first : ℕ) (m : Mark) (es : List Element) → Same st → Same (queueWanted i st first m es)
+  unfolding Same queueWanted queueYard
+  wanted-same st first m [] h = h
+  wanted-same st first m (e ∷ es) h = wanted-same _ first m es (choose-case Same (i .wants (e .yard)) (λ t. h) (λ t. h))
+
   region-same : (st : SearchState) (r a : ℕ) → Same st → Same (takeRegion i st r a)
-  unfolding Same takeRegion openLeaf openInner queueNext closeLeaf
-  region-same st r a h = choose-case Same (leaf i r) (λ l. choose-case Same (queued (nextF i (st .gone) (chosen i r))) (λ t. h) (λ t. h)) (λ l. h)
+  unfolding Same takeRegion openLeaf openInner queueNext closeLeaf takeLeaf openWhole queueWanted queueYard
+  region-same st r a h = choose-case Same (leaf i r) (λ l. choose-case Same (i .oneWay) (λ one. wanted-same (closeLeaf i st r) (wordAt (st .firsts) r) (chosen i r) (chosen i r .list) h)
+      (λ two. choose-case Same (queued (nextF i (st .gone) (chosen i r))) (λ t. h) (λ t. h))) (λ l. h)
 
   step-same : (st : SearchState) → Same st → Same (step i st)
   unfolding Same step takeYard keep
@@ -202,8 +210,17 @@ module _ (i : Instance) where
   -- ---- a search by the order that was
 
   -- what a step holds alone goes by what was held
+  wanted-before : (s t : SearchState) (first : ℕ) (m : Mark) (es : List Element) → withBefore i s ≡ withBefore i t
+      → withBefore i (queueWanted i s first m es) ≡ withBefore i (queueWanted i t first m es)
+  unfolding withBefore queueWanted queueYard
+  wanted-before s t first m [] h = h
+  wanted-before s t first m (e ∷ es) h = wanted-before _ _ first m es (choose-two (λ (x y : SearchState). withBefore i x ≡ withBefore i y) (i .wants (e .yard)) (λ w. one) (λ w. h))
+    where
+      one : withBefore i (queueYard i s first m e) ≡ withBefore i (queueYard i t first m e)
+      one = ap (λ (x : SearchState). withBefore i (queueYard i x first m e)) h
+
   step-before : (st : SearchState) → withBefore i (step i (withBefore i st)) ≡ withBefore i (step i st)
-  unfolding withBefore step takeYard takeRegion openLeaf openInner queueNext closeLeaf keep nextRegion nextYard
+  unfolding withBefore step takeYard takeRegion openLeaf openInner queueNext closeLeaf keep nextRegion nextYard takeLeaf openWhole queueWanted queueYard
   step-before st =
       let a = wordAt (st .regionKeys) (nextRegion i st) in
       let b = wordAt (st .yardKeys) (nextYard i st) in
@@ -213,7 +230,8 @@ module _ (i : Instance) where
       Alike s t = withBefore i s ≡ withBefore i t
 
       region : (r : ℕ) → withBefore i (takeRegion i (withBefore i st) r (wordAt (st .regionKeys) r)) ≡ withBefore i (takeRegion i st r (wordAt (st .regionKeys) r))
-      region r = choose-two Alike (leaf i r) (λ l. choose-two Alike (queued (nextF i (st .gone) (chosen i r))) (λ t. refl) (λ t. refl)) (λ l. refl)
+      region r = choose-two Alike (leaf i r) (λ l. choose-two Alike (i .oneWay) (λ one. wanted-before (closeLeaf i (withBefore i st) r) (closeLeaf i st r) (wordAt (st .firsts) r) (chosen i r) (chosen i r .list) refl)
+          (λ two. choose-two Alike (queued (nextF i (st .gone) (chosen i r))) (λ t. refl) (λ t. refl))) (λ l. refl)
 
   settled-before : (limit : ℕ) → settled i (withBefore i (run i limit .state)) ≡ settled i (run i limit .state)
   unfolding Same withBefore settled enough leastKey nextRegion nextYard

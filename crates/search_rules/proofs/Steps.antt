@@ -17,7 +17,7 @@ use Rattle.search_rules.specs.Queue.{unqueued, queued, wordAt, pick}
 use Rattle.search_rules.specs.Keeping.{keepBy, enoughBy, keep, enough}
 use Rattle.search_rules.specs.Held.{entry}
 use Rattle.search_rules.specs.Step.{SearchState, noElement, againKey, waiting, nextPlace, nextF, queueChildren, openInner, queueNext, closeLeaf}
-use Rattle.search_rules.specs.Step.{openLeaf}
+use Rattle.search_rules.specs.Step.{openLeaf, queueWanted, openWhole, takeLeaf}
 use Rattle.search_rules.specs.Step.{takeRegion, takeYard, nextRegion, nextYard, leastKey, step, settled, rootKeys, startSearch}
 use Rattle.search_rules.proofs.Queue.{small-queued, queued-small}
 
@@ -89,13 +89,18 @@ module _ (i : Instance) where
     step-region h k = step-is ∙ (choose-yes (queued (min a b)) Taken st (small-queued (min a b) (omega arith))
         ∙ choose-no (ltb b a) (takeYard i st y) (takeRegion i st r a) (not-T (ltb b a) (λ t. omega (arith, ltb→lt b a t))))
 
-  pub take-leaf : (st : SearchState) (r a : ℕ) → T (leaf i r) → takeRegion i st r a ≡ openLeaf i st r
-  unfolding takeRegion
-  take-leaf st r a t = choose-yes (leaf i r) (openLeaf i st r) (openInner i st r a) t
+  pub take-leaf : (st : SearchState) (r a : ℕ) → T (not (i .oneWay)) → T (leaf i r) → takeRegion i st r a ≡ openLeaf i st r
+  unfolding takeRegion takeLeaf
+  take-leaf st r a two t = choose-yes (leaf i r) _ (openInner i st r a) t ∙ choose-no (i .oneWay) (openWhole i st r) (openLeaf i st r) two
+
+  pub take-whole : (st : SearchState) (r a : ℕ) → T (i .oneWay) → T (leaf i r)
+      → takeRegion i st r a ≡ queueWanted i (closeLeaf i st r) (wordAt (st .firsts) r) (chosen i r) (chosen i r .list)
+  unfolding takeRegion takeLeaf openWhole
+  take-whole st r a one t = choose-yes (leaf i r) _ (openInner i st r a) t ∙ choose-yes (i .oneWay) _ (openLeaf i st r) one
 
   pub take-inner : (st : SearchState) (r a : ℕ) → T (not (leaf i r)) → takeRegion i st r a ≡ openInner i st r a
   unfolding takeRegion
-  take-inner st r a t = choose-no (leaf i r) (openLeaf i st r) (openInner i st r a) t
+  take-inner st r a t = choose-no (leaf i r) (takeLeaf i st r) (openInner i st r a) t
 
   -- ---- what is taken
 

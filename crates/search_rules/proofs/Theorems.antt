@@ -18,7 +18,7 @@ use Rattle.search_rules.specs.Keeping.{front}
 use Rattle.search_rules.specs.Step.{leastKey, settled, startSearch}
 use Rattle.search_rules.specs.Run.{words, advance, run, report, answer}
 use Rattle.search_rules.specs.Facts.{WellFormed, SoundInstance}
-use Rattle.search_rules.specs.Theorems.{TreeYards, Covers, barrens, Listing, Limited, Bounded, Decided, Right}
+use Rattle.search_rules.specs.Theorems.{TreeYards, Covers, barrens, allowance, Listing, Limited, Bounded, Decided, Right}
 use Rattle.search_rules.proofs.Bounds.{bound-le, f-le, yardBound-le}
 use Rattle.search_rules.proofs.Queue.{word-key}
 use Rattle.search_rules.proofs.Held.{ranked-length}
@@ -123,8 +123,7 @@ pub answer-listing : (i : Instance) → WellFormed i → (limit : ℕ) → T (an
 answer-listing i well limit t = rw (answer-listed i limit t) (run-listing i well limit)
 
 -- a limit of inner regions, leaves that are taken in vain, and twice the yards settles
-pub answer-ends : (i : Instance) → WellFormed i → (limit : ℕ) → (ys : List ℕ) → Covers i ys → inners (i .tree) + barrens i + 2 * length ys ≤ limit
-    → T (answer i limit .settled)
+pub answer-ends : (i : Instance) → WellFormed i → (limit : ℕ) → (ys : List ℕ) → Covers i ys → allowance i ys ≤ limit → T (answer i limit .settled)
 answer-ends i well limit ys all h = rw (answer-settled i limit) (enough i well ys all limit h)
 
 -- no more are listed than there are wanted yards
@@ -149,12 +148,24 @@ module _ (i : Instance) (a : Accepted (i .tree)) (limit : ℕ) where
   ys = keepIf (i .wants) (treeYards (i .tree))
 
   -- a limit of inner regions plus twice the yards settles
-  pub accepted-ends : WellFormed i → inners (i .tree) + 2 * i .tree .yards ≤ limit → T (answer i limit .settled)
-  accepted-ends well h = answer-ends i well limit ys (tree-covers i a) (omega (arith, barrens-few i a, a .whole .yard-count))
+  allowance-two : T (not (i .oneWay)) → allowance i ys ≡ inners (i .tree) + barrens i + 2 * length ys
+  unfolding allowance
+  allowance-two two = choose-no (i .oneWay) (size i + length ys) (inners (i .tree) + barrens i + 2 * length ys) two
+
+  allowance-one : T (i .oneWay) → allowance i ys ≡ size i + length ys
+  unfolding allowance
+  allowance-one one = choose-yes (i .oneWay) (size i + length ys) (inners (i .tree) + barrens i + 2 * length ys) one
+
+  -- "regions plus yards is the limit promised to settle": on any tree, with the wanted yards alone
+  pub one-way-ends : T (i .oneWay) → WellFormed i → size i + length ys ≤ limit → T (answer i limit .settled)
+  one-way-ends one well h = answer-ends i well limit ys (tree-covers i a) (omega (arith, allowance-one one))
+
+  pub accepted-ends : T (not (i .oneWay)) → WellFormed i → inners (i .tree) + 2 * i .tree .yards ≤ limit → T (answer i limit .settled)
+  accepted-ends two well h = answer-ends i well limit ys (tree-covers i a) (omega (arith, allowance-two two, barrens-few i a, a .whole .yard-count))
 
   -- of a true tree plus twice the wanted yards
-  pub sound-ends : SoundInstance i → inners (i .tree) + 2 * length ys ≤ limit → T (answer i limit .settled)
-  sound-ends sound h = answer-ends i (sound .well) limit ys (tree-covers i a) (omega (arith, no-barrens i sound))
+  pub sound-ends : T (not (i .oneWay)) → SoundInstance i → inners (i .tree) + 2 * length ys ≤ limit → T (answer i limit .settled)
+  sound-ends two sound h = answer-ends i (sound .well) limit ys (tree-covers i a) (omega (arith, allowance-two two, no-barrens i sound))
 
   pub accepted-exact : SoundInstance i → T (answer i limit .settled) → answer i limit .listed ≡ front (i .rule) (ranked i ys)
   accepted-exact sound t = answer-exact i sound limit t ys (sound-yards i sound a)

@@ -29,7 +29,7 @@ use Rattle.tree.proofs.Members.{gather-mem, gather-from, no-children}
 use Rattle.tree.proofs.Siblings.{starts-none, children-are}
 use Rattle.tree.proofs.Theorems.{tree-facts, accepted-whole}
 use Rattle.search_rules.specs.Instance.{Instance, size, children, marks, leaf}
-use Rattle.search_rules.specs.Bounds.{chosen}
+use Rattle.search_rules.specs.Bounds.{firstMark, chosen}
 use Rattle.search_rules.specs.Facts.{Listed, Below, inside, under, Holds, listed, child's, Shape, Small, WellFormed, Truth}
 use Rattle.search_rules.specs.Theorems.{Covers}
 use Rattle.search_rules.proofs.Bounds.{below-wanted, chosen-mem}
@@ -236,9 +236,11 @@ module _ (i : Instance) (a : Accepted (i .tree)) where
 
   -- ---- shape
 
-  pub shape-of : ((q : ℕ) → Mem q (i .crews) → q < i .tree .junctions) → Shape i
+  pub shape-of : ((q : ℕ) → Mem q (i .crews) → q < i .tree .junctions) → ((r : ℕ) (m : Mark) → Mem m (i .towards r) → m .place < i .tree .junctions) → Shape i
   unfolding size marks
-  shape-of crews = record {
+  shape-of crews returns = record {
+    distinct-listed = λ r m l k. a .whole .holdings .listed-once r (mark-range r m k) (leaf-zero r l) m k;
+    returns = returns;
     root = a .there;
     rise = λ r c k. above r c (child-of i r c k) .0;
     range = λ r c k. above r c (child-of i r c k) .1;
@@ -281,8 +283,9 @@ module _ (i : Instance) (a : Accepted (i .tree)) where
 
 -- a search of an accepted tree, whose crews stand at its junctions and whose distances are within the limit, is well formed
 pub well-formed : (i : Instance) → Accepted (i .tree) → ((q : ℕ) → Mem q (i .crews) → q < i .tree .junctions) → length (i .crews) ≤ 16
-    → ((u v : ℕ) → u < i .tree .junctions → v < i .tree .junctions → i .d u v ≤ 67042305) → WellFormed i
-well-formed i a crews few near = record { shape = shape-of i a crews; small = small-of i a near few }
+    → ((u v : ℕ) → u < i .tree .junctions → v < i .tree .junctions → i .d u v ≤ 67042305)
+    → ((r : ℕ) (m : Mark) → Mem m (i .towards r) → m .place < i .tree .junctions) → WellFormed i
+well-formed i a crews few near returns = record { shape = shape-of i a crews returns; small = small-of i a near few }
 
 -- its numbers are true if its lists' distances are, each landmark's least and greatest enclose the distances to the yards below its region, and a region may
 -- enter the queue exactly if a yard below it is wanted
@@ -293,9 +296,14 @@ pub truth-of : (i : Instance) → Accepted (i .tree)
     → ((r : ℕ) → r < length (i .tree .regions) → (m : Mark) → Mem m (regionAt (i .tree .regions) r .marks) → (y : ℕ) → Mem y (yardsBelow (i .tree .regions) r)
     → (m .least ≤ i .d (m .place) y) × (i .d (m .place) y ≤ m .greatest))
     → TrueKinds i
+    → (T (i .oneWay) → (r : ℕ) (e : Element) → r < length (i .tree .regions) → regionAt (i .tree .regions) r .children ≡ 0
+    → Mem e (firstMark (regionAt (i .tree .regions) r .marks) .list) → i .back (e .yard) ≡ i .d (e .yard) (firstMark (regionAt (i .tree .regions) r .marks) .place))
+    → ((r : ℕ) (m : Mark) (y : ℕ) → Mem m (i .towards r) → Mem y (yardsBelow (i .tree .regions) r) → i .d y (m .place) ≤ m .greatest)
     → Truth i
 unfolding marks size
-truth-of i a lists encloses kinds = record {
+truth-of i a lists encloses kinds backs furthest = record {
+  backs = λ one r e h l k. backs one r e h (leaf-zero i a r l) k;
+  furthest = λ r m y k b. furthest r m y k (holds-mem i a (below-holds b));
   lists = λ r m e l k j. lists r (mark-range i a r m k) (leaf-zero i a r l) m k e j;
   least = λ r m y k b. encloses r (mark-range i a r m k) m k y (holds-mem i a (below-holds b)) .0;
   greatest = λ r m y k b. encloses r (mark-range i a r m k) m k y (holds-mem i a (below-holds b)) .1;

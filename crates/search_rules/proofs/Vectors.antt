@@ -26,6 +26,8 @@ use Rattle.search_rules.specs.Step.{openLeaf}
 use Rattle.search_rules.specs.Step.{takeRegion, takeYard, nextRegion, nextYard, leastKey, step, settled, rootKeys, startSearch}
 use Rattle.search_rules.specs.Run.{words, advance, run, report, answer}
 use Rattle.search_rules.specs.Examples.{onChain, at, leafOf, three, from0, from2}
+use Rattle.search_rules.specs.Step.{takeLeaf}
+use Rattle.search_rules.specs.Bounds.{picked, twoWayBound, twoWayYardBound}
 
 -- ---- nets that are chains
 
@@ -66,7 +68,7 @@ unfolding row onChain at leafOf netN oneJunction three from0 from2 twoLeaves eig
     yardFirst keep enough keepBy enoughBy names once inRange namedBy firstList agreeing sameYards leafOk siblings subtree endOf starts childrenOf size keepIf children marks leaf
     absDiff combine aggregate greatestOf leastFrom leastOf crewBound noMark tableAt lower upper over total furthest markBound bound weight best bestOf chosen
     listAbsDiff f yardBound queued wordAt pick insert hold lastDistance greatestHeld entry left noElement againKey passed waiting nextPlace nextF queueChildren openInner
-    queueNext closeLeaf openLeaf takeRegion takeYard nextRegion nextYard leastKey step settled rootKeys startSearch words advance run report answer
+    queueNext closeLeaf openLeaf takeRegion takeYard nextRegion nextYard leastKey step settled rootKeys startSearch words advance run report answer twoWayBound picked twoWayYardBound takeLeaf
 starred = refl
 
 -- limit 0 is spent with no step taken; a tree of two leaves, where yards 1, 2 and 5 tie at 12 and the furthest crew is 11, 9 and 9 away: 2 and 5 are held, and
@@ -77,7 +79,7 @@ unfolding row onChain at leafOf netN oneJunction three from0 from2 twoLeaves eig
     yardFirst keep enough keepBy enoughBy names once inRange namedBy firstList agreeing sameYards leafOk siblings subtree endOf starts childrenOf size keepIf children marks leaf
     absDiff combine aggregate greatestOf leastFrom leastOf crewBound noMark tableAt lower upper over total furthest markBound bound weight best bestOf chosen
     listAbsDiff f yardBound queued wordAt pick insert hold lastDistance greatestHeld entry left noElement againKey passed waiting nextPlace nextF queueChildren openInner
-    queueNext closeLeaf openLeaf takeRegion takeYard nextRegion nextYard leastKey step settled rootKeys startSearch words advance run report answer
+    queueNext closeLeaf openLeaf takeRegion takeYard nextRegion nextYard leastKey step settled rootKeys startSearch words advance run report answer twoWayBound picked twoWayYardBound takeLeaf
 limits = refl
 
 -- ---- bounds
@@ -91,7 +93,7 @@ bounds = refl
 -- 6)
 pub regions : bound twoLeaves 0 ∷ bound twoLeaves 1 ∷ bound twoLeaves 2 ∷ bound (eight (4 ∷ [])) 2 ∷ [] ≡ 1 ∷ 2 ∷ 1 ∷ 0 ∷ []
 unfolding onChain at leafOf twoLeaves eight choose leafMark innerMark firstDistance lastFrom noRegion regionAt marks absDiff combine aggregate greatestOf
-    leastFrom leastOf crewBound tableAt lower upper over markBound bound
+    leastFrom leastOf crewBound tableAt lower upper over markBound bound twoWayBound
 regions = refl
 
 -- crews whose distances from every landmark are 5, 5 and 10
@@ -104,6 +106,9 @@ crewsAt = record {
   d = λ u v. getD (0 ∷ 5 ∷ 10 ∷ []) v 0;
   admits = λ r. true;
   wants = λ y. true;
+  oneWay = false;
+  towards = λ r. [];
+  back = λ y. 0;
 }
 
 -- "Crew values 5, 5, 10 and list 4, 7: f is 8 and 7."
@@ -122,7 +127,7 @@ unfolding onChain at leafOf three from0 from2 choose leafMark innerMark firstDis
     namedBy firstList agreeing sameYards leafOk siblings subtree endOf starts childrenOf size keepIf children marks leaf absDiff combine aggregate greatestOf
     leastFrom leastOf crewBound noMark tableAt lower upper over total furthest markBound bound weight best bestOf chosen listAbsDiff f yardBound queued wordAt pick
     insert hold lastDistance greatestHeld entry left noElement againKey passed waiting nextPlace nextF queueChildren openInner queueNext closeLeaf openLeaf takeRegion takeYard
-    nextRegion nextYard leastKey step settled rootKeys startSearch advance run
+    nextRegion nextYard leastKey step settled rootKeys startSearch advance run twoWayBound picked twoWayYardBound takeLeaf
 ties = refl
 
 pub orders : run (three (from0 ∷ [])) 2 .state .measured ∷ run twoLeaves 6 .state .measured ∷ [] ≡ [] ∷ (1 ∷ []) ∷ []
@@ -130,5 +135,5 @@ unfolding onChain at leafOf three from0 from2 twoLeaves eight choose leafMark in
     names once inRange namedBy firstList agreeing sameYards leafOk siblings subtree endOf starts childrenOf size keepIf children marks leaf absDiff combine aggregate
     greatestOf leastFrom leastOf crewBound noMark tableAt lower upper over total furthest markBound bound weight best bestOf chosen listAbsDiff f yardBound queued
     wordAt pick insert hold lastDistance greatestHeld entry left noElement againKey passed waiting nextPlace nextF queueChildren openInner queueNext closeLeaf openLeaf takeRegion
-    takeYard nextRegion nextYard leastKey step settled rootKeys startSearch advance run
+    takeYard nextRegion nextYard leastKey step settled rootKeys startSearch advance run twoWayBound picked twoWayYardBound takeLeaf
 orders = refl

@@ -1,6 +1,7 @@
 -- A search reads nothing of its tree's version. Assumes nothing.
 use mathlib.Core.Path.{_≡_, refl, ap, _∙_}
-use mathlib.Core.List.{List}
+use mathlib.Core.Bool.{false}
+use mathlib.Core.List.{List, []}
 use Prim.Native.Nat.{ℕ}
 use lib.ListN.{length}
 use Rattle.road.specs.Dijkstra.{dist}
@@ -17,6 +18,8 @@ use Rattle.search_rules.specs.Keeping.{keep, enough}
 use Rattle.search_rules.specs.Step.{passed, waiting, nextPlace, nextF, queueChildren, openInner, queueNext, closeLeaf, openLeaf, takeRegion, takeYard}
 use Rattle.search_rules.specs.Step.{nextRegion, nextYard, leastKey, step, settled, rootKeys, startSearch}
 use Rattle.search_rules.specs.Run.{advance, run, report, answer}
+use Rattle.search_rules.specs.Bounds.{awayBound, firstMark, lowerTo, oneWayBound, oneWayYardBound, picked, pointBound, towardsBound, twoWayBound, twoWayYardBound, upperFrom}
+use Rattle.search_rules.specs.Step.{openWhole, queueWanted, queueYard, takeLeaf}
 
 -- the same search of a tree of a version
 abbrev pub reversioned : ℕ → Instance → Instance
@@ -34,12 +37,15 @@ reversioned v i = record {
   d = i .d;
   admits = i .admits;
   wants = i .wants;
+  oneWay = i .oneWay;
+  towards = i .towards;
+  back = i .back;
 }
 
 pub answer-reversioned : (i : Instance) (v limit : ℕ) → answer (reversioned v i) limit ≡ answer i limit
 unfolding size children marks leaf tableAt lower upper over total furthest markBound bound weight best bestOf chosen listAbsDiff f yardBound entry keep enough passed
     waiting nextPlace nextF queueChildren openInner queueNext closeLeaf openLeaf takeRegion takeYard nextRegion nextYard leastKey step settled rootKeys
-    startSearch advance run report answer
+    startSearch advance run report answer twoWayBound oneWayBound awayBound towardsBound upperFrom lowerTo picked firstMark twoWayYardBound oneWayYardBound pointBound takeLeaf openWhole queueWanted queueYard
 answer-reversioned i v limit = refl
 
 -- two tree books whose trees differ at most in their version are searched alike
@@ -56,6 +62,9 @@ module _ (road tree tree′ : List ℕ) (a : Asking) (crews : List ℕ) (js : de
     d = dist road;
     admits = λ r. shares (a .wanted) (regionAt (rs i) r .kinds);
     wants = λ y. shares (a .wanted) (kindsFrom (rs i) (length (rs i)) 0 y);
+    oneWay = false;
+    towards = λ r. [];
+    back = λ y. 0;
   }
 
   pub answer-alike : (limit : ℕ) → answer (searchOf road tree a crews) limit ≡ answer (searchOf road tree′ a crews) limit

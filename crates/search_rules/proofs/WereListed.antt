@@ -1,7 +1,7 @@
 -- There are lists in the order that was before: a search for one crew whose distances are the aggregates ranks the yards so. Assumes nothing.
 use mathlib.Core.Path.{_≡_, refl, sym, ap, _∙_}
 use mathlib.Core.Logic.{_⊎_, inl, inr}
-use mathlib.Core.Bool.{true}
+use mathlib.Core.Bool.{true, false}
 use mathlib.Core.List.{List, [], _∷_, map, List·Memᴰ as Mem, Memᴰ·map, Memᴰ·cast}
 use Prim.Native.Nat.{ℕ, _≤_, _<_, min, max}
 use native.Mathlib.Omega.{arith}
@@ -47,6 +47,9 @@ module _ (road : List ℕ) (roads : Passing road) (code : ℕ) (crews ys : List 
     d = λ q y. sum y;
     admits = λ x. true;
     wants = λ x. true;
+    oneWay = false;
+    towards = λ r. [];
+    back = λ y. 0;
   }
 
   lone-entry : (r : Rule) (y : ℕ) → entry (lone r) y ≡ entryOf (sum y) (sum y) y

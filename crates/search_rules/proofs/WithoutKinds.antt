@@ -28,6 +28,7 @@ use Rattle.search_rules.specs.Rule.{Asking}
 use Rattle.search_rules.specs.Books.{searchOf}
 use Rattle.search_rules.specs.Instance.{Instance, withoutKinds, size, children, marks, leaf}
 use Rattle.search_rules.specs.Bounds.{tableAt, lower, upper, over, total, furthest, markBound, bound, weight, best, bestOf, chosen, listAbsDiff, f, yardBound}
+use Rattle.search_rules.specs.Bounds.{firstMark, twoWayBound, lowerTo, upperFrom, awayBound, towardsBound, oneWayBound, picked, twoWayYardBound, oneWayYardBound}
 use Rattle.search_rules.specs.Held.{entry}
 use Rattle.search_rules.specs.Keeping.{keep, enough}
 use Rattle.search_rules.specs.Queue.{queued, wordAt, pick}
@@ -35,6 +36,7 @@ use Rattle.search_rules.specs.Step.{SearchState, noElement, againKey, pa
 use Rattle.search_rules.specs.Step.{takeYard, nextRegion, nextYard, leastKey, step, settled, rootKeys, startSearch}
 use Rattle.search_rules.specs.Run.{Outcome, advance, run, report, answer}
 use Rattle.search_rules.proofs.Bounds.{chosen-mem}
+use Rattle.search_rules.specs.Step.{openWhole, queueWanted, queueYard, takeLeaf}
 
 -- two choices by one test are equal if their sides are, each where it is chosen
 choose-same : {A : Type 0} (b : Bool) {x y v w : A} → (T b → x ≡ v) → (T (not b) → y ≡ w) → choose b x y ≡ choose b v w
@@ -66,8 +68,19 @@ module _ (i : Instance) (root : T (i .admits 0)) (enter : (r c : ℕ) → Mem c 
       ap (λ (ws : List ℕ). wordAt ws (nextPlace i gone m)) (same-waiting gone m (m .list) (wanted r l))
       ∙ ap (λ (p : ℕ). wordAt (waiting all gone m (m .list)) p) (same-place gone r l)
 
+  -- a leaf that queues its yards all at once
+  same-wanted : (st : SearchState) (first : ℕ) (m : Mark) (es : List Element) → ((e : Element) → Mem e es → T (i .wants (e .yard)))
+      → queueWanted i st first m es ≡ queueWanted all st first m es
+  unfolding queueWanted queueYard yardBound twoWayYardBound oneWayYardBound listAbsDiff over lower lowerTo tableAt marks
+  same-wanted st first m [] h = refl
+  same-wanted st first m (e ∷ es) h = rw (T-true (i .wants (e .yard)) (h e (head refl))) (same-wanted _ first m es (λ g k. h g (tail k)))
+
+  same-whole : (st : SearchState) (r : ℕ) → T (leaf i r) → openWhole i st r ≡ openWhole all st r
+  unfolding openWhole closeLeaf chosen picked bestOf best weight lower tableAt marks
+  same-whole st r l = same-wanted (closeLeaf i st r) (wordAt (st .firsts) r) (chosen i r) (chosen i r .list) (wanted r l)
+
   same-leaf : (st : SearchState) (r : ℕ) → T (leaf i r) → openLeaf i st r ≡ openLeaf all st r
-  unfolding openLeaf queueNext closeLeaf chosen bestOf best weight lower tableAt marks yardBound listAbsDiff over
+  unfolding openLeaf queueNext closeLeaf chosen picked bestOf best weight lower tableAt marks yardBound twoWayYardBound oneWayYardBound lowerTo listAbsDiff over
   same-leaf st r l = λ j.
       let m = chosen i r in
       let e = getD (m .list) (same-place (st .gone) r l j) noElement in
@@ -90,14 +103,14 @@ module _ (i : Instance) (root : T (i .admits 0)) (enter : (r c : ℕ) → Mem c 
       kept-all (i .admits) cs (enter r) ∙ sym (kept-all (all .admits) cs (λ c k. tt))
 
   same-inner : (st : SearchState) (r a : ℕ) → openInner i st r a ≡ openInner all st r a
-  unfolding openInner queueChildren bound over markBound lower upper tableAt marks
+  unfolding openInner queueChildren bound twoWayBound oneWayBound awayBound towardsBound upperFrom lowerTo over markBound lower upper tableAt marks
   same-inner st r a = rw (same-children r) refl
 
   -- ---- a step, and a run
 
   same-region : (st : SearchState) (r a : ℕ) → takeRegion i st r a ≡ takeRegion all st r a
-  unfolding takeRegion leaf
-  same-region st r a = choose-same (leaf i r) (same-leaf st r) (λ t. same-inner st r a)
+  unfolding takeRegion leaf takeLeaf
+  same-region st r a = choose-same (leaf i r) (λ l. choose-same (i .oneWay) (λ one. same-whole st r l) (λ two. same-leaf st r l)) (λ t. same-inner st r a)
 
   same-step : (st : SearchState) → step i st ≡ step all st
   unfolding step nextRegion nextYard size takeYard keep entry total over furthest
@@ -109,7 +122,7 @@ module _ (i : Instance) (root : T (i .admits 0)) (enter : (r c : ℕ) → Mem c 
       choose (queued (min a b)) (choose (ltb b a) (takeYard i st y) (same-region st r a j)) st
 
   same-start : startSearch i ≡ startSearch all
-  unfolding startSearch rootKeys size bound over markBound lower upper tableAt marks
+  unfolding startSearch rootKeys size bound twoWayBound oneWayBound awayBound towardsBound upperFrom lowerTo over markBound lower upper tableAt marks
   same-start = rw (T-true (i .admits 0) root) refl
 
   same-run : (steps : ℕ) → run i steps ≡ run all steps
@@ -154,7 +167,7 @@ module _ (road tree : List ℕ) (a : Asking) (crews : List ℕ) (ok : treeRefusa
 
   -- each yard in a leaf's list is wanted
   leaf-marked : (r : ℕ) (e : Element) → Mem e (chosen i r .list) → Mem (chosen i r) (marks i r)
-  unfolding chosen bestOf noMark
+  unfolding searchOf chosen picked bestOf noMark choose
   leaf-marked r e k = chosen-mem i r (λ n. not-nil (rw n at k))
 
   leaf-wanted : (r : ℕ) → T (leaf i r) → (e : Element) → Mem e (chosen i r .list) → T (i .wants (e .yard))

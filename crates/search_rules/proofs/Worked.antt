@@ -20,6 +20,8 @@ use Rattle.search_rules.specs.Run.{advance, run, report, answer}
 use Rattle.search_rules.specs.Theorems.{anyWanted, barren, barrenFrom, barrens}
 use Rattle.search_rules.specs.Examples.{onChain, at, found, leafOf, three, from0, from2, heavy, near, sixFor, six, across, driven, wanting, fourOnly, inVain, noneWanted, netFor, ended, counts, lists}
 use Rattle.search_rules.specs.Examples.{regionKeysAfter, yardKeysAfter, measuredAfter, Worked}
+use Rattle.search_rules.specs.Step.{takeLeaf}
+use Rattle.search_rules.specs.Bounds.{picked, twoWayBound, twoWayYardBound}
 
 pub worked : Worked
 unfolding onChain at found leafOf three from0 from2 heavy near sixFor six across driven wanting fourOnly inVain noneWanted netFor ended counts lists regionKeysAfter yardKeysAfter measuredAfter choose leafMark innerMark firstDistance lastFrom
@@ -27,7 +29,7 @@ unfolding onChain at found leafOf three from0 from2 heavy near sixFor six across
     marks leaf absDiff combine aggregate greatestOf leastFrom leastOf crewBound tableAt lower upper over total furthest markBound bound weight best bestOf chosen
     listAbsDiff f yardBound queued wordAt pick yardFirst insert hold lastDistance greatestHeld entry keep enough keepBy enoughBy left noElement againKey passed waiting nextPlace nextF
     queueChildren openInner queueNext closeLeaf openLeaf takeRegion takeYard nextRegion nextYard leastKey step settled rootKeys startSearch advance run report answer
-    anyWanted barren barrenFrom barrens
+    anyWanted barren barrenFrom barrens twoWayBound picked twoWayYardBound takeLeaf
 worked = record {
   tied-weights = refl;
   first-landmark = refl;

@@ -20,6 +20,8 @@ use Rattle.search_rules.specs.Step.{takeRegion, takeYard, nextRegion, ne
 use Rattle.search_rules.specs.Run.{advance, run, report, answer}
 use Rattle.search_rules.specs.Examples.{onChain, at, found, leafOf, three, from0, near, sixFor, six, driven, lists, measuredAfter, regionKeysAfter, yardKeysAfter}
 use Rattle.search_rules.specs.KeyExamples.{seven, WorkedKeys}
+use Rattle.search_rules.specs.Step.{takeLeaf}
+use Rattle.search_rules.specs.Bounds.{picked, twoWayBound, twoWayYardBound}
 
 pub worked-keys : WorkedKeys
 unfolding seven onChain at found leafOf three from0 near sixFor six driven lists measuredAfter regionKeysAfter yardKeysAfter onWay greatestBound firstKey isHome homeFrom home
@@ -27,7 +29,7 @@ unfolding seven onChain at found leafOf three from0 near sixFor six driven lists
     noRegion regionAt noMark all comes names once inRange namedBy firstList agreeing sameYards leafOk childFits siblings subtree endOf starts childrenOf size keepIf children
     marks leaf absDiff combine aggregate greatestOf leastFrom leastOf crewBound tableAt lower upper over total furthest markBound bound weight best bestOf chosen
     listAbsDiff f yardBound queued wordAt pick yardFirst insert hold lastDistance greatestHeld entry keep enough keepBy enoughBy left noElement againKey passed waiting nextPlace nextF
-    queueChildren openInner queueNext closeLeaf openLeaf takeRegion takeYard nextRegion nextYard leastKey step settled rootKeys startSearch advance run report answer
+    queueChildren openInner queueNext closeLeaf openLeaf takeRegion takeYard nextRegion nextYard leastKey step settled rootKeys startSearch advance run report answer twoWayBound picked twoWayYardBound takeLeaf
 worked-keys = record {
   first-keys = refl;
   homes = refl;

@@ -19,13 +19,15 @@ use Rattle.search_rules.specs.Step.{takeRegion, takeYard, nextRegion, ne
 use Rattle.search_rules.specs.Run.{advance, run, report, answer}
 use Rattle.search_rules.specs.Examples.{onChain, at, found, leafOf, driven, wanting, ended, counts, lists, measuredAfter}
 use Rattle.search_rules.specs.TieExamples.{between, three-way, WorkedTies}
+use Rattle.search_rules.specs.Step.{takeLeaf}
+use Rattle.search_rules.specs.Bounds.{picked, twoWayBound, twoWayYardBound}
 
 pub worked-ties : WorkedTies
 unfolding between three-way onChain at found leafOf driven wanting ended counts lists measuredAfter choose leafMark innerMark firstDistance lastFrom
     noRegion regionAt noMark all comes names once inRange namedBy firstList agreeing sameYards leafOk siblings subtree endOf starts childrenOf size keepIf children
     marks leaf absDiff combine aggregate greatestOf leastFrom leastOf crewBound tableAt lower upper over total furthest markBound bound weight best bestOf chosen
     listAbsDiff f yardBound queued wordAt pick yardFirst insert hold lastDistance greatestHeld entry keep enough keepBy enoughBy left noElement againKey passed waiting nextPlace nextF
-    queueChildren openInner queueNext closeLeaf openLeaf takeRegion takeYard nextRegion nextYard leastKey step settled rootKeys startSearch advance run report answer
+    queueChildren openInner queueNext closeLeaf openLeaf takeRegion takeYard nextRegion nextYard leastKey step settled rootKeys startSearch advance run report answer twoWayBound picked twoWayYardBound takeLeaf
 worked-ties = record {
   higher-number = refl;
   lower-number = refl;

@@ -1,6 +1,7 @@
 -- The search of a road book and a tree book, and what the tests give of them. Assumes nothing: these are definitions.
 use mathlib.Core.Path.{_≡_}
-use mathlib.Core.List.{List, List·Memᴰ as Mem}
+use mathlib.Core.Bool.{false}
+use mathlib.Core.List.{List, [], List·Memᴰ as Mem}
 use Prim.Native.Nat.{ℕ, _≤_, _<_}
 use lib.ListN.{length}
 use Rattle.book.specs.Bytes.{Bytes}
@@ -26,6 +27,9 @@ searchOf road tree a crews = record {
   d = dist road;
   admits = λ r. shares (a .wanted) (regionAt (decode tree .regions) r .kinds);
   wants = λ y. shares (a .wanted) (kindsOf (decode tree) y);
+  oneWay = false;
+  towards = λ r. [];
+  back = λ y. 0;
 }
 
 -- what the tests give of the two books and the crews

@@ -28,6 +28,9 @@ onChain along code k crews yards regions = record {
   d = λ u v. absDiff (getD along u 0) (getD along v 0);
   admits = λ r. true;
   wants = λ y. true;
+  oneWay = false;
+  towards = λ r. [];
+  back = λ y. 0;
 }
 
 -- a list's element
@@ -97,6 +100,9 @@ driven seconds i = record {
   d = i .d;
   admits = i .admits;
   wants = i .wants;
+  oneWay = i .oneWay;
+  towards = i .towards;
+  back = i .back;
 }
 
 -- the search with other regions that may enter the queue and other wanted yards
@@ -109,6 +115,9 @@ wanting admits wants i = record {
   d = i .d;
   admits = admits;
   wants = wants;
+  oneWay = i .oneWay;
+  towards = i .towards;
+  back = i .back;
 }
 
 -- the chain of six with yard 4 alone wanted: the root and the first leaf may enter the queue

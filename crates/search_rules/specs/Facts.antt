@@ -8,8 +8,11 @@ use Prim.Native.Nat.{ℕ, _+_, _≤_, _<_}
 use lib.ListN.{length}
 use lib.Dec.{T}
 use Rattle.tree_layout.specs.Values.{Element, Mark}
+use Rattle.book.specs.Lists.{Distinct}
+use Rattle.tree_leaf.specs.Leaf.{yardsIn}
 use Rattle.tree.specs.Yards.{childrenOf, onWay}
 use Rattle.search_rules.specs.Instance.{Instance, size, children, marks, leaf}
+use Rattle.search_rules.specs.Bounds.{firstMark}
 
 -- yard y stands in landmark m's list
 pub record Listed (m : Mark) (y : ℕ) : Type 0 where
@@ -53,8 +56,11 @@ pub record Shape (i : Instance) : Type 0 where
       → e .yard < i .tree .junctions
   pub once-listed : (r : ℕ) (m : Mark) (e g : Element) → T (leaf i r) → Mem m (marks i r) → Mem e (m .list)
       → Mem g (m .list) → e .yard ≡ g .yard → e ≡ g
+  pub distinct-listed : (r : ℕ) (m : Mark) → T (leaf i r) → Mem m (marks i r) → Distinct (yardsIn (m .list))
   pub one-leaf : (r s : ℕ) (m n : Mark) (y : ℕ) → T (leaf i r) → T (leaf i s) → Mem m (marks i r)
       → Mem n (marks i s) → Listed m y → Listed n y → r ≡ s
+  -- a landmark towards which distances lead is a junction
+  pub returns : (r : ℕ) (m : Mark) → Mem m (i .towards r) → m .place < i .tree .junctions
   -- a crew stands at a junction
   pub crews : (q : ℕ) → Mem q (i .crews) → q < i .tree .junctions
 
@@ -88,6 +94,10 @@ pub record Truth (i : Instance) : Type 0 where
       → e .distance ≡ i .d (m .place) (e .yard)
   pub least : (r : ℕ) (m : Mark) (y : ℕ) → Mem m (marks i r) → Below i r y → m .least ≤ i .d (m .place) y
   pub greatest : (r : ℕ) (m : Mark) (y : ℕ) → Mem m (marks i r) → Below i r y → i .d (m .place) y ≤ m .greatest
+  -- of a tree with both directions also the distances towards a landmark
+  pub backs : T (i .oneWay) → (r : ℕ) (e : Element) → r < size i → T (leaf i r) → Mem e (firstMark (marks i r) .list)
+      → i .back (e .yard) ≡ i .d (e .yard) (firstMark (marks i r) .place)
+  pub furthest : (r : ℕ) (m : Mark) (y : ℕ) → Mem m (i .towards r) → Below i r y → i .d y (m .place) ≤ m .greatest
   pub admitted : (r y : ℕ) → Holds i r y → T (i .wants y) → T (i .admits r)
   pub wanted : (r : ℕ) → r < size i → T (i .admits r) → (y : ℕ) × Holds i r y × T (i .wants y)
 
@@ -95,5 +105,6 @@ pub record Truth (i : Instance) : Type 0 where
 pub record SoundInstance (i : Instance) : Type 0 where
   pub well : WellFormed i
   pub metric : Triangle i
-  pub symmetric : Symmetric i
+  -- where roads have a direction, this is not asked
+  pub symmetric : T (not (i .oneWay)) → Symmetric i
   pub truth : Truth i

@@ -13,7 +13,8 @@ use Rattle.search_rules.specs.Rule.{Rule}
 -- The aggregate's code (0 is the sum, 1 the maximum), what the search is for, the crews' junctions (query vertices;
 -- "two crews may stand at one junction and both count"), the tree, and d u v, "the least total of seconds over all
 -- walks from u to v". "Regions and yards without a wanted bit never enter the queue": which regions may, and which
--- yards are wanted.
+-- yards are wanted. On a tree of roads that have a direction (version 3): each region's landmarks with the distances
+-- towards them, and each yard's distance towards its leaf's first landmark, as the tree says.
 pub record Instance : Type 0 where
   pub code : ℕ
   pub rule : Rule
@@ -22,6 +23,9 @@ pub record Instance : Type 0 where
   pub d : ℕ → ℕ → ℕ
   pub admits : ℕ → Bool
   pub wants : ℕ → Bool
+  pub oneWay : Bool
+  pub towards : ℕ → List Mark
+  pub back : ℕ → ℕ
 
 -- the same search without kinds: every region may enter the queue, and every yard is wanted
 abbrev pub withoutKinds : Instance → Instance
@@ -33,6 +37,9 @@ withoutKinds i = record {
   d = i .d;
   admits = λ r. true;
   wants = λ y. true;
+  oneWay = i .oneWay;
+  towards = i .towards;
+  back = i .back;
 }
 
 module _ (i : Instance) where

@@ -17,3 +17,4 @@ pub mod Fairness
 pub mod Examples
 pub mod TieExamples
 pub mod KeyExamples
+pub mod WayExamples

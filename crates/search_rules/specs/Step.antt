@@ -107,9 +107,39 @@ module _ (i : Instance) where
       let off = closeLeaf st r in
       choose (queued (nextF (st .gone) m)) on off
 
+  -- one wanted yard of a leaf with its first key: "Its key is the greater of its bound and the leaf's first key."
+  unfoldable pub queueYard : SearchState → ℕ → Mark → Element → SearchState
+  queueYard st first m e = record {
+    regionKeys = st .regionKeys;
+    yardKeys = set (st .yardKeys) (e .yard) (max (yardBound i m e) first);
+    firsts = st .firsts;
+    gone = set (st .gone) (e .yard) true;
+    held = st .held;
+    measured = st .measured;
+  }
+
+  -- the wanted ones of some elements, one after the other
+  unfoldable pub queueWanted : SearchState → ℕ → Mark → List Element → SearchState
+  queueWanted st first m [] = st
+  queueWanted st first m (e ∷ es) =
+      let on = queueYard st first m e in
+      queueWanted (choose (i .wants (e .yard)) on st) first m es
+
+  -- "On a version 3 tree a leaf, when taken, queues all its wanted yards and not itself"
+  unfoldable pub openWhole : SearchState → ℕ → SearchState
+  openWhole st r =
+      let m = chosen i r in
+      queueWanted (closeLeaf st r) (wordAt (st .firsts) r) m (m .list)
+
+  unfoldable pub takeLeaf : SearchState → ℕ → SearchState
+  takeLeaf st r =
+      let whole = openWhole st r in
+      let next = openLeaf st r in
+      choose (i .oneWay) whole next
+
   unfoldable pub takeRegion : SearchState → ℕ → ℕ → SearchState
   takeRegion st r a =
-      let leafed = openLeaf st r in
+      let leafed = takeLeaf st r in
       let opened = openInner st r a in
       choose (leaf i r) leafed opened
 

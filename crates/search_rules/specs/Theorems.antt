@@ -83,6 +83,11 @@ barrenFrom i (suc n) r = choose (barren i r) 1 0 + barrenFrom i n (suc r)
 unfoldable pub barrens : Instance → ℕ
 barrens i = barrenFrom i (size i) 0
 
+-- steps that settle a search in which such yards are wanted: inner regions, leaves that are taken in vain, and twice the
+-- yards; "regions plus yards" on a version 3 tree
+unfoldable pub allowance : Instance → List ℕ → ℕ
+allowance i ys = choose (i .oneWay) (size i + length ys) (inners (i .tree) + barrens i + 2 * length ys)
+
 -- what holds of a list of yards whatever the tree's numbers say: "with true distances, distinct yards and yard order,
 -- but a yard may be left out"
 pub record Listing (i : Instance) (list : List Entry) : Type 0 where
@@ -141,9 +146,9 @@ pub record Limited (i : Instance) : Type 0 where
 -- the bounds of a true tree
 pub record Bounded (i : Instance) : Type 0 where
   pub of-region : (r y : ℕ) → Below i r y → bound i r ≤ total i y
-  pub of-element : (m : Mark) (e : Element) → f i m e ≤ yardBound i m e
-  pub of-yard : (r : ℕ) (m : Mark) (e : Element) → T (leaf i r) → Mem m (marks i r) → Mem e (m .list)
-      → yardBound i m e ≤ total i (e .yard)
+  pub of-element : T (not (i .oneWay)) → (m : Mark) (e : Element) → f i m e ≤ yardBound i m e
+  pub of-yard : (r : ℕ) (e : Element) → r < size i → T (leaf i r) → Mem e (chosen i r .list)
+      → yardBound i (chosen i r) e ≤ total i (e .yard)
   -- no region's bound is above that of a wanted yard below it, so that the yard's key is its bound
   pub of-key : (r : ℕ) (e : Element) → r < size i → T (leaf i r) → Mem e (chosen i r .list) → Below i 0 (e .yard)
       → yardKey i (e .yard) ≡ yardBound i (chosen i r) e
@@ -163,8 +168,7 @@ pub record Decided (i : Instance) (limit : ℕ) : Type 0 where
   -- a settled search stays as it is under a greater limit
   pub stays : T (settled i (run i limit .state)) → (more : ℕ) → run i (limit + more) ≡ run i limit
   -- inner regions, leaves that are taken in vain, and twice the yards are enough
-  pub ends : (ys : List ℕ) → Covers i ys → inners (i .tree) + barrens i + 2 * length ys ≤ limit
-      → T (settled i (run i limit .state))
+  pub ends : (ys : List ℕ) → Covers i ys → allowance i ys ≤ limit → T (settled i (run i limit .state))
   -- "Regions and yards without a wanted bit never enter the queue": a queued region may enter it, and a queued yard is a
   -- wanted one that the search reaches
   pub queued-regions : (r : ℕ) → wordAt (run i limit .state .regionKeys) r < unqueued → T (i .admits r)

@@ -22,7 +22,7 @@ use Rattle.search_rules.specs.Bounds.{bound}
 use Rattle.search_rules.specs.Queue.{unqueued}
 use Rattle.search_rules.specs.Step.{SearchState, queueChildren, openInner, openLeaf, takeRegion}
 use Rattle.search_rules.specs.Order.{Entry}
-use Rattle.search_rules.proofs.Equations.{search-of, admits-of}
+use Rattle.search_rules.proofs.Equations.{search-of, admits-of, two-way}
 use Rattle.search_rules.proofs.Trees.{Accepted, accepted-tree}
 use Rattle.search_rules.proofs.Steps.{leaf-is, take-leaf, take-inner, open-inner-is}
 use Rattle.search_rules.proofs.Steps.{children-is as children-of}
@@ -98,7 +98,7 @@ module _ {road tree : List ℕ} {a : Asking} {crews drives places table : List �
       }
 
       pub leaf-is-taken : T (leaf i v) → (key : ℕ) (st out : SearchState) → out ≡ openLeaf i st v → out ≡ takeRegion i st v key
-      leaf-is-taken t key st out p = p ∙ sym (take-leaf i st v key t)
+      leaf-is-taken t key st out p = p ∙ sym (take-leaf i st v key (two-way road tree a crews) t)
 
       -- an inner region
       pub inner-slots : Slots tree r n words v
