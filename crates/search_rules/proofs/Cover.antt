@@ -214,7 +214,7 @@ module _ (i : Instance) (well : WellFormed i) where
     whole-covers r a at one l first first-is z below =
         let h = region-range i well st was r at in
         let all = whole-keeps i well r first h l (CoveredBut i) (λ s e es rest w q. queue-covers r first h l s e es rest q) (λ s e es rest w q. pass-covers s e es w q)
-            (closeLeaf i st r) (chosen i r .list) (whole-rest i well st was r a at one l first first-is) (taken-covers r a at l) in
+        (closeLeaf i st r) (chosen i r .list) (whole-rest i well st was r a at one l first first-is) (taken-covers r a at l) in
         ⊎-elim (λ c. c) (λ k. absurd (not-nil k)) (all .1 z below)
 
     -- ---- a yard

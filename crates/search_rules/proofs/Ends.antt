@@ -339,14 +339,14 @@ module _ (i : Instance) where
         measured v t = whole-yard-key i well r first h l s e es rest (λ o. T (not (left (set (s .gone) (e .yard) true) v) || has o) → T (unmeasured s v)) v
             (λ p x. or-left (not (left (s .gone) v)) (has (key (s .yardKeys) v)) (rw p (rest .here e (head refl))))
             (λ p x. or-more (not (left (s .gone) v)) (not (left (set (s .gone) (e .yard) true) v)) (has (key (s .yardKeys) v))
-                (left-not (s .gone) (e .yard) (whole-gone i well r first h l s e es rest) v) x) t
+            (left-not (s .gone) (e .yard) (whole-gone i well r first h l s e es rest) v) x) t
 
     whole-less : (r a : ℕ) → key (st .regionKeys) r ≡ some a → T (i .oneWay) → T (leaf i r) → (first : ℕ) → key (st .firsts) r ≡ some first
         → work ys (queueWanted i (closeLeaf i st r) first (chosen i r) (chosen i r .list)) < work ys st
     whole-less r a at one l first first-is =
         let h = region-range i well st was r at in
         whole-keeps i well r first h l (λ s es. work ys s < work ys st) (λ s e es rest w q. queue-less r first h l one s e es rest q) (λ s e es rest w q. q)
-            (closeLeaf i st r) (chosen i r .list) (whole-rest i well st was r a at one l first first-is) (closed-less r a at (one-opens one r)) .1
+        (closeLeaf i st r) (chosen i r .list) (whole-rest i well st was r a at one l first first-is) (closed-less r a at (one-opens one r)) .1
 
     yard-less : (y b : ℕ) → key (st .yardKeys) y ≡ some b → work ys (takeYard i st y) < work ys st
     unfolding work unopened unleft unmeasured takeYard

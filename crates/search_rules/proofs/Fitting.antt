@@ -102,7 +102,7 @@ module _ (i : Instance) (well : WellFormed i) where
     whole-fits-all r a at one l first first-is =
         let h = region-range i well st was r at in
         whole-keeps i well r first h l (λ s es. Low s) (λ s e es rest w q. queue-fits r first h l s e es rest q) (λ s e es rest w q. q)
-            (closeLeaf i st r) (chosen i r .list) (whole-rest i well st was r a at one l first first-is) (closed-fits r a at) .1
+        (closeLeaf i st r) (chosen i r .list) (whole-rest i well st was r a at one l first first-is) (closed-fits r a at) .1
 
     yard-low : (y b : ℕ) → key (st .yardKeys) y ≡ some b → Low (takeYard i st y)
     unfolding takeYard

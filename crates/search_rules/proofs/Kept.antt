@@ -595,7 +595,7 @@ module _ (i : Instance) (well : WellFormed i) (r first : ℕ) (number : r < size
   whole-keeps Q on off st [] rest q = (rest, q)
   whole-keeps Q on off st (e ∷ es) rest q =
       let both = choose-case (λ (s : SearchState). Rest s es × Q s es) (i .wants (e .yard)) (λ w. (rest-on st e es rest w, on st e es rest w q))
-          (λ w. (rest-off st e es rest, off st e es rest w q)) in
+      (λ w. (rest-off st e es rest, off st e es rest w q)) in
       whole-keeps Q on off (choose (i .wants (e .yard)) (queueYard i st first m e) st) es (both .0) (both .1)
 
 module _ (i : Instance) (well : WellFormed i) (st : SearchState) (was : Kept i st) where
@@ -618,7 +618,7 @@ module _ (i : Instance) (well : WellFormed i) (st : SearchState) (was : Kept i s
       → Kept i (queueWanted i (closeLeaf i st r) first (chosen i r) (chosen i r .list))
   whole-kept r a at one l first first-is =
       whole-keeps i well r first (region-range i well st was r at) l (λ s es. Unit {0}) (λ s e es x w q. tt) (λ s e es x w q. tt)
-          (closeLeaf i st r) (chosen i r .list) (whole-rest r a at one l first first-is) tt .0 .kept
+      (closeLeaf i st r) (chosen i r .list) (whole-rest r a at one l first first-is) tt .0 .kept
 
   pub step-kept : T (not (settled i st)) → Kept i (step i st)
   step-kept u = step-case i st (was .sizes) (Kept i) u

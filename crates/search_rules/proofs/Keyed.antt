@@ -138,7 +138,7 @@ module _ (i : Instance) (well : WellFormed i) where
         → Keyed i (queueWanted i (closeLeaf i st r) first (chosen i r) (chosen i r .list))
     whole-keyed r a at one l first first-is =
         whole-keeps i well r first (region-range i well st was r at) l (λ s es. Keyed i s) (λ s e es rest w k. on s e es rest k) (λ s e es rest w k. k)
-            (closeLeaf i st r) (chosen i r .list) (whole-rest i well st was r a at one l first first-is) (closed-keyed r a at) .1
+        (closeLeaf i st r) (chosen i r .list) (whole-rest i well st was r a at one l first first-is) (closed-keyed r a at) .1
       where
         h : r < size i
         h = region-range i well st was r at

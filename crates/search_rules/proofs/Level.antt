@@ -140,7 +140,7 @@ module _ (i : Instance) (well : WellFormed i) where
     whole-level r a at one l first first-is =
         let h = region-range i well st was r at in
         whole-keeps i well r first h l (λ s es. LevelBelow i first s) (λ s e es rest w q. queue-level r first h l s e es rest q) (λ s e es rest w q. q)
-            (closeLeaf i st r) (chosen i r .list) (whole-rest i well st was r a at one l first first-is) (taken-level r a at one first first-is) .1 .level
+        (closeLeaf i st r) (chosen i r .list) (whole-rest i well st was r a at one l first first-is) (taken-level r a at one first first-is) .1 .level
 
     -- ---- a yard
 

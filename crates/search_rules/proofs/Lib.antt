@@ -1,3 +1,9 @@
+pub mod Vectors
+pub mod Worked
+pub mod WorkedBounds
+pub mod WorkedTies
+pub mod WorkedKeys
+pub mod WorkedWays
 pub mod Choices
 pub mod Bounds
 pub mod Limits
@@ -36,11 +42,6 @@ pub mod Equations
 pub mod Steps
 pub mod Taking
 pub mod Measures
-pub mod Vectors
-pub mod Worked
-pub mod WorkedTies
-pub mod WorkedKeys
 pub mod Example
 pub mod TwoWay
 pub mod Agreement
-pub mod WorkedWays

@@ -71,5 +71,5 @@ module _ (i : Instance) (shape : Shape i) (metric : Triangle i) (symmetric : Sym
           ≡ max (m .least - upperFrom i (m .place) q) (lowerTo i (m .place) q - m .greatest)
       one q m b a h =
           crew-directed (lower i (m .place) q) (upper i (m .place) q) (m .least) (m .greatest) h
-              (omega (arith, lower-le i shape metric symmetric (m .place) q a b, upper-le i shape metric symmetric (m .place) q a b))
+          (omega (arith, lower-le i shape metric symmetric (m .place) q a b, upper-le i shape metric symmetric (m .place) q a b))
           ∙ rw (lower-directed (m .place) q a b, upper-directed (m .place) q a b) refl

@@ -17,4 +17,5 @@ pub mod Fairness
 pub mod Examples
 pub mod TieExamples
 pub mod KeyExamples
+pub mod BoundExamples
 pub mod WayExamples
