@@ -4,7 +4,7 @@ PROGRAMS := list within outline eccentricity
 LIBRARY := target/staticlib/libfinder.a
 VERSION := $(shell sed -n 's/^.define FINDER_VERSION "\([^"]*\)".*/\1/p' include/finder.h)
 
-.PHONY: demo test bench dispatch library programs install clean FORCE
+.PHONY: demo test quick bench dispatch library programs install clean FORCE
 .NOTPARALLEL:
 
 # The main job on a shipped example: the yards of net N, a chain of five junctions, for crews at junctions 0 and 2.
@@ -14,6 +14,11 @@ demo:
 # The gate.
 test:
 	@tests/gate
+
+# For daily work: what has changed is proved, edits of the crates that differ from BASE (origin/main) are tried, and all
+# other tests are made.
+quick:
+	@tests/gate quick
 
 library: $(LIBRARY)
 
