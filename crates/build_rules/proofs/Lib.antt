@@ -1,3 +1,4 @@
+pub mod WorkedCuts
 pub mod Ordered
 pub mod Ranked
 pub mod Landmarks

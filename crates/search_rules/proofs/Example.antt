@@ -41,17 +41,17 @@ use Rattle.search_rules.proofs.Theorems.{sound-ends, accepted-exact}
 
 module _ (i : Instance) where
   -- a list's distances are those from its landmark
-  unfoldable listTrue : Mark → Bool
+  unfoldable pub listTrue : Mark → Bool
   listTrue m = all (λ e. eqb (e .distance) (i .d (m .place) (e .yard))) (m .list)
 
   -- a landmark's least and greatest enclose the distances to some yards
-  unfoldable spanTrue : List ℕ → Mark → Bool
+  unfoldable pub spanTrue : List ℕ → Mark → Bool
   spanTrue ys m = all (λ y. leb (m .least) (i .d (m .place) y) && leb (i .d (m .place) y) (m .greatest)) ys
 
-  unfoldable regionTrue : ℕ → Bool
+  unfoldable pub regionTrue : ℕ → Bool
   regionTrue r = all (λ m. listTrue m && spanTrue (yardsBelow (i .tree .regions) r) m) (regionAt (i .tree .regions) r .marks)
 
-  unfoldable allTrue : Bool
+  unfoldable pub allTrue : Bool
   allTrue = all regionTrue (numbers (length (i .tree .regions)) 0)
 
   module _ (a : Accepted (i .tree)) (t : T allTrue) (r : ℕ) (h : r < length (i .tree .regions)) (m : Mark) (k : Mem m (regionAt (i .tree .regions) r .marks))
@@ -61,12 +61,12 @@ module _ (i : Instance) where
       mark-true = all-mem (λ m. listTrue m && spanTrue (yardsBelow (i .tree .regions) r) m) (regionAt (i .tree .regions) r .marks)
           (all-mem regionTrue (numbers (length (i .tree .regions)) 0) t r (numbers-mem (length (i .tree .regions)) 0 r (omega arith) (omega arith))) m k
 
-      list-true : (e : Element) → Mem e (m .list) → e .distance ≡ i .d (m .place) (e .yard)
+      pub list-true : (e : Element) → Mem e (m .list) → e .distance ≡ i .d (m .place) (e .yard)
       unfolding listTrue
       list-true e j = eqb→eq (e .distance) (i .d (m .place) (e .yard)) (all-mem (λ e. eqb (e .distance) (i .d (m .place) (e .yard))) (m .list) (and-left
           (listTrue m) _ mark-true) e j)
 
-      span-true : (y : ℕ) → Mem y (yardsBelow (i .tree .regions) r) → (m .least ≤ i .d (m .place) y) × (i .d (m .place) y ≤ m .greatest)
+      pub span-true : (y : ℕ) → Mem y (yardsBelow (i .tree .regions) r) → (m .least ≤ i .d (m .place) y) × (i .d (m .place) y ≤ m .greatest)
       unfolding spanTrue
       span-true y j =
           let x = all-mem (λ y. leb (m .least) (i .d (m .place) y)
@@ -80,13 +80,13 @@ module _ (i : Instance) where
 
 module _ (i : Instance) where
   -- a yard below region r is wanted
-  unfoldable holdsWanted : ℕ → Bool
+  unfoldable pub holdsWanted : ℕ → Bool
   holdsWanted r = ltb 0 (length (keepIf (i .wants) (yardsBelow (i .tree .regions) r)))
 
-  unfoldable kindTrue : ℕ → Bool
+  unfoldable pub kindTrue : ℕ → Bool
   kindTrue r = choose (i .admits r) (holdsWanted r) (not (holdsWanted r))
 
-  unfoldable kindsTrue : Bool
+  unfoldable pub kindsTrue : Bool
   kindsTrue = all kindTrue (numbers (length (i .tree .regions)) 0)
 
   module _ (t : T kindsTrue) (r : ℕ) (h : r < length (i .tree .regions)) where
@@ -106,7 +106,7 @@ module _ (i : Instance) where
     unfolding kindTrue
     holds-by a = rw (choose-yes (i .admits r) (holdsWanted r) (not (holdsWanted r)) a) at kind-true
 
-  true-kinds : T kindsTrue → TrueKinds i
+  pub true-kinds : T kindsTrue → TrueKinds i
   unfolding holdsWanted
   true-kinds t = record {
     admitted = λ r y h k w. enters-by t r h (lt→ltb 0 _ (positive (kept-in (i .wants) (yardsBelow (i .tree .regions) r) y k w)));
@@ -124,7 +124,7 @@ module _ (i : Instance) where
 -- ---- net N with leaf limit 1
 
 -- every number of a list is below another, and so is 0
-below-all : (n : ℕ) (l : List ℕ) → 0 < n → T (all (λ x. ltb x n) l) → (v : ℕ) → getD l v 0 < n
+pub below-all : (n : ℕ) (l : List ℕ) → 0 < n → T (all (λ x. ltb x n) l) → (v : ℕ) → getD l v 0 < n
 unfolding all
 below-all n [] h t v = h
 below-all n (x ∷ l) h t zero = ltb→lt x n (and-left (ltb x n) _ t)

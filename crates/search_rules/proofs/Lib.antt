@@ -43,5 +43,6 @@ pub mod Steps
 pub mod Taking
 pub mod Measures
 pub mod Example
+pub mod ExampleWays
 pub mod TwoWay
 pub mod Agreement

@@ -84,8 +84,9 @@ limits = refl
 
 -- ---- bounds
 
--- "LB 12, B 9: bound 3." "UB 4, A 9: bound 5." "LB 5, UB 20, A 9, B 12: bound 0."
-pub bounds : crewBound 12 20 9 9 ∷ crewBound 4 4 9 12 ∷ crewBound 5 20 9 12 ∷ [] ≡ 3 ∷ 5 ∷ 0 ∷ []
+-- "LB 12, B 9: bound 3." "UB 4, A 9: bound 5." "LB 5, UB 20, A 9, B 12: bound 0." LB is asked first, at LB = B too, which tells only of numbers that no sheet
+-- has: LB 9 is above UB 4.
+pub bounds : crewBound 12 20 9 9 ∷ crewBound 4 4 9 12 ∷ crewBound 5 20 9 12 ∷ crewBound 9 4 9 9 ∷ [] ≡ 3 ∷ 5 ∷ 0 ∷ 0 ∷ []
 unfolding crewBound choose
 bounds = refl
 

@@ -35,6 +35,7 @@ worked-ways = record {
   lowers-on-the-way = refl;
   uppers = refl;
   bounds = refl;
+  one-part = refl;
   over-crews = refl;
   firsts = refl;
   yard-bounds = refl;

@@ -5,7 +5,7 @@ use mathlib.Core.List.{List, [], _∷_}
 use Prim.Native.Nat.{ℕ}
 use Rattle.tree_layout.specs.Values.{leafMark, innerMark}
 use Rattle.search_rules.specs.Instance.{Instance}
-use Rattle.search_rules.specs.Bounds.{lower, upper, bound}
+use Rattle.search_rules.specs.Bounds.{lower, upper, bound, weight, chosen}
 use Rattle.search_rules.specs.Examples.{onChain, at, leafOf}
 
 -- The chain of six, junctions at 0, 2, 6, 10, 12 and 20, with two landmarks for each region: the root's are junctions 0
@@ -36,3 +36,7 @@ pub record WorkedBounds : Type 0 where
   -- The first leaf, for the crew at 1: by junction 4, LB 10 and B 2, 8; by junction 2, LB 4 and B 6, UB 8 and A 4, 0.
   -- So "then the aggregate over crews": 8 and 8.
   pub over-crews : bound (twice 0 (1 ∷ 5 ∷ [])) 1 ∷ bound (twice 1 (1 ∷ 5 ∷ [])) 1 ∷ [] ≡ 16 ∷ 8 ∷ []
+  -- "greatest sum of LB over crews", for the crew at 5: of junction 4 |12 − 20| and |2 − 10|, of junction 2 |6 − 20| and
+  -- |4 − 10|; the second is picked. UB would be 12 and 14.
+  pub weights : weight (twiceFrom 5) (leafMark 4 []) ∷ weight (twiceFrom 5) (leafMark 2 []) ∷ [] ≡ 8 ∷ 14 ∷ []
+  pub second-picked : chosen (twiceFrom 5) 1 .place ≡ 2

@@ -4,17 +4,17 @@ use mathlib.Core.Path.{_≡_}
 use mathlib.Core.Bool.{Bool, true, false, not}
 use mathlib.Core.List.{List, [], _∷_, _++_}
 use Prim.Native.Nat.{ℕ, _+_, _-_}
-use lib.ListN.{length, getD}
+use lib.ListN.{getD}
 use lib.Dec.{leb, eqb}
 use Rattle.book.specs.Choose.{choose}
-use Rattle.tree_layout.specs.Values.{Element, Mark, Region, leafMark, innerMark}
+use Rattle.tree_layout.specs.Values.{Mark, Region, leafMark, innerMark}
 use Rattle.search_rules.specs.Rule.{Rule, nearest, inDrive}
 use Rattle.search_rules.specs.Instance.{Instance}
 use Rattle.search_rules.specs.Bounds.{pointBound, lowerTo, upperFrom, bound, chosen, yardBound}
 use Rattle.search_rules.specs.Keys.{firstKey, yardKey}
 use Rattle.search_rules.specs.Queue.{unqueued}
 use Rattle.search_rules.specs.Theorems.{allowance}
-use Rattle.search_rules.specs.Examples.{at, found, leafOf, regionKeysAfter, yardKeysAfter, measuredAfter, counts, lists, ended}
+use Rattle.search_rules.specs.Examples.{at, found, leafOf, regionKeysAfter, yardKeysAfter, counts, lists, ended}
 
 -- Six junctions of a ring of one-way roads, 1, 2, 3, 4, 5 and 6 seconds: each stands so far from junction 0, and once
 -- round takes 21.
@@ -93,6 +93,10 @@ pub record WorkedWays : Type 0 where
   -- towards." For the crew at 1. Root: by junction 1, 2 − 0. First leaf: by junction 2, 0 − 19 and 2 − 3; by junction
   -- 1, 2 − 0. Second leaf: by junction 5, 12 − 7 and 14 − 9; by junction 3, 0 − 16 and 5 − 17.
   pub bounds : bound (fromOne 1) 0 ∷ bound (fromOne 1) 1 ∷ bound (fromOne 1) 2 ∷ [] ≡ 2 ∷ 2 ∷ 5 ∷ []
+  -- For the crew at 4 the first leaf's is by the distances towards alone: by junction 2, LB 14 and 3, 11, and A 0; by
+  -- junction 1, A 2 and UB 9, LB 12 and 19. For the crew at 0, which stands at its yard, it is 0: by junction 1, A 2 and
+  -- UB 20, where LB is 1.
+  pub one-part : bound (ring (nearest 1) 0 (4 ∷ [])) 1 ∷ bound fromZero 1 ∷ [] ≡ 11 ∷ 0 ∷ []
   -- over two crews, at 1 and 2: the sum and the maximum of 5 and 3
   pub over-crews : bound (ring (nearest 1) 0 (1 ∷ 2 ∷ [])) 2 ∷ bound (ring (nearest 1) 1 (1 ∷ 2 ∷ [])) 2 ∷ [] ≡ 8 ∷ 5 ∷ []
   -- "its leaf's first"
