@@ -18,13 +18,13 @@ use Rattle.search_rules.specs.Step.{left, noElement, againKey, passed, w
 use Rattle.search_rules.specs.Step.{takeRegion, takeYard, nextRegion, nextYard, leastKey, step, settled, rootKeys, startSearch}
 use Rattle.search_rules.specs.Run.{advance, run, report, answer}
 use Rattle.search_rules.specs.Theorems.{anyWanted, barren, barrenFrom, barrens}
-use Rattle.search_rules.specs.Examples.{onChain, at, found, leafOf, three, from0, from2, heavy, near, sixFor, six, across, driven, wanting, fourOnly, inVain, noneWanted, netFor, ended, counts, lists}
+use Rattle.search_rules.specs.Examples.{onChain, at, found, leafOf, three, from0, from2, heavy, near, sixFor, six, across, driven, wanting, fourOnly, fiveOnly, inVain, noneWanted, netFor, ended, counts, lists}
 use Rattle.search_rules.specs.Examples.{regionKeysAfter, yardKeysAfter, measuredAfter, Worked}
 use Rattle.search_rules.specs.Step.{takeLeaf}
 use Rattle.search_rules.specs.Bounds.{picked, twoWayBound, twoWayYardBound}
 
 pub worked : Worked
-unfolding onChain at found leafOf three from0 from2 heavy near sixFor six across driven wanting fourOnly inVain noneWanted netFor ended counts lists regionKeysAfter yardKeysAfter measuredAfter choose leafMark innerMark firstDistance lastFrom
+unfolding onChain at found leafOf three from0 from2 heavy near sixFor six across driven wanting fourOnly fiveOnly inVain noneWanted netFor ended counts lists regionKeysAfter yardKeysAfter measuredAfter choose leafMark innerMark firstDistance lastFrom
     noRegion regionAt noMark all comes names once inRange namedBy firstList agreeing sameYards leafOk siblings subtree endOf starts childrenOf size keepIf children
     marks leaf absDiff combine aggregate greatestOf leastFrom leastOf crewBound tableAt lower upper over total furthest markBound bound weight best bestOf chosen
     listAbsDiff f yardBound queued wordAt pick yardFirst insert hold lastDistance greatestHeld entry keep enough keepBy enoughBy left noElement againKey passed waiting nextPlace nextF
@@ -49,6 +49,7 @@ worked = record {
   measured-above = refl;
   counted-above = refl;
   wanted-1 = refl;
+  wanted-beside = refl;
   wanted-2 = refl;
   wanted-3 = refl;
   wanted-list = refl;

@@ -42,6 +42,7 @@ worked-ways = record {
   keys = refl;
   step-1 = refl;
   step-2 = refl;
+  both-left = refl;
   nearest-yard = refl;
   nearest-counts = refl;
   wanted-alone = refl;

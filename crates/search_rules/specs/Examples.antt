@@ -124,7 +124,11 @@ wanting admits wants i = record {
 unfoldable pub fourOnly : Instance
 fourOnly = wanting (λ r. ltb r 2) (λ y. eqb y 4) six
 
--- the same, where the second leaf may enter too, though its yard isn't wanted
+-- with yard 5 alone wanted: the root and the second leaf may enter
+unfoldable pub fiveOnly : Instance
+fiveOnly = wanting (λ r. not (eqb r 1)) (λ y. eqb y 5) six
+
+-- with yard 4 alone wanted, where the second leaf may enter too, though its yard isn't wanted
 unfoldable pub inVain : Instance
 inVain = wanting (λ r. true) (λ y. eqb y 4) six
 
@@ -217,6 +221,9 @@ pub record Worked : Type 0 where
   -- first leaf and not the second
   pub wanted-1 : regionKeysAfter fourOnly 0 ++ regionKeysAfter fourOnly 1
       ≡ (8 ∷ unqueued ∷ unqueued ∷ []) ++ unqueued ∷ 8 ∷ unqueued ∷ []
+  -- it queues the second and not the first in the search for yard 5 alone
+  pub wanted-beside : regionKeysAfter fiveOnly 0 ++ regionKeysAfter fiveOnly 1
+      ≡ (8 ∷ unqueued ∷ unqueued ∷ []) ++ unqueued ∷ unqueued ∷ 18 ∷ []
   -- "A leaf, when taken, passes over its unwanted elements": step 2 queues yard 4 with the greater of its bound 10 and
   -- 8, though yard 3 has the lesser f, and no wanted one remains
   pub wanted-2 : regionKeysAfter fourOnly 2 ++ yardKeysAfter fourOnly 2

@@ -13,6 +13,7 @@ use Rattle.search_rules.specs.Instance.{Instance}
 use Rattle.search_rules.specs.Bounds.{pointBound, lowerTo, upperFrom, bound, chosen, yardBound}
 use Rattle.search_rules.specs.Keys.{firstKey, yardKey}
 use Rattle.search_rules.specs.Queue.{unqueued}
+use Rattle.search_rules.specs.Run.{run}
 use Rattle.search_rules.specs.Theorems.{allowance}
 use Rattle.search_rules.specs.Examples.{at, found, leafOf, regionKeysAfter, yardKeysAfter, counts, lists, ended}
 
@@ -112,6 +113,7 @@ pub record WorkedWays : Type 0 where
   pub step-1 : regionKeysAfter (fromOne 1) 1 ≡ unqueued ∷ 2 ∷ 5 ∷ []
   pub step-2 : regionKeysAfter (fromOne 1) 2 ++ yardKeysAfter (fromOne 1) 2
       ≡ (unqueued ∷ unqueued ∷ 5 ∷ []) ++ 20 ∷ unqueued ∷ 2 ∷ unqueued ∷ unqueued ∷ unqueued ∷ []
+  pub both-left : run (fromOne 1) 2 .state .gone ≡ true ∷ false ∷ true ∷ false ∷ false ∷ false ∷ []
   -- Step 3 measures yard 2, which is 2 ahead, and what is queued is above that.
   pub nearest-yard : lists (fromOne 1) 9 ≡ found 2 2 2 ∷ []
   pub nearest-counts : counts (fromOne 1) 9 ≡ 3 ∷ 1 ∷ []
