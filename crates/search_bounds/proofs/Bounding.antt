@@ -15,7 +15,8 @@ use Rattle.tree_layout.specs.declared.Landmark.{Landmark}
 use Rattle.search_bounds.specs.code.Rows.{rowsLower, rowsUpper}
 use Rattle.tree_layout.specs.code.Marks.{marksAt, landmarkOf, RecordAt}
 use Rattle.search_bounds.specs.code.Bounds.{rowsMark, rowsCrew, rowsBound, rowsWeight, markWeight, firstGreatest, rowsChosen, Crews}
-use Rattle.tree_layout.proofs.RecordFields.{marks-count}
+use Rattle.tree_layout.proofs.Reading.{header-landmarks}
+use Rattle.tree_layout.proofs.RecordFields.{marks-count, landmark-place, landmark-least, landmark-greatest}
 
 -- a crew's junction has a place in each row
 pub crew-there : (crews : List ℕ) → Crews crews → (j : ℕ) → j < length crews → getD crews j 0 < 1024
@@ -26,8 +27,7 @@ crew-there crews s j h = s .there (getD crews j 0) (getD-mem crews j 0 h)
 module _ (b : List ℕ) (h : Header) (e : h ≡ headerOf b) where
   -- their number, as it is read
   pub count-read : h .landmarks ≡ landmarkCount b
-  unfolding headerOf
-  count-read = ap (λ (x : Header). x .landmarks) e
+  count-read = ap (λ (x : Header). x .landmarks) e ∙ header-landmarks b
 
   pub count-marks : (at : ℕ) → length (marksAt b at) ≡ h .landmarks
   count-marks at = marks-count b at ∙ sym count-read
@@ -36,8 +36,7 @@ module _ (b : List ℕ) (at : ℕ) (r : RecordAt b at) (j : ℕ) (h : j < landma
     (e : k ≡ landmarkOf (getD (marksAt b at) j noMark)) where
   -- the junction of landmark j
   pub place-read : k .place .number ≡ getD (marksAt b at) j noMark .place
-  unfolding landmarkOf
-  place-read = ap (λ (x : Landmark). x .place .number) e
+  place-read = ap (λ (x : Landmark). x .place .number) e ∙ landmark-place (getD (marksAt b at) j noMark)
 
   pub place-there : k .place .number < 1024
   place-there = rw place-read (r .placed (getD (marksAt b at) j noMark) (getD-mem (marksAt b at) j noMark (omega (arith, marks-count b at))))
@@ -46,8 +45,12 @@ module _ (b : List ℕ) (at : ℕ) (r : RecordAt b at) (j : ℕ) (h : j < landma
 pub mark-read : (table : List ℕ) (rows q w : ℕ) (n : Mark) (k : Landmark) → k ≡ landmarkOf n
     → w ≡ crewBound (rowsLower table rows (k .place .number) q) (rowsUpper table rows (k .place .number) q) (k .least) (k .greatest)
     → w ≡ rowsMark table rows q n
-unfolding rowsMark landmarkOf
-mark-read table rows q w n k e f = rw e at f
+unfolding rowsMark
+mark-read table rows q w n k e f =
+    let p : k .place .number ≡ n .place = ap (λ (x : Landmark). x .place .number) e ∙ landmark-place n in
+    let a : k .least ≡ n .least = ap (λ (x : Landmark). x .least) e ∙ landmark-least n in
+    let g : k .greatest ≡ n .greatest = ap (λ (x : Landmark). x .greatest) e ∙ landmark-greatest n in
+    rw (p, a, g) at f
 
 -- ---- the definitions, opened
 

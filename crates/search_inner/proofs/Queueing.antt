@@ -14,7 +14,7 @@ use Rattle.tree_layout.specs.Values.{regionAt}
 use Rattle.tree_layout.specs.Decode.{decode, junctionCount, landmarkCount}
 use Rattle.tree_layout.specs.Reading.{headerOf}
 use Rattle.tree_layout.specs.declared.Header.{Header}
-use Rattle.tree_layout.proofs.Reading.{header-junctions}
+use Rattle.tree_layout.proofs.Reading.{header-junctions, header-landmarks}
 use Rattle.tree_layout.specs.declared.Fields.{Fields}
 use Rattle.tree.specs.Arrays.{Laid, fieldsOf}
 use Rattle.tree.proofs.Fielding.{laid-few}
@@ -78,14 +78,10 @@ pub record Counted (tree places : List ℕ) (rows firsts : ℕ) : Type 0 where
 
 pub counted : (tree places : List ℕ) (h : Header) (rows firsts : ℕ) → h ≡ headerOf tree → rows ≡ h .landmarks → firsts ≡ length places + h .junctions
     → Counted tree places rows firsts
-unfolding headerOf
 counted tree places h rows firsts e p q = record {
-  rows-are = p ∙ (ap (λ (x : Header). x .landmarks) e ∙ header-landmarks);
+  rows-are = p ∙ (ap (λ (x : Header). x .landmarks) e ∙ header-landmarks tree);
   firsts-are = q ∙ ap (λ (j : ℕ). length places + j) (ap (λ (x : Header). x .junctions) e ∙ header-junctions tree);
 }
-  where
-    header-landmarks : headerOf tree .landmarks ≡ landmarkCount tree
-    header-landmarks = refl
 
 -- ---- one child after the other
 

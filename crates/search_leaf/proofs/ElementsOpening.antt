@@ -15,7 +15,7 @@ use Rattle.tree_layout.specs.Sizes.{junctionSize, listSize, leafMarkSize}
 use Rattle.tree_layout.specs.Decode.{readList, listPart, regionCount, junctionCount, landmarkCount}
 use Rattle.tree_layout.specs.Reading.{headerOf}
 use Rattle.tree_layout.specs.declared.Header.{Header}
-use Rattle.tree_layout.proofs.Reading.{header-regions, header-junctions}
+use Rattle.tree_layout.proofs.Reading.{header-regions, header-junctions, header-landmarks}
 use Rattle.tree_layout.proofs.Accessing.{its-version, part-length}
 use Rattle.search_rules.specs.Rule.{Asking}
 use Rattle.search_rules.specs.Instance.{Instance}
@@ -68,8 +68,7 @@ module _ (b : List ℕ) (h : Header) (e : h ≡ headerOf b) where
   header-junctions-are = rw e (sym (header-junctions b))
 
   pub header-landmarks-are : landmarkCount b ≡ h .landmarks
-  unfolding headerOf
-  header-landmarks-are = rw e refl
+  header-landmarks-are = rw e (sym (header-landmarks b))
 
   -- there is a word for all of them
   pub header-words : (ws : List ℕ) → length ws ≡ wordCount (regionCount b) (junctionCount b) → length ws ≡ wordCount (h .regions) (h .junctions)

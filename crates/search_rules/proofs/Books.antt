@@ -1,6 +1,6 @@
 -- A search of a road book and a tree book that the tests accept is well formed, and sound if the tree's numbers are true. Assumes nothing.
-use mathlib.Core.Path.{_≡_, refl, sym, ap, _∙_}
-use mathlib.Core.List.{List, [], _∷_, List·Memᴰ as Mem, List·Memᴰ·not-nil as not-nil}
+use mathlib.Core.Path.{_≡_, sym, ap, _∙_}
+use mathlib.Core.List.{List, List·Memᴰ as Mem, List·Memᴰ·not-nil as not-nil}
 use Prim.Native.Nat.{ℕ, _≤_, _<_}
 use native.Mathlib.Omega.{arith}
 use lib.ListN.{length, getD}
@@ -9,11 +9,10 @@ use Rattle.road.specs.Dijkstra.{dist}
 use Rattle.road.proofs.Theorems.{metric, symmetric}
 use Rattle.kinds.specs.Kinds.{shares}
 use Rattle.tree_layout.specs.Values.{Element, Mark, noMark, regionAt}
-use Rattle.tree_layout.specs.Decode.{decode, junctionCount}
+use Rattle.tree_layout.specs.Decode.{decode}
 use Rattle.tree_layout.proofs.Places.{decode-junctions}
 use Rattle.tree_layout.proofs.Formed.{at-mem}
-use Rattle.tree_leaf.specs.Leaf.{firstList}
-use Rattle.tree.specs.Shape.{treeRefusal}
+use Rattle.tree_leaf.proofs.Named.{first-list-is}
 use Rattle.tree.specs.Yards.{yardsBelow}
 use Rattle.tree.proofs.YardKinds.{accepted-kinds}
 use Rattle.search_rules.specs.Rule.{Asking}
@@ -22,12 +21,6 @@ use Rattle.search_rules.specs.Books.{searchOf, Passed}
 use Rattle.search_rules.specs.Facts.{WellFormed, Triangle, Symmetric, SoundInstance}
 use Rattle.search_rules.proofs.Trees.{Accepted, TrueKinds, accepted-tree, well-formed, truth-of}
 use Rattle.search_rules.proofs.Equations.{wants-of}
-
--- the first list is that of the first landmark
-first-is : (ms : List Mark) → 0 < length ms → firstList ms ≡ getD ms 0 noMark .list
-unfolding firstList
-first-is [] h = absurd (omega arith)
-first-is (m ∷ ms) h = refl
 
 module _ (road tree : List ℕ) (a : Asking) (crews : List ℕ) (p : Passed road tree crews) where
   abbrev i : Instance
@@ -79,4 +72,4 @@ module _ (road tree : List ℕ) (a : Asking) (crews : List ℕ) (p : Passed road
       let t = accepted-of in
       let some : 0 < length (regionAt (decode tree .regions) r .marks) = omega (arith, t .landmarks, t .formed (regionAt (decode tree .regions) r) (at-mem (decode tree .regions) r h) .count) in
       wants-of road tree a crews (e .yard)
-      ∙ ap (shares (a .wanted)) (accepted-kinds tree (p .shaped) r h c e (rw (first-is (regionAt (decode tree .regions) r .marks) some) k))
+      ∙ ap (shares (a .wanted)) (accepted-kinds tree (p .shaped) r h c e (rw (first-list-is (regionAt (decode tree .regions) r .marks) some) k))

@@ -1,7 +1,7 @@
 -- The bounds are sound: none is above the aggregate of a yard that it stands for. Assumes nothing.
 use mathlib.Core.Path.{_≡_, refl, ap}
 use mathlib.Core.Logic.{_≢_}
-use mathlib.Core.Bool.{Bool, true, false, not}
+use mathlib.Core.Bool.{true, not}
 use mathlib.Core.List.{List, [], _∷_, List·Memᴰ as Mem, List·Memᴰ·head as head, List·Memᴰ·tail as tail}
 use Prim.Native.Nat.{ℕ, _+_, _-_, _≤_, _<_, max}
 use native.Mathlib.Omega.{arith}
@@ -9,6 +9,7 @@ use lib.Dec.{T, T-not, leb, eqb}
 use Rattle.book.specs.Choose.{choose}
 use Rattle.book.proofs.Choosing.{choose-case, choose-yes, choose-no}
 use Rattle.tree_layout.specs.Values.{Element, Mark}
+use Rattle.tree_layout.proofs.RecordFields.{no-mark-list}
 use Rattle.search_rules.specs.Instance.{Instance, size, children, marks, leaf}
 use Rattle.search_rules.specs.Bounds.{absDiff, combine, aggregate, greatestOf, leastFrom, leastOf, crewBound, tableAt, lower, upper, over, total}
 use Rattle.search_rules.specs.Bounds.{markBound}
@@ -77,6 +78,11 @@ unfolding crewBound
 crewBound-under lb ub a b x h k =
     choose-case (λ z. z ≤ x) (leb b lb) (λ t. omega arith) (λ t. choose-case (λ z. z ≤ x) (leb ub a) (λ s. omega arith) (λ s. omega arith))
 
+-- of one crew the aggregate is its number
+pub of-one : (code : ℕ) (g : ℕ → ℕ) (q : ℕ) → aggregate code g (q ∷ []) ≡ g q
+unfolding aggregate combine
+of-one code g q = choose-case (λ x. x ≡ g q) (eqb code 0) (λ t. omega arith) (λ t. omega arith)
+
 module _ (i : Instance) where
   -- ---- a leaf's chosen landmark is one of its landmarks
 
@@ -103,6 +109,11 @@ module _ (i : Instance) where
   pub chosen-mem : (r : ℕ) → marks i r ≢ [] → Mem (chosen i r) (marks i r)
   unfolding chosen picked
   chosen-mem r s = choose-case (λ (m : Mark). Mem m (marks i r)) (i .oneWay) (λ t. first-mem (marks i r) s) (λ t. bestOf-mem (marks i r) s)
+
+  -- a region without landmarks has no list
+  pub chosen-none : (r : ℕ) → marks i r ≡ [] → chosen i r .list ≡ []
+  unfolding chosen picked bestOf firstMark
+  chosen-none r n = choose-case (λ (m : Mark). m .list ≡ []) (i .oneWay) (λ t. rw n no-mark-list) (λ t. rw n no-mark-list)
 
   -- on a tree with both directions it is the first
   pub chosen-first : T (i .oneWay) → (r : ℕ) → chosen i r ≡ firstMark (marks i r)

@@ -2,7 +2,7 @@
 use mathlib.Core.Path.{_≡_, refl, _∙_}
 use mathlib.Core.Logic.{_⊎_, inl, inr, ⊎-elim, _≢_}
 use mathlib.Core.Bool.{Bool, true, not}
-use mathlib.Core.List.{List, [], _∷_, List·Memᴰ as Mem, List·Memᴰ·head as head, List·Memᴰ·tail as tail, List·Memᴰ·not-nil as not-nil}
+use mathlib.Core.List.{List, _∷_, List·Memᴰ as Mem, List·Memᴰ·head as head, List·Memᴰ·tail as tail, List·Memᴰ·not-nil as not-nil}
 use mathlib.Core.List.{List·Memᴰ·cases-cons as cases-cons}
 use mathlib.Core.Option.{Option, some}
 use Prim.Native.Nat.{ℕ, zero, suc, _<_, max}
@@ -13,7 +13,7 @@ use lib.Dec.{T, T-not}
 use Rattle.book.proofs.Choosing.{choose-case}
 use Rattle.tree_layout.specs.Values.{Element, Mark}
 use Rattle.tree_leaf.specs.Leaf.{yardsIn}
-use Rattle.tree_leaf.proofs.Named.{yards-of}
+use Rattle.tree_leaf.proofs.Named.{yards-none, yards-cons, yards-of}
 use Rattle.search_rules.specs.Instance.{Instance, size, children, leaf}
 use Rattle.search_rules.specs.Bounds.{bound, chosen, f, yardBound}
 use Rattle.search_rules.specs.Step.{queueYard, queueWanted}
@@ -47,8 +47,8 @@ module _ (i : Instance) (well : WellFormed i) where
 
   queue-covers : (r first : ℕ) (h : r < size i) (l : T (leaf i r)) (s : SearchState) (e : Element) (es : List Element) → Rest i well r first h l s (e ∷ es)
       → CoveredBut i s (e ∷ es) → CoveredBut i (queueYard i s first (chosen i r) e) es
-  unfolding queueYard yardsIn
-  queue-covers r first h l s e es rest but z below₀ = ⊎-elim (λ c. inl (covers c)) (λ k. by-name (cases-cons k)) (but z below₀)
+  unfolding queueYard
+  queue-covers r first h l s e es rest but z below₀ = ⊎-elim (λ c. inl (covers c)) (λ k. by-name (cases-cons (rw (yards-cons e es) at k))) (but z below₀)
     where
       new : SearchState
       new = queueYard i s first (chosen i r) e
@@ -78,8 +78,7 @@ module _ (i : Instance) (well : WellFormed i) where
       by-name (inr k) = inr k
 
   pass-covers : (s : SearchState) (e : Element) (es : List Element) → T (not (i .wants (e .yard))) → CoveredBut i s (e ∷ es) → CoveredBut i s es
-  unfolding yardsIn
-  pass-covers s e es w but z below = ⊎-elim (λ c. inl c) (λ k. by-name (cases-cons k)) (but z below)
+  pass-covers s e es w but z below = ⊎-elim (λ c. inl c) (λ k. by-name (cases-cons (rw (yards-cons e es) at k))) (but z below)
     where
       by-name : (z ≡ e .yard) ⊎ Mem z (yardsIn es) → Cover i s z ⊎ Mem z (yardsIn es)
       by-name (inl p) = absurd (T-not (i .wants (e .yard)) w (rw p at (below-wanted i below)))
@@ -210,12 +209,11 @@ module _ (i : Instance) (well : WellFormed i) where
 
     whole-covers : (r a : ℕ) → key (st .regionKeys) r ≡ some a → T (i .oneWay) → T (leaf i r) → (first : ℕ) → key (st .firsts) r ≡ some first
         → Covered i (queueWanted i (closeLeaf i st r) first (chosen i r) (chosen i r .list))
-    unfolding yardsIn
     whole-covers r a at one l first first-is z below =
         let h = region-range i well st was r at in
         let all = whole-keeps i well r first h l (CoveredBut i) (λ s e es rest w q. queue-covers r first h l s e es rest q) (λ s e es rest w q. pass-covers s e es w q)
         (closeLeaf i st r) (chosen i r .list) (whole-rest i well st was r a at one l first first-is) (taken-covers r a at l) in
-        ⊎-elim (λ c. c) (λ k. absurd (not-nil k)) (all .1 z below)
+        ⊎-elim (λ c. c) (λ k. absurd (not-nil (rw yards-none at k))) (all .1 z below)
 
     -- ---- a yard
 

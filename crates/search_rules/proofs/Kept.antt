@@ -15,22 +15,22 @@ use Rattle.book.proofs.Choosing.{choose-case, choose-yes, choose-no}
 use Rattle.book.proofs.Lists.{kept-from}
 use Rattle.tree_layout.specs.Values.{Element, Mark}
 use Rattle.tree_leaf.specs.Leaf.{yardsIn}
-use Rattle.tree_leaf.proofs.Named.{yards-of}
+use Rattle.tree_leaf.proofs.Named.{yards-cons, yards-of}
 use Rattle.search_rules.specs.Instance.{Instance, size, children, marks, leaf}
 use Rattle.search_rules.specs.Bounds.{bound, chosen, f, yardBound}
 use Rattle.search_rules.specs.Queue.{unqueued, queued, wordAt}
 use Rattle.search_rules.specs.Keeping.{keepBy, keep, front}
 use Rattle.search_rules.specs.Held.{entry, ranked}
-use Rattle.search_rules.specs.Step.{SearchState, left, noElement, passed, againKey, nextPlace, nextF, queueChildren, openInner, queueNext, closeLeaf, openLeaf}
+use Rattle.search_rules.specs.Step.{SearchState, left, noElement, passed, againKey, nextPlace, nextF, openInner, queueNext, closeLeaf, openLeaf}
 use Rattle.search_rules.specs.Step.{queueYard, queueWanted, openWhole, takeLeaf}
 use Rattle.search_rules.specs.Step.{takeRegion, takeYard, step, settled, rootKeys, startSearch}
 use Rattle.search_rules.specs.Run.{Outcome, advance, run}
-use Rattle.search_rules.specs.Facts.{Below, inside, under, Shape, WellFormed}
+use Rattle.search_rules.specs.Facts.{Below, inside, under, WellFormed}
 use Rattle.search_rules.specs.Theorems.{barren}
 use Rattle.search_rules.proofs.Bounds.{chosen-mem}
 use Rattle.search_rules.proofs.Limits.{bound-most, f-most, yardBound-most}
 use Rattle.search_rules.proofs.Fronts.{front-none, front-keep}
-use Rattle.search_rules.proofs.Queue.{seen, seen-key, seen-mark, key, key-word, key-small, key-range, has, has-key, no-key, key-eq, small-queued, queued-small}
+use Rattle.search_rules.proofs.Queue.{seen, seen-mark, key, key-word, key-small, key-range, has, has-key, no-key, small-queued, queued-small}
 use Rattle.search_rules.proofs.Queue.{set-case, key-set, key-put, key-drop, Next, no-more, one-more, next-is, Again, empty, more, again-is, Entered}
 use Rattle.search_rules.proofs.Queue.{queued-child, kept, queueChildren-is, queueChildren-length, stays-left, stays-wanted, stays-by}
 use Rattle.search_rules.proofs.Barren.{barren-by}
@@ -558,12 +558,14 @@ module _ (i : Instance) (well : WellFormed i) (r first : ℕ) (number : r < size
         }
 
     -- the elements after it name other yards
+    apart : Distinct (e .yard ∷ yardsIn es)
+    apart = rw (yards-cons e es) at (rest .distinct)
+
     after : (g : Element) → Mem g es → g .yard ≢ e .yard
-    unfolding yardsIn
-    after g k p = rest .distinct .0 (rw p at (yards-of es g k))
+    after g k p = apart .0 (rw p at (yards-of es g k))
 
     pub rest-on : T (i .wants (e .yard)) → Rest (queueYard i st first m e) es
-    unfolding queueYard yardsIn
+    unfolding queueYard
     rest-on w = record {
       kept = queue-kept w;
       out = rest .out;
@@ -571,11 +573,10 @@ module _ (i : Instance) (well : WellFormed i) (r first : ℕ) (number : r < size
       sub = λ g k. rest .sub g (tail k);
       in-tree = λ g k. rest .in-tree g (tail k);
       here = λ g k. left-other (st .gone) (e .yard) whole-gone (g .yard) (after g k) (rest .here g (tail k));
-      distinct = rest .distinct .1;
+      distinct = apart .1;
     }
 
     pub rest-off : Rest st es
-    unfolding yardsIn
     rest-off = record {
       kept = was;
       out = rest .out;
@@ -583,7 +584,7 @@ module _ (i : Instance) (well : WellFormed i) (r first : ℕ) (number : r < size
       sub = λ g k. rest .sub g (tail k);
       in-tree = λ g k. rest .in-tree g (tail k);
       here = λ g k. rest .here g (tail k);
-      distinct = rest .distinct .1;
+      distinct = apart .1;
     }
 
   -- what each wanted yard that is queued keeps, and each unwanted one that is passed over, all of them keep

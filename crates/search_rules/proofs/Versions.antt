@@ -3,12 +3,11 @@ use mathlib.Core.Path.{_≡_, refl, ap, _∙_}
 use mathlib.Core.Bool.{false}
 use mathlib.Core.List.{List, []}
 use Prim.Native.Nat.{ℕ}
-use lib.ListN.{length}
 use Rattle.road.specs.Dijkstra.{dist}
 use Rattle.kinds.specs.Kinds.{shares}
 use Rattle.tree_layout.specs.Values.{regionAt}
 use Rattle.tree_layout.specs.Decode.{decode}
-use Rattle.tree.specs.Yards.{kindsFrom, kindsOf}
+use Rattle.tree.proofs.YardKinds.{kinds-alike}
 use Rattle.search_rules.specs.Rule.{Asking}
 use Rattle.search_rules.specs.Books.{searchOf}
 use Rattle.search_rules.specs.Instance.{Instance, size, children, marks, leaf}
@@ -53,7 +52,7 @@ module _ (road tree tree′ : List ℕ) (a : Asking) (crews : List ℕ) (js : de
     (ys : decode tree .yards ≡ decode tree′ .yards) (ms : decode tree .landmarks ≡ decode tree′ .landmarks)
     (rs : decode tree .regions ≡ decode tree′ .regions) where
   same-search : searchOf road tree a crews ≡ reversioned (decode tree .version) (searchOf road tree′ a crews)
-  unfolding searchOf kindsOf
+  unfolding searchOf
   same-search = λ i. record {
     code = a .code;
     rule = a .rule;
@@ -61,7 +60,7 @@ module _ (road tree tree′ : List ℕ) (a : Asking) (crews : List ℕ) (js : de
     tree = record { version = decode tree .version; junctions = js i; yards = ys i; landmarks = ms i; regions = rs i };
     d = dist road;
     admits = λ r. shares (a .wanted) (regionAt (rs i) r .kinds);
-    wants = λ y. shares (a .wanted) (kindsFrom (rs i) (length (rs i)) 0 y);
+    wants = λ y. shares (a .wanted) (kinds-alike (decode tree) (decode tree′) rs y i);
     oneWay = false;
     towards = λ r. [];
     back = λ y. 0;

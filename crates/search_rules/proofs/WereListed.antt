@@ -3,10 +3,10 @@ use mathlib.Core.Path.{_≡_, refl, sym, ap, _∙_}
 use mathlib.Core.Logic.{_⊎_, inl, inr}
 use mathlib.Core.Bool.{true, false}
 use mathlib.Core.List.{List, [], _∷_, map, List·Memᴰ as Mem, Memᴰ·map, Memᴰ·cast}
-use Prim.Native.Nat.{ℕ, _≤_, _<_, min, max}
+use Prim.Native.Nat.{ℕ, _≤_, _<_, min}
 use native.Mathlib.Omega.{arith}
 use lib.ListN.{take, length-take}
-use Rattle.book.specs.Choose.{choose}
+use Rattle.search_rules.proofs.Bounds.{of-one}
 use Rattle.book.specs.Lists.{Distinct}
 use Rattle.book.proofs.Lists.{map-mem}
 use Rattle.road_layout.specs.Road.{junctions}
@@ -15,7 +15,7 @@ use Rattle.road.specs.Dijkstra.{dist}
 use Rattle.road.specs.Facts.{Passing}
 use Rattle.search_rules.specs.Rule.{Rule, nearest, inDrive}
 use Rattle.search_rules.specs.Instance.{Instance}
-use Rattle.search_rules.specs.Bounds.{combine, aggregate, over, total, furthest}
+use Rattle.search_rules.specs.Bounds.{aggregate, over, total, furthest}
 use Rattle.search_rules.specs.Order.{Entry, entryOf, YardBefore}
 use Rattle.search_rules.specs.Held.{entry, ranked}
 use Rattle.search_rules.specs.Keeping.{front}
@@ -53,8 +53,8 @@ module _ (road : List ℕ) (roads : Passing road) (code : ℕ) (crews ys : List 
   }
 
   lone-entry : (r : Rule) (y : ℕ) → entry (lone r) y ≡ entryOf (sum y) (sum y) y
-  unfolding entry total over furthest lone aggregate combine choose
-  lone-entry r y = let p : max (sum y) 0 ≡ sum y = omega arith in λ j. entryOf (p j) (p j) y
+  unfolding entry total over furthest lone
+  lone-entry r y = let p = of-one 1 (λ q. sum y) 0 in λ j. entryOf (p j) (p j) y
 
   -- a yard with its own numbers again
   own : Entry → Entry

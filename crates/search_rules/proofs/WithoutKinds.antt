@@ -1,6 +1,6 @@
 -- A search that wants each yard, and lets each region enter the queue, is the search without kinds; so is that of a version 1 tree book. Assumes nothing.
 use mathlib.Core.Path.{_≡_, refl, sym, ap, _∙_}
-use mathlib.Core.Bool.{Bool, true, false, not}
+use mathlib.Core.Bool.{Bool, true}
 use mathlib.Core.List.{List, [], _∷_, List·Memᴰ as Mem, List·Memᴰ·head as head, List·Memᴰ·tail as tail, List·Memᴰ·not-nil as not-nil}
 use Prim.Native.Nat.{ℕ, zero, suc, max, min, _%_, _≤_, _<_}
 use native.Mathlib.Decide.{decLt}
@@ -10,10 +10,11 @@ use lib.Bits.{bitAnd, and-mask}
 use lib.Dec.{T, ltb, eqb→eq}
 use Rattle.book.specs.Choose.{choose}
 use Rattle.book.proofs.Choosing.{T-true}
+use Rattle.search_rules.proofs.Choices.{choose-two}
 use Rattle.book.proofs.Lists.{kept-all}
 use Rattle.kinds.specs.Kinds.{shares}
 use Rattle.kinds.proofs.Laws.{some-shares}
-use Rattle.tree_layout.specs.Values.{Element, Mark, Region, noMark, regionAt}
+use Rattle.tree_layout.specs.Values.{Element, Mark, Region, regionAt}
 use Rattle.tree_layout.specs.Decode.{decode}
 use Rattle.tree_layout.proofs.Formed.{decode-formed, at-mem}
 use Rattle.tree_layout.proofs.Leasts.{marks-out}
@@ -28,21 +29,15 @@ use Rattle.search_rules.specs.Rule.{Asking}
 use Rattle.search_rules.specs.Books.{searchOf}
 use Rattle.search_rules.specs.Instance.{Instance, withoutKinds, size, children, marks, leaf}
 use Rattle.search_rules.specs.Bounds.{tableAt, lower, upper, over, total, furthest, markBound, bound, weight, best, bestOf, chosen, listAbsDiff, f, yardBound}
-use Rattle.search_rules.specs.Bounds.{firstMark, twoWayBound, lowerTo, upperFrom, awayBound, towardsBound, oneWayBound, picked, twoWayYardBound, oneWayYardBound}
+use Rattle.search_rules.specs.Bounds.{twoWayBound, lowerTo, upperFrom, awayBound, towardsBound, oneWayBound, picked, twoWayYardBound, oneWayYardBound}
 use Rattle.search_rules.specs.Held.{entry}
 use Rattle.search_rules.specs.Keeping.{keep, enough}
 use Rattle.search_rules.specs.Queue.{queued, wordAt, pick}
 use Rattle.search_rules.specs.Step.{SearchState, noElement, againKey, passed, waiting, nextPlace, nextF, queueChildren, openInner, queueNext, closeLeaf, openLeaf, takeRegion}
 use Rattle.search_rules.specs.Step.{takeYard, nextRegion, nextYard, leastKey, step, settled, rootKeys, startSearch}
 use Rattle.search_rules.specs.Run.{Outcome, advance, run, report, answer}
-use Rattle.search_rules.proofs.Bounds.{chosen-mem}
+use Rattle.search_rules.proofs.Bounds.{chosen-mem, chosen-none}
 use Rattle.search_rules.specs.Step.{openWhole, queueWanted, queueYard, takeLeaf}
-
--- two choices by one test are equal if their sides are, each where it is chosen
-choose-same : {A : Type 0} (b : Bool) {x y v w : A} → (T b → x ≡ v) → (T (not b) → y ≡ w) → choose b x y ≡ choose b v w
-unfolding choose
-choose-same true p q = p tt
-choose-same false p q = q tt
 
 module _ (i : Instance) (root : T (i .admits 0)) (enter : (r c : ℕ) → Mem c (childrenOf (i .tree .regions) r) → T (i .admits c))
     (wanted : (r : ℕ) → T (leaf i r) → (e : Element) → Mem e (chosen i r .list) → T (i .wants (e .yard))) where
@@ -110,7 +105,7 @@ module _ (i : Instance) (root : T (i .admits 0)) (enter : (r c : ℕ) → Mem c 
 
   same-region : (st : SearchState) (r a : ℕ) → takeRegion i st r a ≡ takeRegion all st r a
   unfolding takeRegion leaf takeLeaf
-  same-region st r a = choose-same (leaf i r) (λ l. choose-same (i .oneWay) (λ one. same-whole st r l) (λ two. same-leaf st r l)) (λ t. same-inner st r a)
+  same-region st r a = choose-two _≡_ (leaf i r) (λ l. choose-two _≡_ (i .oneWay) (λ one. same-whole st r l) (λ two. same-leaf st r l)) (λ t. same-inner st r a)
 
   same-step : (st : SearchState) → step i st ≡ step all st
   unfolding step nextRegion nextYard size takeYard keep entry total over furthest
@@ -167,8 +162,7 @@ module _ (road tree : List ℕ) (a : Asking) (crews : List ℕ) (ok : treeRefusa
 
   -- each yard in a leaf's list is wanted
   leaf-marked : (r : ℕ) (e : Element) → Mem e (chosen i r .list) → Mem (chosen i r) (marks i r)
-  unfolding searchOf chosen picked bestOf noMark choose
-  leaf-marked r e k = chosen-mem i r (λ n. not-nil (rw n at k))
+  leaf-marked r e k = chosen-mem i r (λ n. not-nil (rw (chosen-none i r n) at k))
 
   leaf-wanted : (r : ℕ) → T (leaf i r) → (e : Element) → Mem e (chosen i r .list) → T (i .wants (e .yard))
   unfolding searchOf leaf marks

@@ -141,6 +141,11 @@ module _ (t : Tree) (whole : Whole t) where
       let a : e .kinds ≡ 255 = formed (regionAt rs j) (at-mem rs j (x .2)) .any-listed v (m .0) (m .1) e (rw (m .2) at (x .4)) in
       rw (← x .5) (q ∙ a)
 
+-- trees of the same regions have the same kinds
+pub kinds-alike : (t u : Tree) → t .regions ≡ u .regions → (y : ℕ) → kindsOf t y ≡ kindsOf u y
+unfolding kindsOf
+kinds-alike t u e y = rw e refl
+
 -- ---- of an accepted book
 
 module _ (b : List ℕ) (ok : treeRefusal b ≡ 0) where

@@ -145,3 +145,7 @@ header-yards b = refl
 pub header-regions : (b : List ℕ) → headerOf b .regions ≡ regionCount b
 unfolding headerOf
 header-regions b = refl
+
+pub header-landmarks : (b : List ℕ) → headerOf b .landmarks ≡ landmarkCount b
+unfolding headerOf
+header-landmarks b = refl

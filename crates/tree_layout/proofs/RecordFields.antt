@@ -1,6 +1,6 @@
 -- The landmarks of a record, as they are read. Assumes nothing.
 use mathlib.Core.Path.{_≡_, refl, sym, ap, _∙_}
-use mathlib.Core.List.{List}
+use mathlib.Core.List.{List, []}
 use Prim.Native.Nat.{ℕ, zero, suc, _+_, _*_, _-_, _≤_, _<_}
 use native.Mathlib.Nat.{suc-mul, mul-le-mul-right}
 use native.Mathlib.Omega.{arith}
@@ -8,7 +8,7 @@ use lib.ListN.{length, getD}
 use Rattle.book.specs.Bytes.{u8At, u16At, u32At}
 use Rattle.book.specs.Open.{version}
 use Rattle.tree_layout.specs.Sizes.{fieldsSize, listSize, leafMarkSize}
-use Rattle.tree_layout.specs.Values.{Element, noMark, leafMark, innerMark, firstDistance, lastFrom}
+use Rattle.tree_layout.specs.Values.{Element, Mark, noMark, leafMark, innerMark, firstDistance, lastFrom}
 use Rattle.tree_layout.specs.Decode.{markSize, sizeAt, readList, listPart, landmarkCount}
 use Rattle.tree_layout.proofs.Places.{mark-size-leaf, mark-size-inner, size-at, size-least}
 use Rattle.tree_layout.proofs.Ends.{leaf-is, inner-is, first-read, last-read}
@@ -104,3 +104,22 @@ span-ends b at u a z eu ea ez l g = g ∙ rw (inner-is (u16At b at) (u32At b (at
 pub marks-count : (b : List ℕ) (at : ℕ) → length (marksAt b at) ≡ landmarkCount b
 unfolding marksAt
 marks-count b at = region-marks b (landmarkCount b) at
+
+-- ---- what is read of a landmark is what it has
+
+pub landmark-place : (m : Mark) → landmarkOf m .place .number ≡ m .place
+unfolding landmarkOf
+landmark-place m = refl
+
+pub landmark-least : (m : Mark) → landmarkOf m .least ≡ m .least
+unfolding landmarkOf
+landmark-least m = refl
+
+pub landmark-greatest : (m : Mark) → landmarkOf m .greatest ≡ m .greatest
+unfolding landmarkOf
+landmark-greatest m = refl
+
+-- what stands for no landmark has no list
+pub no-mark-list : noMark .list ≡ []
+unfolding noMark
+no-mark-list = refl

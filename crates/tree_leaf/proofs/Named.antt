@@ -6,12 +6,12 @@ use mathlib.Core.List.{List, [], _∷_, List·Memᴰ as Mem, List·Memᴰ·head 
 use mathlib.Core.List.{List·Memᴰ·cases-cons as cases-cons, Memᴰ·cast as cast}
 use Prim.Native.Nat.{ℕ, suc, _-_, _≤_, _<_}
 use native.Mathlib.Omega.{arith}
-use lib.ListN.{length}
+use lib.ListN.{length, getD}
 use lib.Dec.{T, leb, eqb, eqb→eq, T-not, not-T, leb→le, ltb→lt, le→leb, lt→ltb}
 use Rattle.book.specs.Lists.{Distinct}
 use Rattle.book.proofs.Choosing.{and-left, and-right, and-both}
 use Rattle.book.proofs.Lists.{or-left, or-right, or-cases, eq→eqb}
-use Rattle.tree_layout.specs.Values.{Element, Mark, Region}
+use Rattle.tree_layout.specs.Values.{Element, Mark, Region, noMark}
 use Rattle.tree_layout.specs.Refusal.{all}
 use Rattle.tree_layout.proofs.Tests.{all-mem, all-intro}
 use Rattle.tree_leaf.specs.Leaf.{names, once, inRange, namedBy, firstList, sameYards, agreeing, leafOk, yardsIn}
@@ -44,6 +44,12 @@ yards-none = refl
 pub yards-cons : (e : Element) (es : List Element) → yardsIn (e ∷ es) ≡ e .yard ∷ yardsIn es
 unfolding yardsIn
 yards-cons e es = refl
+
+-- the first list is that of the first landmark
+pub first-list-is : (ms : List Mark) → 0 < length ms → firstList ms ≡ getD ms 0 noMark .list
+unfolding firstList
+first-list-is [] h = absurd (omega arith)
+first-list-is (m ∷ ms) h = refl
 
 pub yards-of : (es : List Element) (e : Element) → Mem e es → Mem (e .yard) (yardsIn es)
 unfolding yardsIn
