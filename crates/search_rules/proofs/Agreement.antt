@@ -1,14 +1,12 @@
 -- Two settled searches on true trees of the same yards, with the same distances, list the same: whatever the trees' versions, and so the two-way finder's and
 -- the other's where every road is alike both ways. Assumes nothing.
-use mathlib.Core.Path.{_≡_, refl, sym, ap, _∙_}
-use mathlib.Core.List.{List, [], _∷_, map, List·Memᴰ as Mem, List·Memᴰ·head as head, List·Memᴰ·tail as tail}
-use Prim.Native.Nat.{ℕ, _<_}
+use mathlib.Core.Path.{_≡_, refl, sym, _∙_}
+use mathlib.Core.List.{List, [], _∷_, List·Memᴰ as Mem, List·Memᴰ·head as head, List·Memᴰ·tail as tail}
+use Prim.Native.Nat.{ℕ}
 use lib.Dec.{T}
 use Rattle.search_rules.specs.Instance.{Instance}
-use Rattle.search_rules.specs.Order.{Entry}
 use Rattle.search_rules.specs.Bounds.{over, total, furthest}
-use Rattle.search_rules.specs.Held.{entry, ranked, insert}
-use Rattle.search_rules.specs.Keeping.{front}
+use Rattle.search_rules.specs.Held.{entry, ranked}
 use Rattle.search_rules.specs.Run.{answer}
 use Rattle.search_rules.specs.Facts.{SoundInstance}
 use Rattle.search_rules.specs.Theorems.{TreeYards}

@@ -122,18 +122,6 @@ module _ (i : Instance) where
 
   -- ---- bounds by the tree's version
 
-  pub bound-one : T (i .oneWay) → (r : ℕ) → bound i r ≡ oneWayBound i r
-  unfolding bound
-  bound-one t r = choose-yes (i .oneWay) (oneWayBound i r) (twoWayBound i r) t
-
-  pub bound-two : T (not (i .oneWay)) → (r : ℕ) → bound i r ≡ twoWayBound i r
-  unfolding bound
-  bound-two t r = choose-no (i .oneWay) (oneWayBound i r) (twoWayBound i r) t
-
-  pub yard-one : T (i .oneWay) → (m : Mark) (e : Element) → yardBound i m e ≡ oneWayYardBound i m e
-  unfolding yardBound
-  yard-one t m e = choose-yes (i .oneWay) (oneWayYardBound i m e) (twoWayYardBound i m e) t
-
   pub yard-two : T (not (i .oneWay)) → (m : Mark) (e : Element) → yardBound i m e ≡ twoWayYardBound i m e
   unfolding yardBound
   yard-two t m e = choose-no (i .oneWay) (oneWayYardBound i m e) (twoWayYardBound i m e) t
@@ -301,11 +289,6 @@ module _ (i : Instance) where
       lowerTo-le l q a b =
           greatestOf-le (λ r. pointBound (i .d (r .place) l) (i .d (r .place) q) (i .d q (r .place)) (i .d l (r .place))) (i .d q l) (marks i 0)
           (λ m e. point-le (m .place) q l (shape .places 0 m e) b a)
-
-      pub upperFrom-le : (l q : ℕ) → l < i .tree .junctions → q < i .tree .junctions → i .d l q ≤ upperFrom i l q
-      unfolding upperFrom
-      upperFrom-le l q a b = leastOf-le (λ r. i .d l (r .place) + i .d (r .place) q) (i .d l q) (marks i 0) (shape .marked 0 (shape .root))
-          (λ m e. metric .triangle l (m .place) q a (shape .places 0 m e) b)
 
       module _ (truth : Truth i) where
         -- each part of a region's bound is at most what the table says of a yard below it

@@ -5,7 +5,7 @@ use mathlib.Core.Logic.{_⊎_, inl, inr, _≢_}
 use mathlib.Core.Bool.{Bool, true, false, not, _&&_, _||_}
 use mathlib.Core.List.{List, [], _∷_, List·Memᴰ as Mem, List·Memᴰ·head as head, List·Memᴰ·tail as tail}
 use mathlib.Core.Option.{Option, none, some}
-use Prim.Native.Nat.{ℕ, zero, suc, _+_, _*_, _≤_, _<_, max}
+use Prim.Native.Nat.{ℕ, zero, suc, _+_, _≤_, _<_}
 use native.Mathlib.Nat.{add-zero, add-suc}
 use native.Mathlib.Omega.{arith}
 use lib.ListN.{length, set}
@@ -13,11 +13,11 @@ use lib.Dec.{T, eqb, T-not, not-T}
 use Rattle.book.specs.Choose.{choose}
 use Rattle.book.proofs.Choosing.{choose-case, choose-yes, choose-no, and-left, and-right, and-both}
 use Rattle.book.proofs.Lists.{or-left, or-right, or-cases}
-use Rattle.tree_layout.specs.Values.{Element, Mark, Region, regionAt}
+use Rattle.tree_layout.specs.Values.{Element, Mark, regionAt}
 use Rattle.tree.specs.Yards.{numbers, sumFrom, oneInner, inners}
 use Rattle.tree.proofs.Counts.{numbers-none, numbers-more, numbers-mem, sum-none, sum-more, one-inner, inners-sum}
-use Rattle.search_rules.specs.Instance.{Instance, size, children, marks, leaf}
-use Rattle.search_rules.specs.Bounds.{chosen, yardBound}
+use Rattle.search_rules.specs.Instance.{Instance, size, children, leaf}
+use Rattle.search_rules.specs.Bounds.{chosen}
 use Rattle.search_rules.specs.Queue.{unqueued}
 use Rattle.search_rules.specs.Step.{queueYard, queueWanted}
 use Rattle.search_rules.specs.Step.{SearchState, left, passed, openInner, queueNext, closeLeaf, takeYard, step, settled, startSearch}

@@ -1,12 +1,12 @@
 -- The hypotheses can be met: they hold of a tree of five regions on net N of whose yards 3 isn't wanted, so that the theorems say something of it. Assumes
 -- nothing.
-use mathlib.Core.Path.{_≡_, refl, ap, _∙_}
+use mathlib.Core.Path.{_≡_, refl, ap}
 use mathlib.Core.Logic.{_⊎_, inl, inr}
 use mathlib.Core.Bool.{Bool, true, false, not, _&&_}
-use mathlib.Core.List.{List, [], _∷_, map, List·Memᴰ as Mem, List·Memᴰ·head as head, List·Memᴰ·tail as tail, List·Memᴰ·not-nil as not-nil}
+use mathlib.Core.List.{List, [], _∷_, List·Memᴰ as Mem, List·Memᴰ·head as head, List·Memᴰ·tail as tail, List·Memᴰ·not-nil as not-nil}
 use Prim.Native.Nat.{ℕ, zero, suc, _≤_, _<_}
 use native.Mathlib.Omega.{arith}
-use lib.ListN.{length, getD, take}
+use lib.ListN.{length, getD}
 use lib.Dec.{T, ltb, leb, eqb, lt→ltb, ltb→lt, leb→le, eqb→eq, T-not}
 use Rattle.book.specs.Choose.{choose}
 use Rattle.book.specs.Lists.{keepIf}
@@ -16,7 +16,7 @@ use Rattle.book.proofs.Lists.{getD-mem, kept-from, kept-in}
 use Rattle.book.specs.Open.{version}
 use Rattle.kinds.specs.Kinds.{kindSize, kindAt}
 use Rattle.tree_layout.specs.Sizes.{fieldsSize, elementSize, listSize, leafMarkSize}
-use Rattle.tree_layout.specs.Values.{Element, Mark, Region, leafMark, innerMark, firstDistance, lastFrom, noRegion, regionAt}
+use Rattle.tree_layout.specs.Values.{Element, Mark, leafMark, innerMark, firstDistance, lastFrom, noRegion, regionAt}
 use Rattle.tree_layout.specs.Decode.{elementAt, readList, listPart, readLists, readSpans, readMarks, markSize, recordSize, sizeAt, readRegion, readRegions}
 use Rattle.tree_layout.specs.Decode.{junctionCount, regionCount, treeYardCount, landmarkCount, decode}
 use Rattle.tree_layout.specs.Refusal.{all}
@@ -24,7 +24,7 @@ use Rattle.tree_layout.proofs.Tests.{all-mem}
 use Rattle.tree_layout.proofs.Vectors.{fiveRegions}
 use Rattle.tree_leaf.specs.Leaf.{yardsIn, names, once, inRange, namedBy, firstList, agreeing, sameYards, leafOk}
 use Rattle.tree.specs.Shape.{childFits, siblings, subtree, treeRefusal}
-use Rattle.tree.specs.Yards.{endOf, starts, childrenOf, numbers, ownYards, leafYardsFrom, yardsBelow, treeYards, sumFrom, oneInner, inners}
+use Rattle.tree.specs.Yards.{endOf, numbers, ownYards, leafYardsFrom, yardsBelow, treeYards, sumFrom, oneInner, inners}
 use Rattle.tree.proofs.Counts.{numbers-mem}
 use Rattle.tree.proofs.Vectors.{row0}
 use Rattle.search_rules.specs.Rule.{nearest}

@@ -1,25 +1,25 @@
 -- No key is above sixteen times a u32, whatever the tree's numbers say: keys are far below `unqueued`. Assumes nothing.
 use mathlib.Core.Path.{_≡_, refl, sym, _∙_}
-use mathlib.Core.Bool.{Bool, true, not}
+use mathlib.Core.Bool.{true, not}
 use mathlib.Core.List.{List, _∷_, List·Memᴰ as Mem, List·Memᴰ·head as head}
-use mathlib.Core.Option.{Option, none, some}
-use Prim.Native.Nat.{ℕ, zero, suc, _≤_, _<_, max}
+use mathlib.Core.Option.{Option, some}
+use Prim.Native.Nat.{ℕ, zero, suc, _≤_, _<_}
 use native.Mathlib.Omega.{arith}
-use lib.ListN.{length, set}
+use lib.ListN.{set}
 use lib.Dec.{T}
 use Rattle.book.proofs.Choosing.{choose-case}
-use Rattle.tree_layout.specs.Values.{Element, Mark}
+use Rattle.tree_layout.specs.Values.{Element}
 use Rattle.search_rules.specs.Instance.{Instance, size, children, marks, leaf}
-use Rattle.search_rules.specs.Bounds.{bound, chosen, f, yardBound}
+use Rattle.search_rules.specs.Bounds.{chosen}
 use Rattle.search_rules.specs.Queue.{unqueued, wordAt}
 use Rattle.search_rules.specs.Step.{queueYard, queueWanted}
-use Rattle.search_rules.specs.Step.{SearchState, passed, againKey, nextF, openInner, queueNext, closeLeaf, takeYard, step, settled, startSearch}
+use Rattle.search_rules.specs.Step.{SearchState, passed, openInner, queueNext, closeLeaf, takeYard, step, settled, startSearch}
 use Rattle.search_rules.specs.Run.{Outcome, advance, run}
 use Rattle.search_rules.specs.Facts.{WellFormed}
 use Rattle.search_rules.specs.Theorems.{KeysFit}
 use Rattle.search_rules.proofs.Bounds.{chosen-mem}
 use Rattle.search_rules.proofs.Limits.{bound-most, f-most, yardBound-most}
-use Rattle.search_rules.proofs.Queue.{seen, key, word-key, key-eq, no-key, Entered, queued-child, kept, Again, empty, more}
+use Rattle.search_rules.proofs.Queue.{key, word-key, key-eq, no-key, Entered, queued-child, kept, Again, empty, more}
 use Rattle.search_rules.proofs.Stepping.{step-case}
 use Rattle.search_rules.proofs.Kept.{Kept, InnerKey, child, taken, same, inner-key, inner-first, mark-mem, leaf-yard-key, leaf-region-key, leaf-again}
 use Rattle.search_rules.proofs.Kept.{region-range, Rest, whole-yard-key, whole-keeps, whole-rest}

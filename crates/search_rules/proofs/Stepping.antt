@@ -1,19 +1,18 @@
 -- A step by cases, and what it means that a search is settled. Assumes nothing.
-use mathlib.Core.Path.{_≡_, refl, sym}
+use mathlib.Core.Path.{_≡_, refl}
 use mathlib.Core.Logic.{inl, ⊎-elim}
 use mathlib.Core.Bool.{Bool, true, false, not, _&&_, _||_}
 use mathlib.Core.List.{List, List·Memᴰ as Mem}
-use mathlib.Core.Option.{Option, none, some}
+use mathlib.Core.Option.{none, some}
 use Prim.Native.Nat.{ℕ, _≤_, _<_, min}
 use native.Mathlib.Omega.{arith}
 use lib.ListN.{length}
 use lib.Dec.{T, ltb, eqb, ltb→lt, nltb→le, eqb→eq, T-not, not-T}
-use Rattle.book.specs.Choose.{choose}
 use Rattle.book.proofs.Choosing.{choose-case, and-left, and-right, and-both}
-use Rattle.book.proofs.Lists.{or-left, or-right, or-cases, eq→eqb}
+use Rattle.book.proofs.Lists.{or-right, or-cases, eq→eqb}
 use Rattle.search_rules.specs.Order.{Entry}
 use Rattle.search_rules.specs.Instance.{Instance, size}
-use Rattle.search_rules.specs.Queue.{unqueued, queued, wordAt, pick}
+use Rattle.search_rules.specs.Queue.{unqueued, queued, wordAt}
 use Rattle.search_rules.specs.Rule.{Rule, nearest, inDrive}
 use Rattle.search_rules.specs.Keeping.{enoughBy, enough}
 use Rattle.search_rules.specs.Held.{greatestHeld}

@@ -1,6 +1,6 @@
 -- The definitions of a step, one equation for each, for those who compute them. Assumes nothing.
 use mathlib.Core.Path.{_≡_, refl, ap, _∙_}
-use mathlib.Core.Bool.{Bool, true, false, not, _||_}
+use mathlib.Core.Bool.{true, false, not, _||_}
 use mathlib.Core.List.{List, [], _∷_}
 use Prim.Native.Nat.{ℕ, _≤_, _<_, min, max}
 use native.Mathlib.Omega.{arith}
@@ -16,8 +16,8 @@ use Rattle.search_rules.specs.Bounds.{bound, chosen, total, furthest, ya
 use Rattle.search_rules.specs.Queue.{unqueued, queued, wordAt, pick}
 use Rattle.search_rules.specs.Keeping.{keepBy, enoughBy, keep, enough}
 use Rattle.search_rules.specs.Held.{entry}
-use Rattle.search_rules.specs.Step.{SearchState, noElement, againKey, waiting, nextPlace, nextF, queueChildren, openInner, queueNext, closeLeaf}
-use Rattle.search_rules.specs.Step.{openLeaf, queueWanted, openWhole, takeLeaf}
+use Rattle.search_rules.specs.Step.{SearchState, noElement, againKey, nextPlace, nextF, queueChildren, openInner, queueNext, closeLeaf}
+use Rattle.search_rules.specs.Step.{openLeaf, openWhole, takeLeaf}
 use Rattle.search_rules.specs.Step.{takeRegion, takeYard, nextRegion, nextYard, leastKey, step, settled, rootKeys, startSearch}
 use Rattle.search_rules.proofs.Queue.{small-queued, queued-small}
 
@@ -93,11 +93,6 @@ module _ (i : Instance) where
   unfolding takeRegion takeLeaf
   take-leaf st r a two t = choose-yes (leaf i r) _ (openInner i st r a) t ∙ choose-no (i .oneWay) (openWhole i st r) (openLeaf i st r) two
 
-  pub take-whole : (st : SearchState) (r a : ℕ) → T (i .oneWay) → T (leaf i r)
-      → takeRegion i st r a ≡ queueWanted i (closeLeaf i st r) (wordAt (st .firsts) r) (chosen i r) (chosen i r .list)
-  unfolding takeRegion takeLeaf openWhole
-  take-whole st r a one t = choose-yes (leaf i r) _ (openInner i st r a) t ∙ choose-yes (i .oneWay) _ (openLeaf i st r) one
-
   pub take-inner : (st : SearchState) (r a : ℕ) → T (not (leaf i r)) → takeRegion i st r a ≡ openInner i st r a
   unfolding takeRegion
   take-inner st r a t = choose-no (leaf i r) (takeLeaf i st r) (openInner i st r a) t
@@ -137,15 +132,6 @@ module _ (i : Instance) where
   }
   unfolding openInner
   open-inner-is st r a = refl
-
-  -- a leaf's next place and f, by the words of its list
-  pub next-place-is : (gone : List Bool) (m : Mark) → nextPlace i gone m ≡ pick (waiting i gone m (m .list)) (length (m .list))
-  unfolding nextPlace
-  next-place-is gone m = refl
-
-  pub next-f-is : (gone : List Bool) (m : Mark) → nextF i gone m ≡ wordAt (waiting i gone m (m .list)) (nextPlace i gone m)
-  unfolding nextF
-  next-f-is gone m = refl
 
   module _ (st : SearchState) (r : ℕ) (m : Mark) (e : Element) (em : m ≡ chosen i r) (ee : e ≡ getD (m .list) (nextPlace i (st .gone) m) noElement) where
     pub open-leaf-on : nextF i (st .gone) m < unqueued → openLeaf i st r ≡ record {

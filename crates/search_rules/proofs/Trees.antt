@@ -1,29 +1,29 @@
 -- The tree of a book that the tests accept has the shape that the search asks for, its yards are those below the root, and its numbers are small. Assumes
 -- nothing.
-use mathlib.Core.Path.{_≡_, refl, sym, ap, _∙_}
-use mathlib.Core.Logic.{_⊎_, inl, inr, _≢_, _↔_}
-use mathlib.Core.Bool.{Bool, true, false, not}
+use mathlib.Core.Path.{_≡_, refl, ap}
+use mathlib.Core.Logic.{_⊎_, inl, inr, _≢_}
+use mathlib.Core.Bool.{true, not}
 use mathlib.Core.List.{List, [], _∷_, List·Memᴰ as Mem, List·Memᴰ·head as head, List·Memᴰ·not-nil as not-nil}
 use Prim.Native.Nat.{ℕ, zero, suc, _+_, _≤_, _<_}
 use native.Mathlib.Decide.{ℕ-discrete, decLt}
 use native.Mathlib.Omega.{arith}
 use lib.ListN.{length}
-use lib.Dec.{T, eqb, eqb→eq, T-not, not-T}
+use lib.Dec.{T, eqb, eqb→eq}
 use Rattle.book.specs.Bytes.{Bytes}
-use Rattle.book.specs.Lists.{Distinct, keepIf}
+use Rattle.book.specs.Lists.{keepIf}
 use Rattle.book.proofs.Choosing.{T-split}
-use Rattle.book.proofs.Lists.{eq→eqb, neqb→ne, kept-from, kept-in}
-use Rattle.tree_layout.specs.Values.{Element, Mark, Region, Tree, firstDistance, regionAt}
+use Rattle.book.proofs.Lists.{neqb→ne, kept-from, kept-in}
+use Rattle.tree_layout.specs.Values.{Element, Mark, Region, Tree, regionAt}
 use Rattle.tree_layout.specs.Decode.{decode}
-use Rattle.tree_layout.specs.Facts.{RegionValues, TreeLayout}
+use Rattle.tree_layout.specs.Facts.{RegionValues}
 use Rattle.tree_layout.specs.code.Formed.{FormedTree}
 use Rattle.tree_layout.proofs.Formed.{decode-formed, at-mem}
 use Rattle.tree_layout.proofs.Places.{decode-length, decode-junctions, decode-yards, decode-landmarks}
 use Rattle.tree_layout.proofs.Leasts.{least-small, first-of, leaf-least, marks-out}
 use Rattle.tree.specs.Shape.{treeRefusal}
 use Rattle.tree_leaf.specs.Leaf.{yardsIn}
-use Rattle.tree.specs.Yards.{childrenOf, gather, yardsBelow, treeYards}
-use Rattle.tree.specs.Theorems.{LeafOf, Whole}
+use Rattle.tree.specs.Yards.{childrenOf, yardsBelow, treeYards}
+use Rattle.tree.specs.Theorems.{Whole}
 use Rattle.tree_leaf.proofs.Named.{yards-of, yards-from, once-listed}
 use Rattle.tree.proofs.Members.{gather-mem, gather-from, no-children}
 use Rattle.tree.proofs.Siblings.{starts-none, children-are}

@@ -2,7 +2,7 @@
 use mathlib.Core.Path.{_≡_, refl, sym, ap, _∙_}
 use mathlib.Core.Bool.{Bool, true, false, not, _||_}
 use mathlib.Core.List.{List, [], _∷_, _++_}
-use Prim.Native.Nat.{ℕ, zero, suc, _+_, _≤_, _<_, min, max}
+use Prim.Native.Nat.{ℕ, zero, suc, _+_, _<_, min, max}
 use native.Mathlib.Omega.{arith}
 use lib.ListN.{length, getD, take}
 use lib.Seq.{take-suc}
@@ -19,7 +19,7 @@ use Rattle.search_rules.specs.Step.{step, settled, startSearch}
 use Rattle.search_rules.specs.Run.{words, advance, run}
 use Rattle.search_rules.proofs.Choices.{choose-two}
 use Rattle.search_rules.proofs.Bounds.{combine-zero, combine-assoc}
-use Rattle.search_rules.proofs.Queue.{pick-least, pick-range}
+use Rattle.search_rules.proofs.Queue.{pick-least}
 
 -- ---- over crews
 
@@ -131,11 +131,6 @@ word-at (w ∷ ws) (suc j) d h = word-at ws j d (omega arith)
 pub pick-none : (ws : List ℕ) → pick ws 0 ≡ 0
 unfolding pick
 pick-none ws = refl
-
--- what is picked of the first j + 1 is one of them
-pub pick-below : (ws : List ℕ) (j : ℕ) → pick ws j ≤ j
-pick-below ws zero = rw pick-none (omega arith)
-pick-below ws (suc j) = omega (arith, pick-range ws (suc j) (omega arith))
 
 pub pick-more : (ws : List ℕ) (j : ℕ) → pick ws (suc j) ≡ choose (ltb (wordAt ws j) (wordAt ws (pick ws j))) j (pick ws j)
 unfolding pick

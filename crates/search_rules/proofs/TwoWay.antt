@@ -2,13 +2,13 @@
 -- those away from it. Assumes nothing.
 use mathlib.Core.Path.{_≡_, refl, sym, _∙_}
 use mathlib.Core.List.{List, [], _∷_, List·Memᴰ as Mem, List·Memᴰ·head as head, List·Memᴰ·tail as tail}
-use Prim.Native.Nat.{ℕ, _+_, _-_, _≤_, _<_, max}
+use Prim.Native.Nat.{ℕ, _-_, _≤_, _<_, max}
 use native.Mathlib.Omega.{arith}
 use lib.Dec.{leb, leb→le, nleb→lt}
 use Rattle.book.proofs.Choosing.{choose-case}
-use Rattle.tree_layout.specs.Values.{Element, Mark}
-use Rattle.search_rules.specs.Instance.{Instance, marks, leaf}
-use Rattle.search_rules.specs.Bounds.{absDiff, aggregate, greatestOf, leastFrom, leastOf, crewBound, pointBound, tableAt, lower, upper, over, markBound, twoWayBound}
+use Rattle.tree_layout.specs.Values.{Mark}
+use Rattle.search_rules.specs.Instance.{Instance, marks}
+use Rattle.search_rules.specs.Bounds.{absDiff, greatestOf, leastFrom, leastOf, crewBound, pointBound, tableAt, lower, upper, over, markBound, twoWayBound}
 use Rattle.search_rules.specs.Bounds.{lowerTo, upperFrom, awayBound, towardsBound}
 use Rattle.search_rules.specs.Facts.{Shape, Triangle, Symmetric}
 use Rattle.search_rules.proofs.Equations.{aggregate-same, greatest-same}
