@@ -84,6 +84,15 @@ unfolding chain givenN choose leafMark innerMark firstDistance lastFrom comes le
     cutTree
 one-child = refl
 
+-- the first part counts too: with yards 0 and 4 the parts from 0 and from 3 have one each
+pub first-part : map (λ (r : Region). r .first ∷ r .after ∷ r .children ∷ []) (cutTree (givenN 1 1) 5 (0 ∷ 4 ∷ []) .regions)
+    ≡ (0 ∷ 5 ∷ 2 ∷ []) ∷ (0 ∷ 1 ∷ 0 ∷ []) ∷ (3 ∷ 5 ∷ 0 ∷ []) ∷ []
+unfolding chain givenN choose leafMark innerMark firstDistance lastFrom comes leastDistanceFrom least greatestFrom greatest within outside leadsOut isBorder
+    bordersFrom borders landmark landmarksFrom landmarksOf earlier later insertElement rankInto rankedList leafRegion innerRegion cutAt cutPart partCount
+    partRegions cut
+    cutTree
+first-part = refl
+
 -- two landmarks of the range of junctions 1 to 3, whose border junctions are 1 and 3; and of all five, which has none: floor(0 × 5 / 2) and floor(1 × 5 / 2)
 pub two-landmarks : landmarksFrom 2 1 3 (borders (givenN 1 1 .roads) 1 3) 2 0 ∷ landmarksFrom 2 0 5 (borders (givenN 1 1 .roads) 0 5) 2 0 ∷ []
     ≡ (1 ∷ 3 ∷ []) ∷ (0 ∷ 2 ∷ []) ∷ []
