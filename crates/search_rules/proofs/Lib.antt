@@ -1,9 +1,3 @@
-pub mod Vectors
-pub mod Worked
-pub mod WorkedBounds
-pub mod WorkedTies
-pub mod WorkedKeys
-pub mod WorkedWays
 pub mod Choices
 pub mod Bounds
 pub mod Limits
@@ -42,7 +36,13 @@ pub mod Equations
 pub mod Steps
 pub mod Taking
 pub mod Measures
+pub mod Vectors
+pub mod Worked
+pub mod WorkedBounds
+pub mod WorkedTies
+pub mod WorkedKeys
 pub mod Example
 pub mod ExampleWays
 pub mod TwoWay
 pub mod Agreement
+pub mod WorkedWays
