@@ -14,14 +14,20 @@ static uint32_t work[FINDER_WORK_WORDS];
 static uint8_t tree[FINDER_TREE_BYTES];
 static uint32_t results[FINDER_RESULT_WORDS];
 
-static int refused(const char *call, unsigned refusal)
+static int refused(const char *call, uint32_t refusal)
 {
-    fprintf(stderr, "%s: refused by test %u\n", call, refusal);
+    fprintf(stderr, "%s: refused by test %u: %s\n", call, (unsigned)refusal, finder_refusal_text(refusal));
     return 1;
 }
 
 int main(void)
 {
+    if (finder_version() != FINDER_VERSION_NUMBER) {
+        fprintf(stderr, "finder.h is of version %d, the library of %u\n", FINDER_VERSION_NUMBER,
+                (unsigned)finder_version());
+        return 1;
+    }
+
     /* 1 landmark for each region, at most 3 yards in a leaf */
     struct finder_built built = finder_build(road, sizeof road, yard, sizeof yard, 1, 3,
                                              work, FINDER_WORK_WORDS, tree, sizeof tree);
