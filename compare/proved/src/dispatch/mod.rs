@@ -14,6 +14,7 @@ mod junctions;
 mod kinds;
 mod lines;
 mod list;
+mod marks;
 mod names;
 mod number;
 mod parse;
