@@ -64,7 +64,7 @@ impl Story<'_> {
         let heading = [
             "step",
             "key",
-            "what left the queue, what it queued (with its key), and the key with which it waits in it again",
+            "what left the queue, what it queued (with its key), and with which key it waits again",
         ];
         let mut rows = vec![heading.map(String::from).to_vec()];
         for (place, step) in self.trace.steps.iter().enumerate() {

@@ -1,9 +1,11 @@
 //! What `draw` marks, and that Graphviz renders it.
 
+use std::fs;
 use std::io::Write;
+use std::path::PathBuf;
 use std::process::{Command, Stdio};
 
-use crate::command::{example, examples, expected, printed, run, told};
+use crate::command::{example, examples, expected, folder, printed, run, told};
 
 #[test]
 fn the_drawing_tells_yards_apart() {
@@ -13,9 +15,9 @@ fn the_drawing_tells_yards_apart() {
     has("j5 [label=\"farm\\nyard: 470 s\", shape=box, style=filled, fillcolor=\"#ffe79a\"];");
     has("j1 [label=\"chapel\\nyard: 800 s\", shape=box, style=dashed];");
     has("j0 [label=\"harbour\\n1 crew\", peripheries=2, penwidth=2, color=\"#d62728\"];");
-    has("j0 -- j4 [label=\"90\", len=1.60, penwidth=3, color=\"#d62728\"];");
-    has("j2 -- j3 [label=\"120\", len=1.74, penwidth=3, color=\"#1f77b4\"];");
-    has("j0 -- j1 [label=\"400\", len=3.00];");
+    has(">90</td></tr></table>>, len=2.21, penwidth=3, color=\"#d62728\"];");
+    has(">120</td></tr></table>>, len=2.34, penwidth=3, color=\"#1f77b4\"];");
+    has(">400</td></tr></table>>, len=3.60];");
 }
 
 #[test]
@@ -30,6 +32,63 @@ fn a_drive_is_drawn() {
     assert!(!text.contains("penwidth=3"), "{text}");
 }
 
+/// Names of any length: every junction has one size, no line is too long for it, and more seconds are a longer road.
+#[test]
+fn junctions_have_one_size() {
+    let file = folder("one-size").join("long.district");
+    let long = "the-harbour-master's-office-at-the-old-pier";
+    let roads = format!("road {long} gate 200\nroad gate mill 200\nroad {long} mill 900\n");
+    fs::write(&file, format!("{roads}yard gate {long}\ncrew mill gate\n")).unwrap();
+    let text = printed(&["draw", told(&file)], 0);
+    assert_eq!(text.matches("shape=ellipse, fixedsize=true").count(), 1);
+    assert_eq!(text.matches(", height=").count(), 1);
+    let label = "label=\"the-harbour-\\nmaster's-\\noffice-at-the-\\nold-pier\\nyard: 600 s\"";
+    assert!(text.contains(label), "{text}");
+    let lengths = [("200", "len=2.20"), ("900", "len=3.60")];
+    for (seconds, length) in lengths {
+        assert!(
+            text.contains(&format!(">{seconds}</td></tr></table>>, {length}")),
+            "{text}"
+        );
+    }
+}
+
+/// The legend has what is drawn, and nothing else.
+#[test]
+fn the_legend_has_what_is_drawn() {
+    let all = [
+        ("green: listed", "fillcolor=\"#9bdc9b\""),
+        ("yellow: measured", "fillcolor=\"#ffe79a\""),
+        ("dashed: never measured", "style=dashed"),
+        ("dotted: not of a wanted kind", "style=dotted"),
+        ("double line: crews", "peripheries=2"),
+        ("coloured roads: each crew's way", "penwidth=3"),
+    ];
+    let mut seen = [0; 6];
+    for file in drawn() {
+        let text = String::from_utf8(run(&["draw", told(&file)]).stdout).unwrap();
+        for (place, (legend, mark)) in all.iter().enumerate() {
+            assert_eq!(
+                text.contains(legend),
+                text.contains(mark),
+                "{file:?} {legend}"
+            );
+            seen[place] += usize::from(text.contains(mark));
+        }
+    }
+    assert!(
+        seen.iter()
+            .all(|&count| count > 0 && count < drawn().len() + 1),
+        "{seen:?}"
+    );
+}
+
+/// The examples that are not refused.
+fn drawn() -> Vec<PathBuf> {
+    let sound = |file: &PathBuf| expected(file, "refused").is_none();
+    examples().into_iter().filter(sound).collect()
+}
+
 #[test]
 fn drawings_are_rendered() {
     if Command::new("dot").arg("-V").output().is_err() {
@@ -40,11 +99,8 @@ fn drawings_are_rendered() {
         );
         return;
     }
-    for file in examples()
-        .iter()
-        .filter(|file| expected(file, "refused").is_none())
-    {
-        let text = run(&["draw", told(file)]).stdout;
+    for file in drawn() {
+        let text = run(&["draw", told(&file)]).stdout;
         let svg = rendered(&text);
         assert!(svg.contains("</svg>"), "{file:?}");
     }
