@@ -6,7 +6,7 @@
 static const uint8_t road[] = {0, 0, 0, 29, 1, 0, 5, 0, 4, 0, 0, 0, 1, 0, 2, 0, 1, 0, 2, 0, 3,
                                0, 2, 0, 3, 0, 4, 0, 3, 0, 4, 0, 1};
 static const uint8_t yard[] = {0, 0, 0, 9, 1, 0, 3, 0, 1, 0, 3, 0, 4};
-/* The sum, the first 2 yards, at most 767 steps (which settle any search), 2 crews: at junctions 0 and 2. */
+/* The sum, the first 2 yards, at most 767 steps (enough for any search), 2 crews: at junctions 0 and 2. */
 static const uint8_t query[] = {0, 0, 0, 12, 1, FINDER_SUM, 2, 0, 0, 2, 255, 2, 0, 0, 0, 2};
 
 /* What is lent for the time of a call; it may hold anything before. */
@@ -34,7 +34,7 @@ int main(void)
     if (built.refusal != FINDER_ACCEPTED)
         return refused("build", built.refusal);
 
-    /* a tree just built passes; one that was stored is checked once, before it is searched beside these roads */
+    /* a tree just built is accepted; one that was stored is checked once, before it is searched beside these roads */
     uint32_t refusal = finder_check(road, sizeof road, yard, sizeof yard, tree, built.length, work, FINDER_WORK_WORDS);
     if (refusal != FINDER_ACCEPTED)
         return refused("check", refusal);

@@ -19,7 +19,8 @@ usage: dispatch list FILE           the yards with the least drive or within one
        dispatch draw FILE           the district for Graphviz
        dispatch books FILE FOLDER   writes road.book, yard.book, tree.book and query.book
        dispatch text ROAD [YARD]    books as text
-FILE is a district, - is standard input; docs/DISTRICT.md says how it is written. ROAD and YARD are books.
+FILE is a district, - is standard input; DISTRICT.md, in docs or share/doc/finder, says how it is written. ROAD and
+YARD are books.
 Status 0: done; 1: a write failed or the finders differ; 2: the input is not as expected; 3: the limit was spent.
 ";
 
