@@ -31,7 +31,8 @@ target/stamp/finder: FORCE
 $(LIBRARY): target/stamp/finder
 	rt staticlib finder > target/staticlib.log 2>&1 || { tail -n 20 target/staticlib.log >&2; exit 1; }
 
-# What is made, into DESTDIR (for packages) and there into PREFIX, each as it was typed: tools/install says what it takes.
+# What is made, into DESTDIR (for packages) and there into PREFIX, both as they were typed; tools/install says which it
+# takes, before anything is proved.
 install: destination library programs commands
 	@tools/install $(PROGRAMS)
 

@@ -133,7 +133,7 @@ impl Junctions {
 
     /// The number of a name; a new name gets the next number.
     fn name(&mut self, name: &str, line: &Line) -> Result<u16, BadLine> {
-        test_name("a junction", name, line)?;
+        test_name(&format!("a junction: a number, or {NAME}"), name, line)?;
         self.keep(Manner::Names, line)?;
         if let Some(&junction) = self.numbers.get(name) {
             return Ok(junction);
@@ -198,18 +198,14 @@ impl Junctions {
 }
 
 /// What a name is written as.
-const FORM: &str = "a letter and then letters, digits, - _ . ' (at most 64)";
+pub const NAME: &str = "a letter and then letters, digits, - _ . ' (at most 64)";
 
 /// A name of a junction or a kind begins with a letter, and has letters, digits and `-`, `_`, `.`, `'`.
-pub fn test_name(what: &str, word: &str, line: &Line) -> Result<(), BadLine> {
+pub fn test_name(form: &str, word: &str, line: &Line) -> Result<(), BadLine> {
     let fits = |c: char| c.is_alphanumeric() || "-_.'".contains(c);
     let begins = word.starts_with(char::is_alphabetic);
     if begins && word.chars().all(fits) && word.chars().count() <= MOST_NAME {
         return Ok(());
     }
-    let form = match what {
-        "a junction" => format!("a number, or {FORM}"),
-        _ => FORM.to_string(),
-    };
-    Err(line.bad(format!("expected {what}: {form}, not {}", shown(word))))
+    Err(line.bad(format!("expected {form}, not {}", shown(word))))
 }

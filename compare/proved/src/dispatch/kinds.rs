@@ -4,7 +4,7 @@ use std::collections::BTreeMap;
 
 use compare::kinds::ALL;
 
-use super::junctions::test_name;
+use super::junctions::{test_name, NAME};
 use super::lines::{bad, shown, some, BadLine, Line};
 
 /// The most kinds: a byte has so many bits.
@@ -33,7 +33,7 @@ impl KindLines {
     /// `kind NAME ...`.
     pub fn declare(&mut self, line: &Line) -> Result<(), BadLine> {
         for name in some(&line.words[1..], line, "kind NAME ...")? {
-            test_name("a kind", name, line)?;
+            test_name(&format!("a kind: {NAME}"), name, line)?;
             if self.names.iter().any(|before| before == name) {
                 return Err(line.bad(format!(
                     "expected each kind once: {} was named",
