@@ -177,23 +177,44 @@ impl Junctions {
         number.filter(|&number| number < self.count())
     }
 
-    /// That some junctions can't be reached: the first that a line names is told, or else the first.
+    /// That some junctions can't be reached: one that no road names is told, or else one that a line names, or the first.
     pub fn cut_off(&self, unreached: &[u16]) -> String {
-        let named = unreached
-            .iter()
-            .find(|junction| self.lines.contains_key(junction));
-        let junction = *named.unwrap_or(&unreached[0]);
+        let (junction, from) = self.apart(unreached);
         let label = |junction| shown(&self.label(junction));
         let place = match self.lines.get(&junction) {
             Some(line) => format!(" (line {line})"),
             None => ", which no line names,".to_string(),
         };
-        let (cut_off, first) = (label(junction), label(0));
-        let hint = match self.on_roads.contains(&junction) {
-            true => "",
-            false => ": no road names it; misspelt?",
+        let hint = match self.on_no_road(junction) {
+            true => ": no road names it; misspelt?",
+            false => "",
         };
-        format!("junction {cut_off}{place} can't be reached from junction {first}{hint}")
+        let (cut_off, from) = (label(junction), label(from));
+        format!("junction {cut_off}{place} can't be reached from junction {from}{hint}")
+    }
+
+    /// A junction that can't be reached, and the one that it can't be reached from: junction 0, unless no road names it.
+    fn apart(&self, unreached: &[u16]) -> (u16, u16) {
+        let on_road = unreached
+            .iter()
+            .find(|junction| self.on_roads.contains(junction));
+        if let (true, Some(&other)) = (self.on_no_road(0), on_road) {
+            return (0, other);
+        }
+        let no_road = unreached
+            .iter()
+            .find(|&&junction| self.on_no_road(junction));
+        let named = || {
+            unreached
+                .iter()
+                .find(|junction| self.lines.contains_key(junction))
+        };
+        (*no_road.or_else(named).unwrap_or(&unreached[0]), 0)
+    }
+
+    /// Whether a line names a junction, and no road does.
+    fn on_no_road(&self, junction: u16) -> bool {
+        self.lines.contains_key(&junction) && !self.on_roads.contains(&junction)
     }
 }
 

@@ -122,6 +122,18 @@ fn a_line_declares_all_names() {
 
 #[test]
 fn a_yard_or_a_crew_where_no_road_ends() {
+    let file_of = |text: &str| file("first-name", text);
+    let first = file_of(
+        "crew chapel\nyard mill chapel\nroad depot mill 5\nroad depot quarry 5\ncrew quarry\n",
+    );
+    assert_eq!(
+        refused(&["list", told(&first)], 2),
+        format!(
+            "dispatch: {}: refused 6: road book: junction `chapel` (line 1) can't be reached from junction `mill`: \
+             no road names it; misspelt?\n",
+            told(&first)
+        )
+    );
     let roads = "road depot bridge 120\nroad bridge mill 60\n";
     for (lines, name, line) in [
         ("yard mill farm\ncrew depot farm\n", "farm", 3),
