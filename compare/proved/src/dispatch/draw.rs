@@ -34,8 +34,8 @@ const WIDTH: f64 = 1.3;
 const MOST_CHARACTERS: usize = 14;
 
 /// Inches between the junctions of the shortest road at least, and what the longest has more.
-const GAP: f64 = 0.5;
-const LONGEST: f64 = 1.8;
+const GAP: f64 = 0.4;
+const LONGEST: f64 = 2.4;
 
 /// The most roads that are bent around junctions; more would take Graphviz minutes.
 const MOST_BENT: usize = 200;
@@ -141,7 +141,7 @@ impl Drawing<'_> {
         let bent = self.district.roads.len() <= MOST_BENT;
         let splines = if bent { "true" } else { "line" };
         let caption = quoted(&self.caption());
-        format!("layout=neato, overlap=false, overlap_shrink=false, splines={splines}, fontname=\"sans-serif\", fontsize=11, label={caption}")
+        format!("layout=neato, overlap=false, overlap_scaling=0, overlap_shrink=false, splines={splines}, fontname=\"sans-serif\", fontsize=11, label={caption}")
     }
 
     /// What was asked, the counts, and what the marks mean that are there.
