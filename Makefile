@@ -1,10 +1,12 @@
 # README.md says what each of these is for.
 PREFIX ?= /usr/local
+override PREFIX := $(value PREFIX)
+override DESTDIR := $(value DESTDIR)
+export PREFIX DESTDIR
 PROGRAMS := list within outline eccentricity
 LIBRARY := target/staticlib/libfinder.a
-VERSION := $(shell sed -n 's/^.define FINDER_VERSION "\([^"]*\)".*/\1/p' include/finder.h)
 
-.PHONY: demo test quick bench dispatch library programs install clean FORCE
+.PHONY: demo test quick bench dispatch commands library programs install destination clean FORCE
 .NOTPARALLEL:
 
 # The main job on a shipped example: the yards of net N, a chain of five junctions, for crews at junctions 0 and 2.
@@ -34,18 +36,21 @@ target/stamp/finder: FORCE
 $(LIBRARY): target/stamp/finder
 	rt staticlib finder > target/staticlib.log 2>&1 || { tail -n 20 target/staticlib.log >&2; exit 1; }
 
-# The header, the library, what pkg-config reads, and the programs, into DESTDIR (for packages) and there into PREFIX.
-install: library programs
-	install -d $(addprefix $(DESTDIR)$(PREFIX)/,bin include lib/pkgconfig)
-	install -m 644 include/finder.h $(DESTDIR)$(PREFIX)/include
-	install -m 644 $(LIBRARY) $(DESTDIR)$(PREFIX)/lib
-	install -m 755 $(PROGRAMS:%=target/bin/%) $(DESTDIR)$(PREFIX)/bin
-	sed -e 's|@PREFIX@|$(PREFIX)|' -e 's|@VERSION@|$(VERSION)|' include/finder.pc.in \
-	  > $(DESTDIR)$(PREFIX)/lib/pkgconfig/finder.pc
+# What is made, into DESTDIR (for packages) and there into PREFIX, both as they were typed; tools/install says which it
+# takes, before anything is proved.
+install: destination library programs commands
+	@tools/install $(PROGRAMS)
+
+destination:
+	@tools/install
 
 # A person's own district, answered by the proved calls: compare/target/release/dispatch (docs/DISTRICT.md).
 dispatch: library
 	cd compare && cargo build --release --offline --quiet --package proved
+
+# dispatch, and the plain finder's command, reference.
+commands: dispatch
+	cd compare && cargo build --release --offline --quiet --package compare
 
 clean:
 	rm -rf target compare/target

@@ -1,5 +1,6 @@
 /* The meeting-yard finder, for C. Link with libfinder.a, which `make library` writes to target/staticlib and
- * `make install` installs. docs/BOOKS.md explains the four books byte by byte; examples/plan.c is a whole program.
+ * `make install` installs, with share/doc/finder/BOOKS.md, which explains the four books byte by byte, and
+ * share/doc/finder/plan.c, a whole program.
  *
  * What is lent. A call is lent byte areas (books, and the area that a tree is built into) and word areas, each as a
  * pointer and a count: of bytes, or of 32-bit words for the work and result areas. No pointer is NULL, also where the
@@ -31,7 +32,8 @@
 extern "C" {
 #endif
 
-#define FINDER_VERSION "2.1.0" /* of this header and the library */
+#define FINDER_VERSION "2.2.0" /* of this header and the library */
+#define FINDER_VERSION_NUMBER 20200 /* the same as finder_version() answers it: 2 * 10000 + 2 * 100 + 0 */
 #define FINDER_BOOK_VERSION 1  /* the version byte of a book without kinds; road and query books have no other */
 #define FINDER_KINDS_VERSION 2 /* the version byte of a yard book or a tree book with kinds */
 #define FINDER_ALL_KINDS 255   /* every kind; as the wanted byte of a search: any yard */
@@ -51,6 +53,11 @@ extern "C" {
 #define FINDER_CREWS_MAX 16
 #define FINDER_K_MAX 64
 #define FINDER_SETTLING_LIMIT 767    /* steps that settle every search on a tree that passes the check */
+
+/* The longest books that are accepted, in bytes: an array of so many holds any. */
+#define FINDER_ROAD_BOOK_BYTES 24585 /* 9 and 6 for each of 4,096 roads */
+#define FINDER_YARD_BOOK_BYTES 775   /* 7 and 3 for each of 256 yards; 519 in version 1 */
+#define FINDER_QUERY_BOOK_BYTES 44   /* 12 and 2 for each of 16 crews */
 
 /* How long areas have to be; a query of fewer than 64 yards needs only 2 * k result words, and a drive search of a tree
  * with fewer than 256 only two for each. */
@@ -82,6 +89,32 @@ enum finder_refusal {
     FINDER_REFUSED_AREA = 12,     /* a lent area is too short */
     FINDER_REFUSED_WANTED = 13    /* the wanted byte is 0: no kind is wanted */
 };
+
+/* A refusal in words, for messages: of any number, in lower case and without an end of line. */
+static inline const char *finder_refusal_text(uint32_t refusal)
+{
+    switch (refusal) {
+    case FINDER_ACCEPTED: return "accepted";
+    case FINDER_REFUSED_LENGTH: return "a book is not as long as its first four bytes say";
+    case FINDER_REFUSED_VERSION: return "a book's version is none that is read";
+    case FINDER_REFUSED_HEADER: return "a book's header is incomplete, or a count in it is outside its limits";
+    case FINDER_REFUSED_RECORDS: return "a record is incomplete, or bytes follow the last one";
+    case FINDER_REFUSED_VALUE: return "a record's value is outside its range or order, or a byte of kinds is 0";
+    case FINDER_REFUSED_UNREACHED: return "some junction can't be reached from junction 0";
+    case FINDER_REFUSED_SHAPE: return "the tree's shape rules don't hold";
+    case FINDER_REFUSED_DISAGREE: return "junction counts or yards differ between books, or a yard is no junction";
+    case FINDER_REFUSED_DISTANCE: return "a distance, least, greatest or byte of kinds in the tree isn't true";
+    case FINDER_REFUSED_CREWS: return "crews are none, more than 16, or at no junction of the road book";
+    case FINDER_REFUSED_NUMBER: return "k, the aggregate, m or the leaf limit is outside its range";
+    case FINDER_REFUSED_AREA: return "a lent area is too short";
+    case FINDER_REFUSED_WANTED: return "the wanted byte is 0: no kind is wanted";
+    default: return "no refusal has this number";
+    }
+}
+
+/* The library's version as a number. Where it isn't FINDER_VERSION_NUMBER, header and library don't fit: make no other
+ * call. */
+uint32_t finder_version(void);
 
 /* What a query's aggregate makes of the drives from the crews. */
 enum finder_aggregate { FINDER_SUM = 0, FINDER_MAXIMUM = 1 };

@@ -1,6 +1,6 @@
-/* A small planner: builds a tree for net N, checks it, then damaged ones, searches it, for two yards and within drives,
- * also for yards of the same sum, does the same with a yard book of two kinds, and prints. In what it prints every
- * returned field has a number of its own somewhere, so that no two can be exchanged unseen. */
+/* A small planner: asks for the version, builds a tree for net N, checks it, then damaged ones, searches it, for two
+ * yards and within drives, also for yards of the same sum, does the same with a yard book of two kinds, and prints. In
+ * what it prints every returned field has a number of its own somewhere, so that no two can be exchanged unseen. */
 #include <stdio.h>
 
 #include "finder.h"
@@ -292,6 +292,7 @@ int main(void)
 {
     size_t length;
 
+    printf("header %d, library %u\n", FINDER_VERSION_NUMBER, (unsigned)finder_version());
     build("build with five landmarks", 5, 3, FINDER_TREE_BYTES);
     build("build with no yard in a leaf", 1, 0, FINDER_TREE_BYTES);
     build("build into a short area", 1, 3, FINDER_TREE_BYTES - 1);

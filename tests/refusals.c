@@ -28,6 +28,15 @@ static void expect(const char *what, uint32_t refusal, enum finder_refusal wante
     printf("%s: refusal %u, and %u is expected\n", what, (unsigned)refusal, (unsigned)wanted);
 }
 
+/* A longest book has as many bytes as the header says. */
+static void expect_bytes(const char *what, const struct book *book, size_t bytes)
+{
+    if (book->length == bytes)
+        return;
+    failures++;
+    printf("%s: %zu bytes, and %zu are expected\n", what, book->length, bytes);
+}
+
 static uint32_t check_with(size_t words)
 {
     return finder_check(road.bytes, road.length, yard.bytes, yard.length, tree.bytes, tree.length, work, words);
@@ -390,6 +399,7 @@ static void try_limits_of_roads_and_yards(void)
     write_yards(&yard, FINDER_BOOK_VERSION, 1);
     write_pairs(FINDER_ROADS_MAX);
     expect("roads", build(1, 1), FINDER_ACCEPTED);
+    expect_bytes("roads", &road, FINDER_ROAD_BOOK_BYTES);
     write_pairs(FINDER_ROADS_MAX + 1);
     expect("roads and one more", build(1, 1), FINDER_REFUSED_HEADER);
     write_chain(&road, FINDER_JUNCTIONS_MAX + 1, 1);
@@ -404,6 +414,7 @@ static void try_limits_of_roads_and_yards(void)
     write_yards(&yard, FINDER_KINDS_VERSION, FINDER_YARDS_MAX);
     take_built(FINDER_LANDMARKS_MAX, FINDER_LEAF_LIMIT_MAX);
     expect("check of a full leaf with kinds", check(), FINDER_ACCEPTED);
+    expect_bytes("yards", &yard, FINDER_YARD_BOOK_BYTES);
     write_yards(&yard, FINDER_BOOK_VERSION, FINDER_YARDS_MAX);
     expect("landmarks and one more", build(FINDER_LANDMARKS_MAX + 1, 1), FINDER_REFUSED_NUMBER);
     expect("leaf limit and one more", build(1, FINDER_LEAF_LIMIT_MAX + 1), FINDER_REFUSED_NUMBER);
@@ -439,6 +450,7 @@ static void try_limits_of_queries(void)
     expect("result words, one less", search_with(FINDER_RESULT_WORDS - 1).refusal, FINDER_REFUSED_AREA);
     found = search_with(FINDER_RESULT_WORDS);
     expect("k and crews", found.refusal, FINDER_ACCEPTED);
+    expect_bytes("crews", &query, FINDER_QUERY_BOOK_BYTES);
     if (!found.settled || found.listed != FINDER_K_MAX) {
         failures++;
         printf("the settling limit: settled %u, listed %u\n", (unsigned)found.settled, (unsigned)found.listed);
@@ -463,6 +475,33 @@ static void try_limits_of_trees(void)
     expect("regions", check(), FINDER_REFUSED_RECORDS);
     put32(&tree, 7, (FINDER_REGIONS_MAX + 1) * 65536 + 3);
     expect("regions and one more", check(), FINDER_REFUSED_HEADER);
+}
+
+/* Where net N's tree of two leaves has the root's children, its least and greatest; it has 65 bytes. */
+#define CHILDREN 16
+#define LEAST 21
+#define GREATEST 25
+
+/* An inner region's least and greatest may be any numbers of 32 bits in order; only a check tells untrue ones. A region
+ * of 1 child or more than 4 has an inner region's size in test 4, and falls to 5. */
+static void try_inner_regions(void)
+{
+    unsigned children;
+
+    write_net_n();
+    take_built(1, 2);
+    put32(&tree, GREATEST, UINT32_MAX);
+    expect("a greatest of any size", check(), FINDER_REFUSED_DISTANCE);
+    expect("a greatest of any size, searched", search(), FINDER_ACCEPTED);
+    put32(&tree, LEAST, UINT32_MAX);
+    expect("a least of any size", check(), FINDER_REFUSED_DISTANCE);
+    expect("a least of any size, searched", search(), FINDER_ACCEPTED);
+    put32(&tree, GREATEST, UINT32_MAX - 1);
+    expect("a least above the greatest", search(), FINDER_REFUSED_VALUE);
+    for (children = 1; children < 256; children += children == 1 ? 4 : 1)
+        change("a count of children that no region has", &tree, CHILDREN, (uint8_t)children, check,
+               FINDER_REFUSED_VALUE);
+    change("an inner region taken for a leaf", &tree, CHILDREN, 0, check, FINDER_REFUSED_RECORDS);
 }
 
 /* On a chain, with a tree of a version that is as deep as one may be, and one that is deeper. */
@@ -490,6 +529,7 @@ int main(void)
     try_limits_of_roads_and_yards();
     try_limits_of_queries();
     try_limits_of_trees();
+    try_inner_regions();
     try_limits_of_depth(FINDER_BOOK_VERSION);
     try_limits_of_depth(FINDER_KINDS_VERSION);
     printf("refusals and limits: %u calls, %u not as expected\n", calls, failures);

@@ -149,7 +149,7 @@ fn cases_of_outline() {
 fn the_listing_of_n() {
     let books = [n_road(), tree(&n_road()), query::write(0, 2, 4, &[0, 2])].concat();
     let expected = "yard seconds\n1 5\n3 13\nmeasured 2 taken 4\n";
-    for name in ["crates/list/stdin", "examples/net-n.list"] {
+    for name in ["crates/list/stdin", "examples/net-n.books"] {
         assert_eq!(fs::read(path(name)).unwrap(), books);
         assert_eq!(list(&input(&path(name))), expected);
     }

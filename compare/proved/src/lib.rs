@@ -25,6 +25,8 @@ struct FinderFound {
 }
 
 extern "C" {
+    fn finder_version() -> u32;
+
     fn finder_check(
         road: *const u8,
         road_len: usize,
@@ -89,6 +91,12 @@ impl From<FinderFound> for Found {
             measured: found.measured,
         }
     }
+}
+
+/// The library's version as a number.
+pub fn version() -> u32 {
+    // SAFETY: it takes nothing, and reads nothing.
+    unsafe { finder_version() }
 }
 
 /// The refusal number, 0 if accepted.

@@ -12,6 +12,7 @@ ghost use Rattle.check_tree.specs.Check.{checkAnswer};
 ghost use Rattle.build_tree.specs.Build.{buildAnswer, builtLength, treeAfter};
 ghost use Rattle.search_call.specs.Call.{wantNearest, wantWithin, searchRefusal, searchFound, resultsAfter};
 ghost use Rattle.search_tree.specs.Found.{foundOf};
+ghost use Rattle.finder.specs.Version.{versionNumber};
 
 // Checks a tree book beside a road book and a yard book: 0, or the number of the first test that fails. An accepted
 // call zeroes the first 16,384 work words.
@@ -111,4 +112,12 @@ pub extern "C" fn finder_within(
         goal,
     };
     search_tree::search(road, tree, query, within, work, results)
+}
+
+// The version of these calls as a number, which the header has too.
+#[no_mangle]
+pub extern "C" fn finder_version() -> u32
+    ensures { λ r. ⌜ r ≡ versionNumber ⌝ }
+{
+    20200
 }

@@ -2,7 +2,7 @@
 
 use std::collections::BTreeMap;
 
-use compare::{query, Asked};
+use compare::{kinds, query, Asked};
 
 use super::books::Books;
 use super::calls::{self, Searched};
@@ -14,6 +14,7 @@ use super::refusal;
 pub struct Answer {
     pub books: Books,
     pub asked: Asked,
+    pub wanted: u8,
     pub searched: Searched,
 }
 
@@ -22,10 +23,12 @@ impl Answer {
     pub fn new(district: &District) -> Result<Self, Fault> {
         let books = Books::new(district)?;
         let asked = district.settings.wanted.asked();
-        let searched = calls::search(asked, books.searched()).map_err(refused)?;
+        let wanted = district.kinds.wanted();
+        let searched = calls::search(asked, wanted, books.searched()).map_err(refused)?;
         Ok(Answer {
             books,
             asked,
+            wanted,
             searched,
         })
     }
@@ -67,7 +70,8 @@ fn seconds(district: &District, books: &Books) -> Result<Seconds, Fault> {
     for &crew in &district.crews {
         let query = query::write(0, 1, SETTLING_LIMIT, &[crew]);
         let alone = [&books.road[..], &books.tree, &query];
-        let searched = calls::search(Asked::Within(u32::MAX), alone).map_err(refused)?;
+        let searched =
+            calls::search(Asked::Within(u32::MAX), kinds::ALL, alone).map_err(refused)?;
         for (yard, seconds) in searched.list {
             all.entry(yard).or_default().push(seconds);
         }

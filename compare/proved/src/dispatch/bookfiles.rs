@@ -15,6 +15,11 @@ const NAMES: [&str; 4] = ["road.book", "yard.book", "tree.book", "query.book"];
 
 /// The books that a district gives: without a yard there is no yard and no tree book, without a crew no query book.
 pub fn books(district: &District, folder: &Path) -> Result<Output, Fault> {
+    if folder.as_os_str().is_empty() {
+        return Err(Fault::bad_input(
+            "expected a FOLDER, not an empty argument; . is the current one",
+        ));
+    }
     let road = road_book(district)?;
     let (yard, tree) = yard_and_tree(district, &road)?.unzip();
     let made = [Some(road), yard, tree, query_book(district)];
@@ -55,7 +60,13 @@ fn told(district: &District, name: &str, book: &[u8]) -> String {
             let junctions = counted(usize::from(district.junctions.count()), "junction");
             format!("{junctions}, {}", counted(district.roads.len(), "road"))
         }
-        "yard.book" => counted(district.yards.len(), "yard"),
+        "yard.book" => {
+            let yards = counted(district.yards.len(), "yard");
+            match district.kinds.are_told() {
+                true => format!("{yards}, kinds {}", district.kinds.numbered()),
+                false => yards,
+            }
+        }
         "tree.book" => {
             let regions = counted(usize::from(u16_at(book, 7)), "region");
             format!(
@@ -68,13 +79,20 @@ fn told(district: &District, name: &str, book: &[u8]) -> String {
     }
 }
 
-/// What the query book holds; a drive's seconds are not in it.
+/// What the query book holds; a drive's seconds and the wanted kinds are not in it.
 fn told_query(district: &District) -> String {
     let limit = counted(district.settings.limit as usize, "step");
+    let wanted = match district.kinds.wanted_names() {
+        Some(_) => format!(
+            "; without the wanted kinds, {}, which the calls take",
+            district.kinds.wanted()
+        ),
+        None => String::new(),
+    };
     match district.settings.wanted {
-        Wanted::First(_) => format!("{}, at most {limit}", district.asked()),
+        Wanted::First(_) => format!("{}, at most {limit}{wanted}", district.asked()),
         Wanted::Within(seconds) => format!(
-            "{}, at most {limit}; without the {}, which finder_within takes",
+            "{}, at most {limit}; without the {}, which finder_within takes{wanted}",
             district.over(),
             told_seconds(seconds)
         ),

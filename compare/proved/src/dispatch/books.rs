@@ -1,7 +1,9 @@
 //! The books of a district, by the proved build and check.
 
+use compare::kinds::VERSION;
 use compare::query::{self, Aggregate};
-use compare::{road, yard};
+use compare::road;
+use compare::yard::{self, Yard};
 
 use super::calls;
 use super::district::District;
@@ -60,7 +62,7 @@ pub fn yard_and_tree(district: &District, road: &[u8]) -> Result<Option<YardAndT
     if district.yards.is_empty() {
         return Ok(None);
     }
-    let yard = yard::write(&district.yards);
+    let yard = yard_book(district);
     let settings = &district.settings;
     match calls::build(road, &yard, settings.landmarks, settings.leaf) {
         Ok(tree) => Ok(Some((yard, tree))),
@@ -69,6 +71,18 @@ pub fn yard_and_tree(district: &District, road: &[u8]) -> Result<Option<YardAndT
             "yard or tree book",
         ))),
     }
+}
+
+/// The yard book: of version 2 where lines name kinds.
+fn yard_book(district: &District) -> Vec<u8> {
+    let kinds = &district.kinds;
+    let yard = |&junction: &u16| Yard {
+        junction,
+        kinds: kinds.of(junction),
+    };
+    let yards: Vec<Yard> = district.yards.iter().map(yard).collect();
+    let version = if kinds.are_told() { VERSION } else { 1 };
+    yard::write_version(version, &yards)
 }
 
 /// The query book, if the district has a crew.

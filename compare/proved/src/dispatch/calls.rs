@@ -2,7 +2,7 @@
 
 use compare::build::KINDS_AREA_BYTES;
 use compare::refusal::WORK_WORDS;
-use compare::{kinds, yard, Asked, Found};
+use compare::{yard, Asked, Found};
 
 /// The words of a result area for any list, `FINDER_WITHIN_WORDS` of the header.
 pub const RESULT_WORDS: usize = 512;
@@ -33,11 +33,11 @@ pub fn build(road: &[u8], yard: &[u8], landmarks: u32, leaf: u32) -> Result<Vec<
     Ok(tree)
 }
 
-/// The proved search of a road, a tree and a query book, for yards of any kind.
-pub fn search(asked: Asked, books: [&[u8]; 3]) -> Result<Searched, u32> {
+/// The proved search of a road, a tree and a query book, for yards of the wanted kinds.
+pub fn search(asked: Asked, wanted: u8, books: [&[u8]; 3]) -> Result<Searched, u32> {
     let mut work = vec![0; WORK_WORDS];
     let mut results = vec![0; RESULT_WORDS];
-    let found = crate::ask(asked, kinds::ALL, books, &mut work, &mut results);
+    let found = crate::ask(asked, wanted, books, &mut work, &mut results);
     accepted(found.refusal)?;
     let listed = results.chunks_exact(2).take(found.listed as usize);
     let list = listed.map(|words| (words[0] as u16, words[1])).collect();

@@ -7,7 +7,7 @@ use std::path::Path;
 
 use super::district::District;
 use super::fault::Fault;
-use super::lines::BadLine;
+use super::lines::{shown, BadLine};
 use super::output::Output;
 use super::parse::parse;
 use super::{bookfiles, draw, list, text, why};
@@ -19,9 +19,15 @@ usage: dispatch list FILE           the yards with the least drive or within one
        dispatch draw FILE           the district for Graphviz
        dispatch books FILE FOLDER   writes road.book, yard.book, tree.book and query.book
        dispatch text ROAD [YARD]    books as text
-FILE is a district, - is standard input; docs/DISTRICT.md says how it is written. ROAD and YARD are books.
+FILE is a district, - is standard input; DISTRICT.md, in docs or share/doc/finder, says how it is written. ROAD and
+YARD are books.
 Status 0: done; 1: a write failed or the finders differ; 2: the input is not as expected; 3: the limit was spent.
 ";
+
+/// The commands.
+const COMMANDS: [&str; 8] = [
+    "list", "why", "draw", "books", "text", "help", "--help", "-h",
+];
 
 /// No district and no book is longer.
 const MOST_BYTES: u64 = 4 * 1_024 * 1_024;
@@ -46,7 +52,14 @@ pub fn answer(arguments: &[OsString]) -> Result<Output, Fault> {
             text::text(&road_book, Some(&yard_book)).map_err(|fault| of(yard, fault))
         }
         (Some("help" | "--help" | "-h"), []) => Ok(Output::text(USAGE.to_string())),
-        _ => Err(usage("expected a command with its arguments")),
+        (Some(known), _) if COMMANDS.contains(&known) => Err(usage(&format!(
+            "{} does not go with these arguments",
+            shown(known)
+        ))),
+        _ => Err(usage(&format!(
+            "{} is no command",
+            shown(&command.to_string_lossy())
+        ))),
     }
 }
 
@@ -55,9 +68,15 @@ fn about(
     file: &OsString,
     make: impl FnOnce(&District) -> Result<Output, Fault>,
 ) -> Result<Output, Fault> {
-    let line = |bad: BadLine| format!("{}:{}: {}", file.display(), bad.line, bad.message);
-    let district = parse(&bytes(file)?).map_err(|bad| Fault::bad_input(line(bad)))?;
-    make(&district).map_err(|fault| of(file, fault))
+    let line = |number: usize, message: &str| format!("{}:{number}: {message}", file.display());
+    let district =
+        parse(&bytes(file)?).map_err(|bad| Fault::bad_input(line(bad.line, &bad.message)))?;
+    let warned = |bad: &BadLine| line(bad.line, &format!("warning: {}", bad.message));
+    let warnings: Vec<String> = district.warnings.iter().map(warned).collect();
+    match make(&district) {
+        Ok(output) => Ok(Output { warnings, ..output }),
+        Err(fault) => Err(of(file, Fault { warnings, ..fault })),
+    }
 }
 
 /// The same fault, of this file.

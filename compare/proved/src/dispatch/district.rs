@@ -2,21 +2,26 @@
 
 use compare::query::Aggregate;
 use compare::road::Road;
-use compare::Asked;
+use compare::{kinds, Asked};
 
 use super::junctions::Junctions;
+use super::kinds::Kinds;
+use super::lines::BadLine;
 
 /// The settling limit, `FINDER_SETTLING_LIMIT` of the header: no tree needs more steps.
 pub const SETTLING_LIMIT: u32 = 767;
 
-/// Roads by their ends and yards rise strictly, as in their books; crews are as they were written.
+/// Roads by their ends and yards rise strictly, as in their books; crews are as they were written. Warnings are about
+/// names that may be misspelt.
 #[derive(Clone, Debug)]
 pub struct District {
     pub junctions: Junctions,
     pub roads: Vec<Road>,
     pub yards: Vec<u16>,
     pub crews: Vec<u16>,
+    pub kinds: Kinds,
     pub settings: Settings,
+    pub warnings: Vec<BadLine>,
 }
 
 /// What a file may say once.
@@ -93,9 +98,22 @@ impl District {
         format!("{aggregate} over {}", counted(self.crews.len(), "crew"))
     }
 
+    /// Whether a yard is of a wanted kind.
+    pub fn is_wanted(&self, yard: u16) -> bool {
+        kinds::share(self.kinds.of(yard), self.kinds.wanted())
+    }
+
+    /// The yards of a wanted kind, counted.
+    pub fn wanted_yards(&self) -> String {
+        let wanted = self.yards.iter().filter(|&&yard| self.is_wanted(yard));
+        counted(wanted.count(), "yard")
+    }
+
     /// All that is asked in words.
     pub fn asked(&self) -> String {
-        let (over, yards) = (self.over(), counted(self.yards.len(), "yard"));
+        let with = self.kinds.wanted_names();
+        let with = with.map_or(String::new(), |names| format!(" with {names}"));
+        let (over, yards) = (self.over(), self.wanted_yards() + &with);
         match self.settings.wanted {
             Wanted::First(count) => format!("{over}, first {count} of {yards}"),
             within => format!("{over}, {}, of {yards}", within.told()),

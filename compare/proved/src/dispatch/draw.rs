@@ -1,6 +1,6 @@
 //! What `dispatch draw` prints: the district for Graphviz.
 
-use std::collections::BTreeMap;
+use std::collections::{BTreeMap, BTreeSet};
 use std::fmt::Write;
 
 use compare::road::{self, Road, RoadBook};
@@ -9,6 +9,7 @@ use super::answer::{aggregate, Answer, Seconds};
 use super::district::{counted, District};
 use super::fault::{Fault, SPENT};
 use super::list::counts;
+use super::marks::{legend, Mark};
 use super::output::Output;
 use super::refusal::by_rule;
 use super::trace::Trace;
@@ -20,16 +21,21 @@ const COLOURS: [&str; 16] = [
     "#800000", "#000080", "#006400", "#4b0082", "#b8860b", "#c71585", "#2f4f4f", "#ff4500",
 ];
 
-/// How junctions and roads are drawn that have no mark.
+/// How junctions and roads are drawn that have no mark; every junction has one size, so that roads can be compared.
 const UNMARKED: &str =
-    "  node [shape=circle, fontname=\"sans-serif\", fontsize=11, color=\"#777777\", margin=0.05];
-  edge [fontname=\"sans-serif\", fontsize=10, color=\"#999999\"];
-";
+    "node [shape=ellipse, fixedsize=true, fontname=\"sans-serif\", fontsize=11, color=\"#777777\"";
+const ROADS: &str = "edge [fontname=\"sans-serif\", fontsize=10, color=\"#999999\"];";
 
-/// The marks of yards.
-const LISTED: &str = ", shape=box, style=filled, fillcolor=\"#9bdc9b\"";
-const MEASURED: &str = ", shape=box, style=filled, fillcolor=\"#ffe79a\"";
-const NEVER_MEASURED: &str = ", shape=box, style=dashed";
+/// A road's seconds, on white, so that no line runs through them.
+const SECONDS: &str = "<<table border=\"0\" cellpadding=\"1\" cellspacing=\"0\" bgcolor=\"white\"><tr><td>SECONDS</td></tr></table>>";
+
+/// A junction's width in inches, and the most characters of a line that stands inside it.
+const WIDTH: f64 = 1.3;
+const MOST_CHARACTERS: usize = 14;
+
+/// Inches between the junctions of the shortest road at least, and what the longest has more.
+const GAP: f64 = 0.4;
+const LONGEST: f64 = 2.4;
 
 /// The most roads that are bent around junctions; more would take Graphviz minutes.
 const MOST_BENT: usize = 200;
@@ -101,9 +107,21 @@ impl Drawing<'_> {
     fn graph(&self) -> String {
         let mut text = String::from("graph district {\n");
         let _ = writeln!(text, "  graph [{}];", self.style());
-        text.push_str(UNMARKED);
-        for junction in 0..self.district.junctions.count() {
-            let _ = writeln!(text, "  j{junction} [{}];", self.junction(junction));
+        let junctions = 0..self.district.junctions.count();
+        let labels: Vec<Vec<String>> = junctions.clone().map(|j| self.lines(j)).collect();
+        let lines = labels.iter().map(Vec::len).max().unwrap_or(1);
+        let height = 0.25 + 0.22 * lines as f64;
+        let _ = writeln!(
+            text,
+            "  {UNMARKED}, width={WIDTH}, height={height:.2}];\n  {ROADS}"
+        );
+        for (junction, lines) in junctions.zip(&labels) {
+            let label = quoted(&lines.join("\n"));
+            let _ = writeln!(
+                text,
+                "  j{junction} [label={label}{}];",
+                self.marks(junction)
+            );
         }
         for road in &self.district.roads {
             let _ = writeln!(
@@ -123,10 +141,10 @@ impl Drawing<'_> {
         let bent = self.district.roads.len() <= MOST_BENT;
         let splines = if bent { "true" } else { "line" };
         let caption = quoted(&self.caption());
-        format!("layout=neato, overlap=false, splines={splines}, fontname=\"sans-serif\", fontsize=11, label={caption}")
+        format!("layout=neato, overlap=false, overlap_scaling=0, overlap_shrink=false, splines={splines}, fontname=\"sans-serif\", fontsize=11, label={caption}")
     }
 
-    /// What was asked, the counts, and what the marks mean.
+    /// What was asked, the counts, and what the marks mean that are there.
     fn caption(&self) -> String {
         let counts = counts(self.district, &self.answer);
         let spent = if self.trace.outcome.settled {
@@ -134,50 +152,65 @@ impl Drawing<'_> {
         } else {
             "spent: no list, "
         };
-        let marks =
-            "green: listed, with its place; yellow: measured, not listed; dashed: never measured
-double circle or frame: crews; coloured roads: each crew's way to the first yard";
-        format!("{}\n{spent}{counts}\n{marks}", self.district.asked())
+        let mut lines = vec![self.district.asked(), format!("{spent}{counts}")];
+        lines.extend(legend(&self.marked()));
+        lines.join("\n")
     }
 
-    /// A junction's attributes: its label, and the marks of a yard and of crews.
-    fn junction(&self, junction: u16) -> String {
-        let mut lines = vec![self.district.junctions.label(junction)];
+    /// Every mark that the drawing has.
+    fn marked(&self) -> BTreeSet<Mark> {
+        let yards = self.district.yards.iter().map(|&yard| self.mark(yard));
+        let way = (!self.ways.is_empty()).then_some(Mark::Way);
+        yards.chain([Mark::Crew]).chain(way).collect()
+    }
+
+    /// A junction's label: its name, a yard's place and seconds, how many crews there are; no line is too long for it.
+    fn lines(&self, junction: u16) -> Vec<String> {
+        let mut lines = folded(&self.district.junctions.label(junction));
+        if let Some(seconds) = self.seconds.get(&junction) {
+            let place = self.answer.searched.place(junction);
+            let place = place.map_or(String::new(), |place| format!("{place}. "));
+            let total = aggregate(self.district, seconds);
+            lines.push(format!("{place}yard: {total} s"));
+            if lines[lines.len() - 1].len() > MOST_CHARACTERS {
+                lines.pop();
+                lines.extend([format!("{place}yard:"), format!("{total} s")]);
+            }
+        }
+        match self.crews(junction).len() {
+            0 => (),
+            count => lines.push(counted(count, "crew")),
+        }
+        lines
+    }
+
+    /// The crews at a junction, by place.
+    fn crews(&self, junction: u16) -> Vec<usize> {
+        let crews = self.district.crews.iter().enumerate();
+        let here = crews.filter(|(_, &crew)| crew == junction);
+        here.map(|(place, _)| place).collect()
+    }
+
+    /// The marks of a yard and of crews at a junction.
+    fn marks(&self, junction: u16) -> String {
         let mut marks = String::new();
         if self.district.yards.contains(&junction) {
-            let (told, style) = self.yard(junction);
-            lines.push(told);
-            marks.push_str(style);
+            marks.push_str(self.mark(junction).style());
         }
-        let here = |(_, &crew): &(usize, &u16)| crew == junction;
-        let crews: Vec<usize> = self
-            .district
-            .crews
-            .iter()
-            .enumerate()
-            .filter(here)
-            .map(|(place, _)| place)
-            .collect();
-        if let Some(&first) = crews.first() {
-            lines.push(counted(crews.len(), "crew"));
-            let _ = write!(
-                marks,
-                ", peripheries=2, penwidth=2, color=\"{}\"",
-                COLOURS[first % COLOURS.len()]
-            );
+        if let Some(&first) = self.crews(junction).first() {
+            let colour = COLOURS[first % COLOURS.len()];
+            let _ = write!(marks, ", peripheries=2, penwidth=2, color=\"{colour}\"");
         }
-        format!("label={}{marks}", quoted(&lines.join("\n")))
+        marks
     }
 
-    /// What a yard's label says, and how it is marked.
-    fn yard(&self, yard: u16) -> (String, &'static str) {
-        let seconds = aggregate(self.district, &self.seconds[&yard]);
-        let told = format!("yard: {seconds} s");
-        let place = self.answer.searched.place(yard);
-        match (place, self.trace.measured_in(yard)) {
-            (Some(place), _) => (format!("{place}. {told}"), LISTED),
-            (None, Some(_)) => (told, MEASURED),
-            (None, None) => (told, NEVER_MEASURED),
+    /// How a yard is marked.
+    fn mark(&self, yard: u16) -> Mark {
+        match self.answer.searched.place(yard) {
+            Some(_) => Mark::Listed,
+            None if !self.district.is_wanted(yard) => Mark::NotWanted,
+            None if self.trace.measured_in(yard).is_some() => Mark::Measured,
+            None => Mark::NeverMeasured,
         }
     }
 
@@ -190,8 +223,9 @@ double circle or frame: crews; coloured roads: each crew's way to the first yard
             .map(|road| road.seconds)
             .max()
             .unwrap_or(1);
-        let length = 1.2 + 1.8 * f64::from(road.seconds) / f64::from(longest);
-        let mut text = format!("label=\"{}\", len={length:.2}", road.seconds);
+        let length = WIDTH + GAP + LONGEST * f64::from(road.seconds) / f64::from(longest);
+        let label = SECONDS.replace("SECONDS", &road.seconds.to_string());
+        let mut text = format!("label={label}, len={length:.2}");
         if let Some(crews) = self.ways.get(&(road.low, road.high)) {
             let colours: Vec<&str> = crews
                 .iter()
@@ -201,6 +235,22 @@ double circle or frame: crews; coloured roads: each crew's way to the first yard
         }
         text
     }
+}
+
+/// A name in lines that stand inside a junction, broken after the marks between its parts.
+fn folded(name: &str) -> Vec<String> {
+    let mut lines = vec![String::new()];
+    for part in name.split_inclusive(['-', '_', '.', '\'']) {
+        for piece in part.chars().collect::<Vec<char>>().chunks(MOST_CHARACTERS) {
+            let last = lines.len() - 1;
+            if lines[last].chars().count() + piece.len() > MOST_CHARACTERS {
+                lines.push(String::new());
+            }
+            let last = lines.len() - 1;
+            lines[last].extend(piece);
+        }
+    }
+    lines
 }
 
 /// A string as Graphviz reads it.

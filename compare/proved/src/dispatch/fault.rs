@@ -1,8 +1,9 @@
 //! Why a command gives no answer.
 
-/// A message and the status that the program ends with.
+/// Warnings, a message and the status that the program ends with.
 #[derive(Clone, Debug, PartialEq, Eq)]
 pub struct Fault {
+    pub warnings: Vec<String>,
     pub status: u8,
     pub message: String,
 }
@@ -18,6 +19,7 @@ impl Fault {
     /// A write that failed, or finders that differ.
     pub fn failed(message: impl Into<String>) -> Self {
         Fault {
+            warnings: Vec::new(),
             status: FAILED,
             message: message.into(),
         }
@@ -26,6 +28,7 @@ impl Fault {
     /// Something that was handed in is not as it has to be.
     pub fn bad_input(message: impl Into<String>) -> Self {
         Fault {
+            warnings: Vec::new(),
             status: BAD_INPUT,
             message: message.into(),
         }

@@ -67,3 +67,15 @@ pub fn shown(word: &str) -> String {
         None => format!("`{word}`"),
     }
 }
+
+/// At least one word.
+pub fn some<'a, 'b>(
+    words: &'b [&'a str],
+    line: &Line,
+    form: &str,
+) -> Result<&'b [&'a str], BadLine> {
+    match words.is_empty() {
+        true => Err(line.bad(format!("expected `{form}`"))),
+        false => Ok(words),
+    }
+}

@@ -3,29 +3,45 @@
 use super::answer::Answer;
 use super::district::{counted, District};
 use super::fault::{Fault, SPENT};
+use super::lines::BadLine;
 use super::output::Output;
 use super::table::{table, Side};
 
 /// The list with each crew's seconds, or that the limit was spent.
 pub fn list(district: &District) -> Result<Output, Fault> {
     let answer = Answer::new(district)?;
-    let asked = district.asked();
+    let start = format!("{}{}\n", warned(district), district.asked());
     let counts = counts(district, &answer);
     if answer.searched.found.settled == 0 {
-        let text = format!("{asked}\nspent: no list, {counts}\n");
+        let text = format!("{start}spent: no list, {counts}\n");
         return Ok(Output::text(text).with_status(SPENT));
     }
     let rows = match answer.searched.list.is_empty() {
-        true => format!("no yard is {}\n", district.settings.wanted.told()),
+        true => none(district),
         false => rows(district, &answer)?,
     };
-    Ok(Output::text(format!("{asked}\n{rows}{counts}\n")))
+    Ok(Output::text(format!("{start}{rows}{counts}\n")))
+}
+
+/// The warnings, each with its line: who keeps the list keeps them too.
+fn warned(district: &District) -> String {
+    let told = |bad: &BadLine| format!("warning: line {}: {}\n", bad.line, bad.message);
+    district.warnings.iter().map(told).collect()
+}
+
+/// Why no yard is listed.
+fn none(district: &District) -> String {
+    let wanted = district.yards.iter().any(|&yard| district.is_wanted(yard));
+    match district.kinds.wanted_names() {
+        Some(names) if !wanted => format!("no yard has {names}\n"),
+        _ => format!("no yard is {}\n", district.settings.wanted.told()),
+    }
 }
 
 /// How many yards were measured in how many steps.
 pub fn counts(district: &District, answer: &Answer) -> String {
     let found = &answer.searched.found;
-    let yards = counted(district.yards.len(), "yard");
+    let yards = district.wanted_yards();
     let steps = counted(found.taken as usize, "step");
     format!("measured {} of {yards} in {steps}", found.measured)
 }

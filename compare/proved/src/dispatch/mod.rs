@@ -11,14 +11,18 @@ mod calls;
 mod district;
 mod draw;
 mod junctions;
+mod kinds;
 mod lines;
 mod list;
+mod marks;
+mod names;
 mod number;
 mod parse;
 mod refusal;
 mod table;
 mod text;
 mod trace;
+mod warnings;
 mod ways;
 mod why;
 

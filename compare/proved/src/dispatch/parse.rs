@@ -8,8 +8,10 @@ use compare::yard::MOST_YARDS;
 
 use super::district::{counted, District, Settings, Wanted};
 use super::junctions::Junctions;
-use super::lines::{bad, lines, shown, BadLine, Line};
-use super::number::Kind;
+use super::kinds::KindLines;
+use super::lines::{bad, lines, shown, some, BadLine, Line};
+use super::number::{is_number, Kind};
+use super::warnings::warnings;
 
 /// The most crews of a query.
 const MOST_CREWS: usize = 16;
@@ -56,7 +58,7 @@ pub fn parse(bytes: &[u8]) -> Result<District, BadLine> {
             "expected a road, a yard or a crew: the file ends without any",
         ));
     }
-    Ok(reading.done())
+    reading.done()
 }
 
 /// What was read so far; roads by their ends and yards with their lines, what may be said once with its line.
@@ -66,6 +68,7 @@ struct Reading {
     roads: BTreeMap<(u16, u16), (u16, usize)>,
     yards: BTreeMap<u16, usize>,
     crews: Vec<u16>,
+    kinds: KindLines,
     settings: Settings,
     said: BTreeMap<String, usize>,
 }
@@ -76,15 +79,18 @@ impl Reading {
         let word = line.words[0];
         match word {
             "road" => self.road(line),
-            "yard" => self.each_junction(line, "yard JUNCTION ...", Self::yard),
-            "crew" => self.each_junction(line, "crew JUNCTION ...", Self::crew),
+            "yard" => self.yards(line),
+            "crew" => self.crews(line),
+            "kind" => self.kinds.declare(line),
+            "want" => self.want(line),
             "sum" => self.aggregate(line, Aggregate::Sum),
             "maximum" => self.aggregate(line, Aggregate::Maximum),
-            "junctions" => self.least_junctions(line),
+            "junctions" => self.all_junctions(line),
             "first" | "within" => self.wanted(line),
             "limit" | "landmarks" | "leaf" => self.setting(line),
             _ => Err(line.bad(format!(
-                "expected road, yard, crew, sum, maximum, first, within, limit, junctions, landmarks or leaf, not {}",
+                "expected road, yard, crew, junctions, kind, want, sum, maximum, first, within, limit, landmarks or \
+                 leaf, not {}",
                 shown(word)
             ))),
         }
@@ -94,8 +100,8 @@ impl Reading {
     fn road(&mut self, line: &Line) -> Result<(), BadLine> {
         let [one, other, seconds] = after(line, "road END END SECONDS")?;
         let ends = [
-            self.junctions.read(one, line)?,
-            self.junctions.read(other, line)?,
+            self.junctions.read_end(one, line)?,
+            self.junctions.read_end(other, line)?,
         ];
         let seconds = SECONDS.read(seconds, line)? as u16;
         if ends[0] == ends[1] {
@@ -114,21 +120,37 @@ impl Reading {
         at_most(self.roads.len(), usize::from(MOST_ROADS), "roads", line)
     }
 
-    /// A line with at least one junction, each taken by itself.
-    fn each_junction(
-        &mut self,
-        line: &Line,
-        form: &str,
-        take: fn(&mut Self, u16, &Line) -> Result<(), BadLine>,
-    ) -> Result<(), BadLine> {
-        if line.words.len() < 2 {
-            return Err(line.bad(format!("expected `{form}`")));
-        }
-        for word in &line.words[1..] {
+    /// `yard JUNCTION ...`, or `yard JUNCTION ... kinds KIND ...`.
+    fn yards(&mut self, line: &Line) -> Result<(), BadLine> {
+        let words = &line.words[1..];
+        let kinds = words.iter().position(|&word| word == "kinds");
+        let junctions = &words[..kinds.unwrap_or(words.len())];
+        let mut yards = Vec::new();
+        for word in some(junctions, line, "yard JUNCTION ...")? {
             let junction = self.junctions.read(word, line)?;
-            take(self, junction, line)?;
+            self.yard(junction, line)?;
+            yards.push(junction);
+        }
+        match kinds {
+            Some(place) => self.kinds.of_yards(&yards, &words[place + 1..], line),
+            None => Ok(()),
+        }
+    }
+
+    /// `crew JUNCTION ...`; crews may stand at one junction.
+    fn crews(&mut self, line: &Line) -> Result<(), BadLine> {
+        for word in some(&line.words[1..], line, "crew JUNCTION ...")? {
+            let junction = self.junctions.read(word, line)?;
+            self.crews.push(junction);
+            at_most(self.crews.len(), MOST_CREWS, "crews", line)?;
         }
         Ok(())
+    }
+
+    /// `want KIND ...`.
+    fn want(&mut self, line: &Line) -> Result<(), BadLine> {
+        self.once("want", line)?;
+        self.kinds.want(line)
     }
 
     /// A junction has at most one yard.
@@ -140,12 +162,6 @@ impl Reading {
             )));
         }
         at_most(self.yards.len(), usize::from(MOST_YARDS), "yards", line)
-    }
-
-    /// Crews may stand at one junction.
-    fn crew(&mut self, junction: u16, line: &Line) -> Result<(), BadLine> {
-        self.crews.push(junction);
-        at_most(self.crews.len(), MOST_CREWS, "crews", line)
     }
 
     /// `sum` or `maximum`.
@@ -168,8 +184,14 @@ impl Reading {
         self.once("first or within", line)
     }
 
-    /// `junctions N`.
-    fn least_junctions(&mut self, line: &Line) -> Result<(), BadLine> {
+    /// `junctions NUMBER`, or `junctions NAME ...` as often as is wanted.
+    fn all_junctions(&mut self, line: &Line) -> Result<(), BadLine> {
+        let names = &line.words[1..];
+        if names.first().is_some_and(|word| !is_number(word)) {
+            return names
+                .iter()
+                .try_for_each(|name| self.junctions.declare(name, line));
+        }
         let [word] = after(line, "junctions NUMBER")?;
         self.once("junctions", line)?;
         let count = JUNCTIONS.read(word, line)?;
@@ -199,20 +221,23 @@ impl Reading {
         }
     }
 
-    /// The district, its roads and yards in order.
-    fn done(self) -> District {
+    /// The district, its roads and yards in order, with the warnings about its names.
+    fn done(self) -> Result<District, BadLine> {
+        self.junctions.test_declared()?;
         let road = |(&(low, high), &(seconds, _)): (&(u16, u16), &(u16, usize))| Road {
             low,
             high,
             seconds,
         };
-        District {
+        Ok(District {
             roads: self.roads.iter().map(road).collect(),
             yards: self.yards.into_keys().collect(),
+            warnings: warnings(&self.junctions),
             junctions: self.junctions,
             crews: self.crews,
+            kinds: self.kinds.done()?,
             settings: self.settings,
-        }
+        })
     }
 }
 

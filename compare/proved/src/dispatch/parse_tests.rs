@@ -298,8 +298,8 @@ fn lines_of_another_form() {
     assert_fault("crew # none", 1, "expected `crew JUNCTION ...`");
     assert_fault("sum 3", 1, "expected `sum`, not 1 word after `sum`");
     assert_fault("first", 1, "expected `first NUMBER`");
-    assert_fault("yards 3", 1, "expected road, yard, crew, sum");
-    assert_fault("Road 0 1 5", 1, "expected road, yard, crew, sum");
+    assert_fault("yards 3", 1, "expected road, yard, crew, junctions");
+    assert_fault("Road 0 1 5", 1, "expected road, yard, crew, junctions");
 }
 
 #[test]

@@ -62,7 +62,7 @@ fn sound_books_are_told() {
     );
     assert!(output.text.ends_with("\nyard 1\nyard 14\n"));
     let output = text(&sound_road(), Some(&sound_yard(kinds::VERSION))).expect("sound books");
-    let lines = "\nyard 1 # kinds 1\nyard 2 # kinds 2\nyard 5 # kinds 5\nyard 6 # kinds 2\nyard 14 # kinds 4\n";
+    let lines = "\nyard 1 kinds k1\nyard 2 kinds k2\nyard 5 kinds k1 k3\nyard 6 kinds k2\nyard 14 kinds k3\n";
     assert!(output.text.ends_with(lines), "{}", output.text);
     assert_eq!(calls::road_passes(&sound_road()), Ok(()));
     assert_eq!(

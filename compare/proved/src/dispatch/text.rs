@@ -33,13 +33,21 @@ pub fn text(road_book: &[u8], yard_book: Option<&[u8]>) -> Result<Output, Fault>
     Ok(Output::text(format!("{heading}\n{text}")))
 }
 
-/// A line for each yard; a district has no kinds, so those of a version 2 book stand in comments.
+/// A name for each bit of a byte of kinds, as docs/BOOKS.md counts them.
+const KINDS: [&str; 8] = ["k1", "k2", "k3", "k4", "k5", "k6", "k7", "k8"];
+
+/// A line for each yard; those of a version 2 book have their kinds, but for a yard of every kind.
 fn yard_lines(book: &YardBook) -> String {
     let mut lines = String::new();
+    if kinds::size(book.version) > 0 {
+        let _ = writeln!(lines, "kind {}", KINDS.join(" "));
+    }
     for yard in &book.yards {
         let _ = write!(lines, "yard {}", yard.junction);
-        if kinds::size(book.version) > 0 {
-            let _ = write!(lines, " # kinds {}", yard.kinds);
+        if yard.kinds != kinds::ALL {
+            let has = |bit: &usize| yard.kinds >> bit & 1 == 1;
+            let names: Vec<&str> = (0..8).filter(has).map(|bit| KINDS[bit]).collect();
+            let _ = write!(lines, " kinds {}", names.join(" "));
         }
         lines.push('\n');
     }

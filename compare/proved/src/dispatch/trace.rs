@@ -5,7 +5,7 @@ use std::collections::BTreeSet;
 use compare::refusal::WORK_WORDS;
 use compare::search::state::{true_drive, Held, Item, State};
 use compare::search::{found, run_seen, tested, Outcome, Search};
-use compare::{brute, kinds, road};
+use compare::{brute, road};
 
 use super::answer::Answer;
 use super::books::Books;
@@ -55,7 +55,7 @@ impl Trace {
     /// The plain finder's search of the same books; its answer has to be the proved one, and brute force's.
     pub fn new(answer: &Answer) -> Result<Self, Fault> {
         let (asked, books) = (answer.asked, answer.books.searched());
-        let search = tested(asked, kinds::ALL, books, WORK_WORDS, RESULT_WORDS)
+        let search = tested(asked, answer.wanted, books, WORK_WORDS, RESULT_WORDS)
             .map_err(|number| Fault::failed(by_rule(number, "the plain finder, of sound books")))?;
         let mut seen = Vec::new();
         let outcome = run_seen(&search, |state| seen.push(Seen::new(state)));

@@ -11,6 +11,9 @@ use super::output::Output;
 use super::table::{table, Side};
 use super::trace::{Measured, Step, Trace};
 
+/// The most junctions of a region that are named one by one.
+const MOST_NAMED: usize = 4;
+
 /// All that the story is told from.
 struct Story<'a> {
     district: &'a District,
@@ -61,7 +64,7 @@ impl Story<'_> {
         let heading = [
             "step",
             "key",
-            "what left the queue, and what it queued (with its key)",
+            "what left the queue, what it queued (with its key), and with which key it waits again",
         ];
         let mut rows = vec![heading.map(String::from).to_vec()];
         for (place, step) in self.trace.steps.iter().enumerate() {
@@ -76,9 +79,16 @@ impl Story<'_> {
 
     /// A region that left the queue, and what it queued.
     fn opening(&self, step: &Step) -> String {
-        let told = |&(key, item): &(u64, Item)| format!("{} ({key})", self.item(item));
-        let queued: Vec<String> = step.queued.iter().map(told).collect();
-        format!("{}: queues {}", self.region(step.item), queued.join(", "))
+        let (itself, others): (Vec<_>, Vec<_>) =
+            step.queued.iter().partition(|(_, item)| *item == step.item);
+        let told = |(key, item): &(u64, Item)| format!("{} ({key})", self.item(*item));
+        let queued: Vec<String> = others.iter().map(told).collect();
+        let mut what = Vec::new();
+        if !queued.is_empty() {
+            what.push(format!("queues {}", queued.join(", ")));
+        }
+        what.extend(itself.iter().map(|(key, _)| format!("waits with {key}")));
+        format!("{}: {}", self.region(step.item), what.join("; "))
     }
 
     /// A yard that left the queue: its seconds, its place so far, and the yard that it put off the list.
@@ -120,7 +130,8 @@ impl Story<'_> {
     /// What was left in the queue: the yards, and the least seconds that they can take.
     fn never_measured(&self) -> String {
         let mut text = String::new();
-        for (key, item, yards) in self.trace.never_measured() {
+        for (key, item, mut yards) in self.trace.never_measured() {
+            yards.retain(|&yard| self.district.is_wanted(yard));
             let by = match item {
                 Item::Yard(_) => "its own key".to_string(),
                 Item::Region(_) => format!("the key of {}", self.region(item)),
@@ -131,6 +142,9 @@ impl Story<'_> {
             ));
         }
         match text.is_empty() {
+            true if self.district.kinds.wanted_names().is_some() => {
+                "every yard of a wanted kind was measured\n".to_string()
+            }
             true => "every yard was measured\n".to_string(),
             false => format!("never measured:\n{text}"),
         }
@@ -178,6 +192,12 @@ impl Story<'_> {
     fn left_out(&self, yard: u16) -> Option<String> {
         if !self.trace.outcome.settled {
             return None;
+        }
+        if let (Some(wanted), false) = (
+            self.district.kinds.wanted_names(),
+            self.district.is_wanted(yard),
+        ) {
+            return Some(format!("{}: it has no {wanted}", self.drives(yard)));
         }
         let why = match self.district.settings.wanted {
             Wanted::First(_) => self.beaten(yard, self.answer.searched.list.last()?),
@@ -239,19 +259,29 @@ impl Story<'_> {
             return self.item(item);
         };
         let region = &self.trace.search.tree.regions[number];
-        let label = |junction| self.district.junctions.label(junction);
-        let junctions = match region.after - region.first {
-            1 => format!("junction {}", label(region.first)),
-            _ => format!(
-                "junctions {} to {}",
-                label(region.first),
-                label(region.after - 1)
-            ),
-        };
         format!(
-            "region {number} ({junctions}, {})",
+            "region {number} ({}, {})",
+            self.range(region.first, region.after),
             counted(usize::from(region.yards), "yard")
         )
+    }
+
+    /// A range of junctions: by numbers its ends; by names each of a few, or the ends as the file first names them.
+    fn range(&self, first: u16, after: u16) -> String {
+        let junctions: Vec<u16> = (first..after).collect();
+        let labels = self.district.labels(&junctions);
+        let ends = format!("{} to {}", labels[0], labels[labels.len() - 1]);
+        match (
+            labels.split_last(),
+            self.district.junctions.names().is_empty(),
+        ) {
+            (Some((last, [])), _) => format!("junction {last}"),
+            (Some((last, others)), false) if labels.len() <= MOST_NAMED => {
+                format!("junctions {} and {last}", others.join(", "))
+            }
+            (_, true) => format!("junctions {ends}"),
+            (_, false) => format!("junctions {ends} as first named"),
+        }
     }
 
     /// A yard by its label.

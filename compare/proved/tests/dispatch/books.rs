@@ -4,9 +4,11 @@ use std::fs;
 use std::path::Path;
 
 use compare::generate::standard;
-use compare::{kinds, road, yard};
+use compare::road;
 
-use crate::command::{example, examples, expected, folder, grid, printed, refused, told, BOOKS};
+use crate::command::{
+    command, example, folder, grid, printed, refused, sound_examples, told, BOOKS,
+};
 
 /// Makes a file's books and turns them into text; that text has to give the same road, yard and tree books.
 fn round_trip(file: &Path, name: &str) -> String {
@@ -39,11 +41,8 @@ fn round_trip(file: &Path, name: &str) -> String {
 
 #[test]
 fn books_and_back() {
-    for file in examples()
-        .iter()
-        .filter(|file| expected(file, "refused").is_none())
-    {
-        round_trip(file, told(Path::new(file.file_stem().unwrap())));
+    for file in sound_examples() {
+        round_trip(&file, told(Path::new(file.file_stem().unwrap())));
     }
     let file = folder("grid").join("grid.district");
     fs::write(&file, grid("grid-standard")).unwrap();
@@ -72,24 +71,21 @@ fn roads_alone() {
     assert!(!folder.join("yard.book").exists());
 }
 
-/// A version 2 yard book's kinds stand in comments, and the text gives the same yards in version 1.
+/// A version 2 yard book's text gives the same book again.
 #[test]
-fn kinds_are_left_out() {
-    let folder = folder("kinds");
+fn kinds_and_back() {
+    let folder = folder("kinds-and-back");
     let [roads, yards] = ["road", "yard"].map(|name| folder.join(name));
     let book = standard::kinds_yard_book(8, 7).unwrap();
     fs::write(&roads, standard::road_book("grid", 7).unwrap()).unwrap();
     fs::write(&yards, &book).unwrap();
     let text = printed(&["text", told(&roads), told(&yards)], 0);
     assert!(text.starts_with("# 1984 roads, 8 yards\n"), "{text}");
-    assert!(text.ends_with(" # kinds 128\n"), "{text}");
+    assert!(text.ends_with(" kinds k8\n"), "{text}");
     let file = folder.join("kinds.district");
     fs::write(&file, text).unwrap();
     printed(&["books", told(&file), told(&folder)], 0);
-    let again = fs::read(folder.join("yard.book")).unwrap();
-    let [before, after] = [&book, &again].map(|book| yard::read(book, 1_024).unwrap());
-    assert_eq!([before.version, after.version], [kinds::VERSION, 1]);
-    assert_eq!(before.junctions(), after.junctions());
+    assert_eq!(fs::read(folder.join("yard.book")).unwrap(), book);
 }
 
 #[test]
@@ -137,6 +133,51 @@ fn names_are_told_with_their_numbers() {
         text.ends_with("\njunctions by number:\n0 depot\n1 mill\n2 quarry\n"),
         "{text}"
     );
+}
+
+/// Whatever stands in the way of one book, every book is as it was, and nothing else is left.
+#[test]
+fn all_books_or_none() {
+    for in_the_way in BOOKS {
+        let folder = folder(&format!("in-the-way-of-{in_the_way}"));
+        printed(&["books", told(&example("net-n")), told(&folder)], 0);
+        fs::remove_file(folder.join(in_the_way)).unwrap();
+        fs::create_dir(folder.join(in_the_way)).unwrap();
+        fs::write(folder.join(in_the_way).join("kept"), "").unwrap();
+        let books = || BOOKS.map(|book| fs::read(folder.join(book)).ok());
+        let before = books();
+        let fault = refused(&["books", told(&example("within")), told(&folder)], 1);
+        assert!(fault.contains(in_the_way), "{fault}");
+        assert_eq!(books(), before);
+        assert_eq!(fs::read_dir(&folder).unwrap().count(), BOOKS.len());
+    }
+}
+
+/// A book that can't be moved to its place, after others were: those are put back.
+#[test]
+fn moved_books_are_put_back() {
+    let folder = folder("put-back");
+    printed(&["books", told(&example("net-n")), told(&folder)], 0);
+    fs::remove_file(folder.join("yard.book")).unwrap();
+    fs::create_dir_all(folder.join("query.before/kept")).unwrap();
+    let books = || BOOKS.map(|book| fs::read(folder.join(book)).ok());
+    let before = books();
+    let fault = refused(&["books", told(&example("within")), told(&folder)], 1);
+    assert!(fault.contains("query.book"), "{fault}");
+    assert_eq!(books(), before);
+    assert_eq!(fs::read_dir(&folder).unwrap().count(), BOOKS.len());
+}
+
+#[test]
+fn an_empty_folder_argument_is_refused() {
+    let here = folder("empty-argument");
+    let output = command(&["books", told(&example("net-n")), ""])
+        .current_dir(&here)
+        .output()
+        .unwrap();
+    assert_eq!(output.status.code(), Some(2));
+    assert!(String::from_utf8_lossy(&output.stderr).contains("expected a FOLDER"));
+    assert_eq!(fs::read_dir(&here).unwrap().count(), 0);
 }
 
 #[test]

@@ -69,6 +69,13 @@ pub fn examples() -> Vec<PathBuf> {
     files
 }
 
+/// The examples that are neither refused nor warned of.
+pub fn sound_examples() -> Vec<PathBuf> {
+    let told = |file: &PathBuf, extension| expected(file, extension).is_some();
+    let sound = |file: &PathBuf| !told(file, "refused") && !told(file, "warned");
+    examples().into_iter().filter(sound).collect()
+}
+
 /// An example's district file.
 pub fn example(name: &str) -> PathBuf {
     let found = examples()

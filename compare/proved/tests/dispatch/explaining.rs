@@ -2,7 +2,7 @@
 
 use std::fs;
 
-use crate::command::{example, examples, expected, folder, printed, refused, told};
+use crate::command::{example, examples, expected, folder, printed, refused, run, told};
 
 /// The status of an example's commands: 3 if it is spent.
 fn status(text: &str) -> i32 {
@@ -17,11 +17,19 @@ fn status(text: &str) -> i32 {
 fn examples_list_what_is_expected() {
     for file in examples() {
         match (expected(&file, "list"), expected(&file, "refused")) {
-            (Some(text), None) => assert_eq!(
-                printed(&["list", told(&file)], status(&text)),
-                text,
-                "{file:?}"
-            ),
+            (Some(text), None) => {
+                let output = run(&["list", told(&file)]);
+                assert_eq!(output.status.code(), Some(status(&text)), "{file:?}");
+                assert_eq!(String::from_utf8(output.stdout).unwrap(), text, "{file:?}");
+                let warned = expected(&file, "warned").map_or(String::new(), |text| {
+                    format!("dispatch: {}:{text}", told(&file))
+                });
+                assert_eq!(
+                    String::from_utf8(output.stderr).unwrap(),
+                    warned,
+                    "{file:?}"
+                );
+            }
             (None, Some(text)) => {
                 for command in ["list", "why", "draw"] {
                     let fault = format!("dispatch: {}: {text}", told(&file));

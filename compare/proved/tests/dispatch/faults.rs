@@ -27,15 +27,16 @@ const BAD: [(&str, &str); 8] = [
     ("", ":1: expected a road, a yard or a crew"),
     (
         "yard 7\ncrew 0\nroad 0 1 5",
-        ": refused 6: road book: junction `7` (line 1) can't be reached from junction `0`\n",
+        ": refused 6: road book: junction `7` (line 1) can't be reached from junction `0`: \
+         no road names it; misspelt?\n",
     ),
     (
         "road 0 1 5\nroad 1 3 5\nyard 3\ncrew 0",
         ": refused 6: road book: junction `2`, which no line names, can't be reached",
     ),
     (
-        "road depot bridge 120\nyard brigde\ncrew depot",
-        ": refused 6: road book: junction `brigde` (line 2) can't be reached from junction `depot`\n",
+        "road depot bridge 120\nyard bridge brigde\ncrew depot brigde",
+        ":2: warning: one or two letters tell junction `brigde` from `bridge` (line 1); misspelt?\n",
     ),
 ];
 
@@ -84,6 +85,10 @@ fn arguments_and_files_that_are_not_there() {
             "{arguments:?}"
         );
     }
+    assert!(refused(&["foo", "a"], 2).starts_with("dispatch: `foo` is no command\n"));
+    assert!(
+        refused(&["list"], 2).starts_with("dispatch: `list` does not go with these arguments\n")
+    );
     assert!(refused(&["list", "no/such/file"], 2).starts_with("dispatch: no/such/file: "));
     assert!(refused(&["text", "no/such/file"], 2).starts_with("dispatch: no/such/file: "));
     assert!(refused(&["list", "/"], 2).starts_with("dispatch: /: "));

@@ -7,4 +7,6 @@ mod brute_force;
 mod drawing;
 mod explaining;
 mod faults;
+mod kinds;
+mod names;
 mod page;

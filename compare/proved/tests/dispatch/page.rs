@@ -34,7 +34,7 @@ fn the_page_shows_what_is_printed() {
     for (arguments, text) in commands {
         let arguments: Vec<&str> = arguments.split_whitespace().collect();
         let output = command(&arguments).current_dir(&folder).output().unwrap();
-        let printed = [output.stdout, output.stderr].concat();
+        let printed = [output.stderr, output.stdout].concat();
         assert_eq!(String::from_utf8(printed).unwrap(), text, "{arguments:?}");
     }
 }
