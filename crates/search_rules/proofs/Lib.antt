@@ -44,3 +44,4 @@ pub mod Example
 pub mod TwoWay
 pub mod Agreement
 pub mod WorkedWays
+pub mod Ruling

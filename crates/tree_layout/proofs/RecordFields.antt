@@ -8,8 +8,8 @@ use lib.ListN.{length, getD}
 use Rattle.book.specs.Bytes.{u8At, u16At, u32At}
 use Rattle.book.specs.Open.{version}
 use Rattle.tree_layout.specs.Sizes.{fieldsSize, listSize, leafMarkSize}
-use Rattle.tree_layout.specs.Values.{Element, noMark, leafMark, innerMark, firstDistance, lastFrom}
-use Rattle.tree_layout.specs.Decode.{markSize, sizeAt, readList, listPart, landmarkCount}
+use Rattle.tree_layout.specs.Values.{Element, Mark, noMark, leafMark, innerMark, firstDistance, lastFrom}
+use Rattle.tree_layout.specs.Decode.{markSize, sizeAt, readList, listPart, readRegion, landmarkCount}
 use Rattle.tree_layout.proofs.Places.{mark-size-leaf, mark-size-inner, size-at, size-least}
 use Rattle.tree_layout.proofs.Ends.{leaf-is, inner-is, first-read, last-read}
 use Rattle.tree_layout.proofs.MarkPlaces.{region-marks, leaf-mark-at, inner-mark-at}
@@ -104,3 +104,13 @@ span-ends b at u a z eu ea ez l g = g ∙ rw (inner-is (u16At b at) (u32At b (at
 pub marks-count : (b : List ℕ) (at : ℕ) → length (marksAt b at) ≡ landmarkCount b
 unfolding marksAt
 marks-count b at = region-marks b (landmarkCount b) at
+
+-- they are those that are read there
+pub marks-read : (b : List ℕ) (at : ℕ) → marksAt b at ≡ readRegion b (landmarkCount b) at .marks
+unfolding marksAt
+marks-read b at = refl
+
+-- a landmark's numbers are its mark's
+pub landmark-fields : (l : Landmark) (m : Mark) → l ≡ landmarkOf m → (l .place .number ≡ m .place) × (l .least ≡ m .least) × (l .greatest ≡ m .greatest)
+unfolding landmarkOf
+landmark-fields l m e = (ap (λ (x : Landmark). x .place .number) e, ap (λ (x : Landmark). x .least) e, ap (λ (x : Landmark). x .greatest) e)
