@@ -1,15 +1,14 @@
 -- Laws of the numbers in bytes: what is put is read back, what lies elsewhere is kept, and a number is that of its own bytes, wherever they stand.
 -- One law, `double`, takes a width to twice that width. Assumes nothing.
-use mathlib.Core.Path.{_≡_, refl, _∙_}
+use mathlib.Core.Path.{_≡_, _∙_}
 use mathlib.Core.Logic.{_≢_}
 use mathlib.Core.List.{List}
 use Prim.Native.Nat.{ℕ, _+_, _*_, _/_, _%_, _≤_, _<_}
 use native.Mathlib.Nat.{div-add-mod}
 use native.Mathlib.Omega.{arith}
 use lib.ListN.{length, getD, set, length-set}
-use lib.Seq.{getD-set-same, getD-set-other, getD-take, getD-drop}
-use lib.ListN.{take, drop}
-use Rattle.book.specs.Bytes.{u16At, u32At, putU16, putU32, Bytes}
+use lib.Seq.{getD-set-same, getD-set-other}
+use Rattle.book.specs.Bytes.{u8At, u16At, u32At, putU16, putU32, Bytes}
 
 -- a way to read and to put a number in w bytes
 pub record Width (w : ℕ) (read : List ℕ → ℕ → ℕ) (put : List ℕ → ℕ → ℕ → List ℕ) : Type 0 where
@@ -75,13 +74,9 @@ pub word32 : Width 4 u32At putU32
 unfolding u32At putU32
 word32 = double word16 65536
 
--- a number of a part of a book is the book's, from the part's start on
-pub part : {w : ℕ} {read : List ℕ → ℕ → ℕ} {put : List ℕ → ℕ → ℕ → List ℕ} → Width w read put
-    → (b : List ℕ) (a n i : ℕ) → i + w ≤ n → read (take n (drop a b)) i ≡ read b (a + i)
-part {w} W b a n i h =
-    W .own (take n (drop a b)) b i (a + i) (λ k l.
-    let z : a + i + k ≡ a + (i + k) = omega arith in
-    getD-take n (drop a b) (i + k) 0 (omega arith) ∙ getD-drop a b (i + k) 0 ∙ rw z refl)
+pub u8-small : (b : List ℕ) → Bytes b → (i : ℕ) → u8At b i < 256
+unfolding u8At Bytes
+u8-small b h i = h i
 
 pub u16-small : (b : List ℕ) → Bytes b → (i : ℕ) → u16At b i < 65536
 unfolding u16At Bytes

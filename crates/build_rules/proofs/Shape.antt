@@ -1,7 +1,7 @@
 -- The descent of test 7 goes through the trees of a cut forest; their yards, and what holds of each region with those below it. Assumes nothing.
 use mathlib.Core.Path.{_≡_, refl, sym, ap, _∙_}
 use mathlib.Core.Logic.{_⊎_, inl, inr}
-use mathlib.Core.List.{List, [], _∷_, _++_, append-assoc, append-nil, List·Memᴰ as Mem, List·Memᴰ·append-cases as append-cases, Memᴰ·append-left as append-left}
+use mathlib.Core.List.{List, [], _∷_, _++_, append-assoc, List·Memᴰ as Mem, List·Memᴰ·append-cases as append-cases, Memᴰ·append-left as append-left}
 use mathlib.Core.List.{Memᴰ·append-right as append-right}
 use Prim.Native.Nat.{ℕ, zero, suc, _+_, _-_, _≤_, _<_}
 use native.Mathlib.Decide.{ℕ-discrete, decLt}
@@ -12,16 +12,13 @@ use Rattle.tree_layout.specs.Values.{Region, regionAt}
 use Rattle.tree_layout.proofs.MarkFields.{region-seam}
 use Rattle.tree.specs.declared.shape.End.{End}
 use Rattle.tree.specs.Shape.{endAt, siblings, subtree, levels}
-use Rattle.tree_leaf.specs.Leaf.{leafOk, firstList}
 use Rattle.tree.specs.Yards.{endOf, yardsBelow}
-use Rattle.tree_leaf.specs.Leaf.{yardsIn}
 use Rattle.tree.proofs.Forest.{siblings-next, siblings-step, siblings-end, siblings-ended, subtree-leaf, subtree-inner, end-is}
-use Rattle.tree.proofs.ForestLaws.{Sane, span, span-split, span-none, span-leaf, span-inner}
-use Rattle.tree.proofs.Ranges.{below-span}
+use Rattle.tree.proofs.ForestLaws.{Sane, span, span-split, span-none, span-leaf, span-inner, below-span}
 use Rattle.check_rules.specs.Facts.{Same}
 use Rattle.check_rules.proofs.Extremes.{same-swap}
 use Rattle.build_rules.specs.Cut.{Given, leafRegion, innerRegion}
-use Rattle.build_rules.proofs.Cutting.{Held, CutForest, none, leaf, inner, widen, join}
+use Rattle.build_rules.proofs.Cutting.{CutForest, none, leaf, inner, widen, join}
 use Rattle.build_rules.proofs.Regions.{leaf-passes, leaf-same}
 
 -- ---- a region between two lists

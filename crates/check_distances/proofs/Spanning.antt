@@ -17,6 +17,7 @@ use Rattle.tree_layout.specs.Decode.{landmarkCount}
 use Rattle.tree_layout.specs.code.Marks.{marksAt, landmarkOf}
 use Rattle.tree_layout.specs.Refusal.{all}
 use Rattle.tree_layout.specs.declared.Landmark.{Landmark}
+use Rattle.tree_layout.proofs.RecordFields.{landmark-fields}
 use Rattle.check_rules.specs.Truth.{leastDistanceFrom, greatestFrom, trueSpan, within}
 use Rattle.check_rules.proofs.Extremes.{least-none, least-next, least-from, greatest-none, greatest-next, greatest-from}
 use Rattle.check_rules.proofs.Testing.{span-test}
@@ -93,8 +94,7 @@ module _ (adj tree : List ℕ) (i : ℕ) (k : Marked adj tree i) (j : ℕ) (h : 
 
   -- its place is a junction
   pub span-placed : l .place .number < countIn adj
-  unfolding landmarkOf
-  span-placed = rw el (k .placed mark (mark-mem tree i j h))
+  span-placed = rw (landmark-fields l mark el .0) (k .placed mark (mark-mem tree i j h))
 
   module _ (road ds zs : List ℕ) (a : Adjacency road adj) (some : 0 < length zs) (r : Bool) (d : ds ≡ distancesFrom road (l .place .number))
       (e : r ≡ spanIn ds zs (l .least) (l .greatest)) where
@@ -102,10 +102,10 @@ module _ (adj tree : List ℕ) (i : ℕ) (k : Marked adj tree i) (j : ℕ) (h : 
     near y = dist-most road (passing-layout road (a .layout)) (mark .place) y (omega (arith, a .count, k .placed mark (mark-mem tree i j h)))
 
     answer : trueSpan (dist road) zs mark ≡ r
-    unfolding landmarkOf
     answer =
         let g : r ≡ spanIn (distancesFrom road (l .place .number)) zs (l .least) (l .greatest) = rw (← d) e in
-        sym (rw el at g ∙ span-same road zs mark some near)
+        let w = landmark-fields l mark el in
+        sym (rw (w .0, w .1, w .2) at g ∙ span-same road zs mark some near)
 
     pub spans-on : r ≡ true → all (trueSpan (dist road) zs) (drop (j + 1) (marksAt tree i)) ≡ all (trueSpan (dist road) zs) (drop j (marksAt tree i))
     spans-on t = all-goes (trueSpan (dist road) zs) (marksAt tree i) noMark j (mark-number tree i j h) (answer ∙ t)

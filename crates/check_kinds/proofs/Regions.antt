@@ -19,6 +19,7 @@ use Rattle.tree_layout.proofs.Formed.{region-formed}
 use Rattle.tree_layout.proofs.Reading.{all-none}
 use Rattle.tree_layout.proofs.Tests.{all-intro}
 use Rattle.yard.specs.Yards.{kindTable, kindOf}
+use Rattle.yard.proofs.Tables.{kinds-by}
 use Rattle.check_rules.specs.Truth.{kindsElement, kindsList, within, kindsBesideRegion, kindsBeside}
 use Rattle.check_rules.proofs.Testing.{kinds-list-test, kinds-beside-region-test, kinds-beside-test}
 use Rattle.check_rules.proofs.Records.{marks-are, children-are, first-is, after-is, kinds-are}
@@ -26,8 +27,7 @@ use Rattle.check_kinds.proofs.Listing.{by}
 
 -- the table of a book's kinds gives them by junction
 by-table : (yard table : List ℕ) → table ≡ kindTable yard → by table ≡ kindOf yard
-unfolding kindOf
-by-table yard table e = rw e refl
+by-table yard table e = rw e (kinds-by yard)
 
 -- ---- the region whose record is at a place, by its fields
 

@@ -16,7 +16,8 @@ use Rattle.tree_layout.specs.Refusal.{all}
 use Rattle.tree_layout.specs.declared.Fields.{Fields}
 use Rattle.tree_layout.proofs.Accessing.{part-length}
 use Rattle.tree_layout.proofs.MarkPlaces.{listMark}
-use Rattle.tree_layout.proofs.Reading.{all-none, list-on, list-none, leaf-place, leaf-list}
+use Rattle.tree_layout.proofs.Reading.{all-none, list-on, list-none}
+use Rattle.tree_layout.proofs.MarkFields.{leaf-place, leaf-pairs}
 use Rattle.tree_layout.proofs.RecordFields.{list-inside}
 use Rattle.tree_layout.proofs.Sizes.{list-zero, list-room}
 use Rattle.tree_layout.proofs.Turns.{all-on, all-off}
@@ -73,7 +74,7 @@ module _ (tree : List ℕ) (f : Fields) (s : RecordAt tree (f .at)) (ef : f ≡ 
     list-length = rw (el, ev) (omega (arith, part-length (version tree) tree (f .yards) p list-fits))
 
     pub list-is : getD (marksAt tree (f .at)) j noMark .list ≡ readList v l (f .yards) 0
-    list-is = rw (mark-is, el, ev) (leaf-list (u16At tree p) (readList (version tree) (listPart (version tree) tree (f .yards) (p + junctionSize)) (f .yards) 0))
+    list-is = rw (mark-is, el, ev) (leaf-pairs (u16At tree p) (readList (version tree) (listPart (version tree) tree (f .yards) (p + junctionSize)) (f .yards) 0))
 
 -- ---- a test of the landmarks of a record, with j of them done
 

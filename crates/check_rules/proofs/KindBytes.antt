@@ -1,16 +1,15 @@
 -- The test of kinds holds of an accepted tree exactly if its kind bytes are true. Assumes nothing.
-use mathlib.Core.Path.{_≡_, refl, _∙_}
+use mathlib.Core.Path.{_≡_, _∙_}
 use mathlib.Core.Bool.{Bool, true, _&&_}
 use mathlib.Core.List.{List, [], _∷_, List·Memᴰ as Mem}
 use Prim.Native.Nat.{ℕ, zero, suc, _+_, _≤_, _<_}
 use native.Mathlib.Decide.{ℕ-discrete}
 use native.Mathlib.Omega.{arith}
 use lib.ListN.{length}
-use lib.Bits.{bitOr}
 use lib.Dec.{T, eqb, eqb→eq}
 use Rattle.book.proofs.Choosing.{T-true, true-T, and-left, and-right, and-both}
 use Rattle.book.proofs.Lists.{eq→eqb}
-use Rattle.kinds.specs.Kinds.{togetherFrom, together}
+use Rattle.kinds.specs.Kinds.{together}
 use Rattle.kinds.specs.Facts.{BitsOf}
 use Rattle.kinds.proofs.Laws.{together-bits, one-byte}
 use Rattle.tree_layout.specs.Values.{Element, Mark, Region, Tree, regionAt}
@@ -50,20 +49,6 @@ module _ (kinds : ℕ → ℕ) (ys : List ℕ) (r : Region) where
   kinds-test f = and-both (eqb (r .kinds) (together kinds ys)) (all (kindsList kinds) (r .marks))
       (eq→eqb (r .kinds) (together kinds ys) (f .byte))
       (all-intro (kindsList kinds) (r .marks) (λ m k. all-intro (kindsElement kinds) (m .list) (λ e i. eq→eqb (e .kinds) (kinds (e .yard)) (f .list m k e i))))
-
--- the bits of yards together, one yard at a time
-module _ (kinds : ℕ → ℕ) where
-  pub together-none : (x : ℕ) → togetherFrom kinds x [] ≡ x
-  unfolding togetherFrom
-  together-none x = refl
-
-  pub together-next : (x y : ℕ) (ys : List ℕ) → togetherFrom kinds x (y ∷ ys) ≡ togetherFrom kinds (bitOr x (kinds y)) ys
-  unfolding togetherFrom
-  together-next x y ys = refl
-
-  pub together-start : (ys : List ℕ) → together kinds ys ≡ togetherFrom kinds 0 ys
-  unfolding together
-  together-start ys = refl
 
 -- the bits of the same yards are the same byte
 pub bits-same : (kinds : ℕ → ℕ) (ys zs : List ℕ) (byte : ℕ) → Same ys zs

@@ -8,7 +8,7 @@ use lib.ListN.{length, getD, drop}
 use Rattle.book.specs.Bytes.{u8At, u16At}
 use Rattle.book.specs.Open.{version}
 use Rattle.book.proofs.Lists.{getD-mem}
-use Rattle.tree_layout.specs.Values.{Mark, Region, noMark, noRegion, regionAt}
+use Rattle.tree_layout.specs.Values.{Mark, Region, noMark, noRegion}
 use Rattle.tree_layout.specs.Sizes.{fieldsSize}
 use Rattle.tree_layout.specs.Decode.{readRegion, sizeAt, markSize, regionCount, landmarkCount, placeOf, decode}
 use Rattle.tree_layout.specs.Refusal.{all, treeLayoutRefusal}
@@ -18,25 +18,21 @@ use Rattle.tree_layout.specs.code.Marks.{marksAt, markPlace, RecordAt}
 use Rattle.tree_layout.specs.declared.Fields.{Fields}
 use Rattle.tree_layout.specs.declared.Header.{Header}
 use Rattle.tree_layout.proofs.Accepting.{layout-facts}
+use Rattle.tree_layout.proofs.Formed.{at-is}
 use Rattle.tree_layout.proofs.Places.{decode-length, place-after}
-use Rattle.tree_layout.proofs.Reading.{region-first, region-after, region-children, region-kinds}
-use Rattle.tree_layout.proofs.RecordFields.{marks-count, place-is}
+use Rattle.tree_layout.proofs.Reading.{region-first, region-after, region-children, region-kinds, header-regions, header-landmarks}
+use Rattle.tree_layout.proofs.RecordFields.{marks-count, marks-read, place-is}
 use Rattle.tree_layout.proofs.RegionRecords.{layout-region, layout-whole}
 use Rattle.tree_layout.proofs.MarkPlaces.{listMark, leaf-mark-at}
 use Rattle.check_rules.proofs.Turns.{all-goes, all-stops, all-ends}
 
 -- the header's counts that a loop over the regions reads
 pub header-counts : (b : List ℕ) (h : Header) → h ≡ headerOf b → (h .regions ≡ regionCount b) × (h .landmarks ≡ landmarkCount b)
-unfolding headerOf
-header-counts b h e = (ap (λ (x : Header). x .regions) e, ap (λ (x : Header). x .landmarks) e)
+header-counts b h e = (ap (λ (x : Header). x .regions) e ∙ header-regions b, ap (λ (x : Header). x .landmarks) e ∙ header-landmarks b)
 
 -- ---- a record's landmarks
 
 module _ (b : List ℕ) (at : ℕ) where
-  pub marks-read : marksAt b at ≡ readRegion b (landmarkCount b) at .marks
-  unfolding marksAt
-  marks-read = refl
-
   module _ (j : ℕ) (h : j < landmarkCount b) where
     -- landmark j is one of them
     pub mark-number : j < length (marksAt b at)
@@ -51,7 +47,7 @@ module _ (b : List ℕ) (at : ℕ) where
     mark-listed r p yards e z y =
         let s : p ≡ (at + fieldsSize (version b)) + j * markSize (version b) (u8At b (at + 4)) (u16At b (at + 5)) =
         e ∙ sym (place-is b at r j h (markSize (version b) (u8At b (at + 4)) (u16At b (at + 5))) refl) in
-        rw (marks-read, y) (leaf-mark-at b (landmarkCount b) at j p noMark h s z)
+        rw (marks-read b at, y) (leaf-mark-at b (landmarkCount b) at j p noMark h s z)
 
 -- ---- the region whose record is at a place, by its fields
 
@@ -107,8 +103,7 @@ module _ (b : List ℕ) (ok : treeLayoutRefusal b ≡ 0) (k : ℕ) (h : k < regi
   -- a test of every region, with k of them done
   module _ (f : Region → Bool) (m : ℕ) (em : m ≡ landmarkCount b) (r : Bool) (e : r ≡ f (readRegion b m at)) where
     answer : f (getD (decode b .regions) k noRegion) ≡ r
-    unfolding regionAt
-    answer = sym (e ∙ rw em (ap f (sym (layout-region b (layout-facts b ok) k h at place))))
+    answer = ap f (sym (at-is (decode b .regions) k) ∙ layout-region b (layout-facts b ok) k h at place) ∙ sym (rw em at e)
 
     pub regions-on : r ≡ true → all f (drop (k + 1) (decode b .regions)) ≡ all f (drop k (decode b .regions))
     regions-on t = all-goes f (decode b .regions) noRegion k number (answer ∙ t)

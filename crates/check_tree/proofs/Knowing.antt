@@ -9,7 +9,7 @@ use lib.Dec.{eqb}
 use Rattle.book.specs.Open.{version}
 use Rattle.book.proofs.Choosing.{choose-yes, choose-no}
 use Rattle.book.proofs.Lists.{eq→eqb, ne→neqb}
-use Rattle.tree_layout.specs.Values.{Mark, Region, noMark}
+use Rattle.tree_layout.specs.Values.{Mark, Region}
 use Rattle.tree_layout.specs.Sizes.{junctionSize, listSize, leafMarkSize}
 use Rattle.tree_layout.specs.Decode.{elementAt, readList, listPart, readRegion, decode, landmarkCount}
 use Rattle.tree_layout.specs.code.Accessors.{fieldsAt, listedAt}
@@ -19,6 +19,7 @@ use Rattle.tree_layout.specs.declared.Fields.{Fields}
 use Rattle.tree_layout.specs.declared.Listed.{Listed}
 use Rattle.tree_layout.proofs.Accessing.{listed-yard}
 use Rattle.tree_leaf.specs.Leaf.{firstList}
+use Rattle.tree_leaf.proofs.Named.{first-from}
 use Rattle.check_rules.proofs.Turns.{drop-next}
 use Rattle.check_rules.proofs.Records.{marks-are, children-are, own-place, fields-own, record-own}
 use Rattle.check_rules.proofs.Elements.{elements-first, elements-done, elements-on, elements-off, list-fits, list-length, list-is}
@@ -68,11 +69,6 @@ module _ (ys : List ℕ) (v : ℕ) (p : List ℕ) (n k : ℕ) where
     list-known f = elements-on (knownElement ys) v p n k h (list-here ∙ f)
 
 -- ---- a region, by the fields of its record
-
-first-from : (ms : List Mark) → firstList ms ≡ getD ms 0 noMark .list
-unfolding firstList noMark
-first-from [] = refl
-first-from (m ∷ ms) = refl
 
 module _ (tree : List ℕ) (i : ℕ) (f : Fields) (ef : f ≡ fieldsAt tree i) where
   abbrev r : Region

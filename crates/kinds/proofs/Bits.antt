@@ -33,10 +33,6 @@ low-bit n = ap (λ x. x % 2) (div-one n)
 zero-bit : (j : ℕ) → 0 / 2 ^ j % 2 ≡ 0
 zero-bit j = ap (λ x. x % 2) (zero-div (2 ^ j))
 
--- a bit is 0 or 1
-one-digit : (n : ℕ) → n % 2 ≤ 1
-one-digit n = omega arith
-
 -- a number that is not 0 has a bit that is set
 pub some-bit : (n : ℕ) → 1 ≤ n → (j : ℕ) × HasBit j n
 some-bit = bin-ind (λ n. 1 ≤ n → (j : ℕ) × HasBit j n) (λ h. absurd (omega (arith, h))) step

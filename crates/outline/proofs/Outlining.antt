@@ -19,7 +19,8 @@ use Rattle.tree.specs.declared.Tree.{Tree}
 use Rattle.tree.specs.declared.Tree.the-variants.{Shaped, Refused}
 use Rattle.tree.specs.Shape.{treeRefusal}
 use Rattle.tree.specs.Arrays.{Laid, fieldsOf}
-use Rattle.tree.specs.Yards.{endOf, levelBy, levelOf}
+use Rattle.tree.specs.Yards.{endOf, levelBy}
+use Rattle.tree.proofs.Reaching.{level-is}
 use Rattle.tree.specs.Answer.{treeOf, treeNumber, placesAfter, endsAfter}
 use Rattle.tree.proofs.Answering.{shaped-found, shaped-answer, accepted-laid, accepted-slots, accepted-room, accepted-ends, number-is}
 use Rattle.outline.specs.Known.{Known}
@@ -80,10 +81,10 @@ refused-text b o w why read told number =
 -- a region's line, by its level among the ends and its fields
 pub region-is : (b places ends : List ℕ) (i level : ℕ) (f : Fields) → Known b places ends → i < length places → f ≡ fieldsOf b i
     → level ≡ levelBy (λ j. getD ends j 0) i → (v : ℕ) → v ≡ version b → lineOf v level f ≡ regionText b i
-unfolding regionText levelOf
+unfolding regionText
 region-is b places ends i level f k h e l v w =
     let same = level-same (λ j. getD ends j 0) (endOf (decode b .regions)) i (λ x p. k .ended x (omega (arith, k .count))) in
-    cc (l ∙ same, w)
+    cc (l ∙ same, w, level-is (decode b .regions) i)
 
 -- ---- by the version
 

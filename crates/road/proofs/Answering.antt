@@ -57,8 +57,3 @@ module _ (b : List ℕ) where
   pub read-refused : (o : RoadBook) (why : ℕ) → o ≡ told (roadRefusal b) (junctions b) (roadCount b) → o ≡ Refused why
       → (roadRefusal b ≡ why) × (1 ≤ why)
   read-refused o why e f = told-why (roadRefusal b) (junctions b) (roadCount b) why (sym e ∙ f)
-
-  -- a book that passes has a sound layout
-  pub layout-zero : roadRefusal b ≡ 0 → roadLayoutRefusal b ≡ 0
-  unfolding roadRefusal
-  layout-zero e = first-none (roadLayoutRefusal b) _ e .0

@@ -22,12 +22,6 @@ module _ {net : List Arc} where
   pub least-unique : {u v s t : ℕ} → Least net u v s → Least net u v t → s ≡ t
   least-unique {s = s} {t = t} x y = omega (arith, x .least t (y .walk), y .least s (x .walk))
 
-  pub least-self : (u : ℕ) → Least net u u 0
-  least-self u = record { walk = stay; least = λ s w. omega arith }
-
-  pub least-triangle : {u v w r s t : ℕ} → Least net u v s → Least net v w t → Least net u w r → r ≤ s + t
-  least-triangle {s = s} {t = t} x y z = z .least (s + t) (join (x .walk) (y .walk))
-
 -- A walk along roads, the other way round.
 pub turn : (rs : List Road) {u v t : ℕ} → Walk (arcs rs) u v t → Walk (arcs rs) v u t
 turn rs stay = stay

@@ -2,17 +2,11 @@
 use mathlib.Core.Path.{_≡_, refl}
 use mathlib.Core.List.{List, [], _∷_}
 use Prim.Native.Nat.{ℕ, suc}
-use Rattle.book.specs.Bytes.{u16At}
-use Rattle.road_layout.specs.Road.{junctions, roadCount, roadAt, roadsTo, roads}
+use Rattle.road_layout.specs.Road.{roadCount, roadAt, roadsTo, roads}
 
 pub read-road : (b : List ℕ) (k low high seconds : ℕ) → low ≡ roadAt b k .low → high ≡ roadAt b k .high → seconds ≡ roadAt b k .seconds
     → record { low = low; high = high; seconds = seconds } ≡ roadAt b k
 read-road b k low high seconds el eh es = rw (el, eh, es) refl
-
--- the junction count
-pub read-junctions : (b : List ℕ) → u16At b 5 ≡ junctions b
-unfolding junctions
-read-junctions b = refl
 
 -- the roads, one more at a time
 pub roads-none : (b : List ℕ) → roadsTo b 0 ≡ []

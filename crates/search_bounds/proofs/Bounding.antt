@@ -16,7 +16,7 @@ use Rattle.search_bounds.specs.code.Rows.{rowsLower, rowsUpper}
 use Rattle.tree_layout.specs.code.Marks.{marksAt, landmarkOf, RecordAt}
 use Rattle.search_bounds.specs.code.Bounds.{rowsMark, rowsCrew, rowsBound, rowsWeight, markWeight, firstGreatest, rowsChosen, Crews}
 use Rattle.tree_layout.proofs.Reading.{header-landmarks}
-use Rattle.tree_layout.proofs.RecordFields.{marks-count, landmark-place, landmark-least, landmark-greatest}
+use Rattle.tree_layout.proofs.RecordFields.{marks-count, landmark-fields}
 
 -- a crew's junction has a place in each row
 pub crew-there : (crews : List ℕ) → Crews crews → (j : ℕ) → j < length crews → getD crews j 0 < 1024
@@ -36,7 +36,7 @@ module _ (b : List ℕ) (at : ℕ) (r : RecordAt b at) (j : ℕ) (h : j < landma
     (e : k ≡ landmarkOf (getD (marksAt b at) j noMark)) where
   -- the junction of landmark j
   pub place-read : k .place .number ≡ getD (marksAt b at) j noMark .place
-  place-read = ap (λ (x : Landmark). x .place .number) e ∙ landmark-place (getD (marksAt b at) j noMark)
+  place-read = landmark-fields k (getD (marksAt b at) j noMark) e .0
 
   pub place-there : k .place .number < 1024
   place-there = rw place-read (r .placed (getD (marksAt b at) j noMark) (getD-mem (marksAt b at) j noMark (omega (arith, marks-count b at))))
@@ -46,11 +46,7 @@ pub mark-read : (table : List ℕ) (rows q w : ℕ) (n : Mark) (k : Landmark) �
     → w ≡ crewBound (rowsLower table rows (k .place .number) q) (rowsUpper table rows (k .place .number) q) (k .least) (k .greatest)
     → w ≡ rowsMark table rows q n
 unfolding rowsMark
-mark-read table rows q w n k e f =
-    let p : k .place .number ≡ n .place = ap (λ (x : Landmark). x .place .number) e ∙ landmark-place n in
-    let a : k .least ≡ n .least = ap (λ (x : Landmark). x .least) e ∙ landmark-least n in
-    let g : k .greatest ≡ n .greatest = ap (λ (x : Landmark). x .greatest) e ∙ landmark-greatest n in
-    rw (p, a, g) at f
+mark-read table rows q w n k e f = let x = landmark-fields k n e in rw (x .0, x .1, x .2) at f
 
 -- ---- the definitions, opened
 

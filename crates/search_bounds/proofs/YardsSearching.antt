@@ -18,8 +18,6 @@ use Rattle.search_rules.proofs.Equations.{aggregate-none, aggregate-same, searc
 use Rattle.search_rules.proofs.Turns.{aggregate-take}
 use Rattle.search_rules.proofs.Measures.{aggregate-cons, f-is, yard-bound-is}
 use Rattle.search_bounds.specs.code.Rows.{rowsLower}
-use Rattle.search_bounds.specs.code.Tables.{LandmarkTable}
-use Rattle.search_bounds.proofs.Tables.{lower-table}
 use Rattle.search_bounds.specs.code.Measures.{toCrews, fBy, crewAbsDiff, yardBoundBy}
 use Rattle.search_bounds.proofs.ToCrews.{to-none, to-cons, to-at}
 
@@ -78,8 +76,3 @@ module _ (road tree : List ℕ) (a : Asking) (crews : List ℕ) where
           alike : aggregate (a .code) g crews ≡ aggregate (a .code) (λ q. max (lower j (e .yard) q) (absDiff (dist road (m .place) q) (e .distance))) crews
           alike = aggregate-same (a .code) g (λ q. max (lower j (e .yard) q) (absDiff (dist road (m .place) q) (e .distance))) crews
               (λ q k. ap (λ (z : Instance). max (lower z (e .yard) q) (absDiff (dist road (m .place) q) (e .distance))) (search-of road tree a crews))
-
-    -- under the search's landmark table
-    pub bound-of : (rows : ℕ) (table : List ℕ) → LandmarkTable i rows table → e .yard < i .tree .junctions → ((q : ℕ) → Mem q crews → q < i .tree .junctions)
-        → yardBoundBy (a .code) table rows crews out (e .yard) (e .distance) (length crews) ≡ yardBound i m e
-    bound-of rows table s h there = bound-by table rows (λ q k. lower-table i rows table s (e .yard) q h (there q k))

@@ -109,7 +109,7 @@ refused-is n = refl
 settled-one : (b : Bool) → _≡_ {A = ℕ} (choose b 1 0) 1 → T b
 settled-one b e = choose-positive b 1 (omega arith) .0
 
-same-areas : {v w r s : List ℕ} → v ≡ w → r ≡ s → _≡_ {A = Areas} (record { work = v; results = r }) (record { work = w; results = s })
+pub same-areas : {v w r s : List ℕ} → v ≡ w → r ≡ s → _≡_ {A = Areas} (record { work = v; results = r }) (record { work = w; results = s })
 same-areas e f = rw (e, f) refl
 
 -- ---- of a call on two areas

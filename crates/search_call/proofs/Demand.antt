@@ -1,13 +1,12 @@
 -- Demand 3, and what is promised beside it. Assumes nothing.
 use mathlib.Core.Bool.{true, not}
-use mathlib.Core.Path.{_≡_, refl, ap, _∙_}
+use mathlib.Core.Path.{_≡_, ap, _∙_}
 use mathlib.Core.List.{List, [], _++_, List·Memᴰ as Mem}
 use mathlib.Core.Option.{Option, none, some, Option·some-ne-none, Option·none-ne-some, Option·some-injective}
 use Prim.Native.Nat.{ℕ, _+_, _*_, _≤_}
 use native.Mathlib.Omega.{arith}
 use lib.ListN.{length, drop}
 use lib.Dec.{T, not-T}
-use Rattle.book.specs.Choose.{choose}
 use Rattle.book.specs.Bytes.{Bytes}
 use Rattle.book.specs.Lists.{keepIf}
 use Rattle.book.specs.Writing.{write}
@@ -21,6 +20,7 @@ use Rattle.search_rules.specs.Order.{YardBefore}
 use Rattle.search_rules.specs.Books.{searchOf, Passed}
 use Rattle.search_rules.specs.Walks.{FirstYards, DriveYards}
 use Rattle.search_rules.specs.Theorems.{Listing, Decided as RulesDecided}
+use Rattle.book.proofs.Choosing.{choose-yes}
 use Rattle.search_rules.proofs.Books.{accepted-of}
 use Rattle.search_rules.proofs.ByKinds.{asked-in, asked-out, asked-held}
 use Rattle.search_rules.proofs.Asked.{asked-there, asked-ends, asked-settles}
@@ -35,7 +35,7 @@ use Rattle.search_call.specs.Call.{ruleBy, accepted, Call, Areas, Search
 use Rattle.search_call.specs.Demand.{OnPassing, NotRefused, Settled, ForYards, ForDrive, code, k, crews, arcs, limit, yards, wantedYards, innerRegions, instanceOf, list}
 use Rattle.search_call.specs.Demand.{Demand3, KeysTrue, TrueList, DecidedSearch, AnyTree, OwnYards}
 use Rattle.search_call.proofs.Calls.{on-settled, settled-on, spent-on, on-listed, on-taken, on-measured, on-tests, on-accepted, on-refused, work-zeroed}
-use Rattle.search_call.proofs.Calls.{results-written, results-kept, areas-kept}
+use Rattle.search_call.proofs.Calls.{results-written, results-kept, areas-kept, accepted-is}
 use Rattle.search_call.proofs.Instances.{road, tree, asking, asking-by, wanted-is, for-yards, for-drive, well, covers, sound}
 use Rattle.search_call.proofs.Measured.{within-last, within-drive, key-is-bound, full-measured, short-measured, drive-measured}
 use Rattle.search_call.proofs.Bounded.{has-bound, one-bound}
@@ -53,8 +53,7 @@ over-start w b h = write-is w b 0 (omega arith) ∙ ap (λ (n : ℕ). w ++ drop 
 -- nothing is returned of an empty list, settled at once
 empty-answer : accepted (record { settled = true; listed = []; taken = 0; measured = 0 })
     ≡ record { refusal = 0; settled = 1; listed = 0; taken = 0; measured = 0 }
-unfolding accepted choose
-empty-answer = refl
+empty-answer = accepted-is _ ∙ (λ i. record { refusal = 0; settled = choose-yes true 1 0 tt i; listed = 0; taken = 0; measured = 0 })
 
 -- ---- one search
 

@@ -21,7 +21,7 @@ use Rattle.search_rules.proofs.Versions.{answer-alike}
 use Rattle.search_rules.proofs.WithoutKinds.{any-kind, version-1-run, version-1-answer}
 use Rattle.search_call.specs.Call.{Want, askingBy, mostBy, mostYards, treeRefusalIn, searchRefusal, searchAnswer, searchFound, resultsAfter, Call, Areas, Search, foundOn, callOn}
 use Rattle.search_call.specs.Demand.{NotRefused, yards, wantedYards, instanceOf, limit, Alike, VersionsAgree}
-use Rattle.search_call.proofs.Calls.{on-tests}
+use Rattle.search_call.proofs.Calls.{on-tests, same-areas}
 
 -- ---- two tree books that are accepted, of one road book, query and want
 
@@ -55,9 +55,6 @@ module _ (road tree tree′ query : List ℕ) (want : Want) (ok : treeRefusal tr
   same-results work results = rw (same-refusal work (length results), same-answer) refl
 
 -- ---- two calls
-
-same-areas : {v w r s : List ℕ} → v ≡ w → r ≡ s → _≡_ {A = Areas} (record { work = v; results = r }) (record { work = w; results = s })
-same-areas e f = rw (e, f) refl
 
 module _ (c d : Call) (a : Areas) (er : c .road ≡ d .road) (eq : c .query ≡ d .query) (ew : c .want ≡ d .want) (ok : treeRefusal (c .tree) ≡ 0)
     (ok′ : treeRefusal (d .tree) ≡ 0) (alike : Alike (decode (c .tree)) (decode (d .tree))) where

@@ -9,12 +9,11 @@ use Rattle.search_rules.specs.Order.{Entry}
 use Rattle.search_rules.specs.Rule.{inDrive}
 use Rattle.search_rules.specs.Held.{insert}
 use Rattle.search_rules.specs.Keeping.{keepBy}
+use Rattle.search_rules.proofs.Ruling.{drive-keep}
 
 module _ (e : Entry) (held : List Entry) (s : ℕ) where
   pub keep-far : s < e .distance → held ≡ keepBy (inDrive s) e held
-  unfolding keepBy
-  keep-far h = sym (choose-no (leb (e .distance) s) (insert e held) held (not-T (leb (e .distance) s) (λ t. omega (arith, leb→le (e .distance) s t))))
+  keep-far h = sym (drive-keep held s e ∙ choose-no (leb (e .distance) s) (insert e held) held (not-T (leb (e .distance) s) (λ t. omega (arith, leb→le (e .distance) s t))))
 
   pub keep-near : (new : List Entry) → e .distance ≤ s → new ≡ insert e held → new ≡ keepBy (inDrive s) e held
-  unfolding keepBy
-  keep-near new h f = f ∙ sym (choose-yes (leb (e .distance) s) (insert e held) held (le→leb (e .distance) s h))
+  keep-near new h f = f ∙ sym (drive-keep held s e ∙ choose-yes (leb (e .distance) s) (insert e held) held (le→leb (e .distance) s h))

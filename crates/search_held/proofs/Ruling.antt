@@ -15,6 +15,7 @@ use Rattle.search_rules.specs.Held.{hold, greatestHeld}
 use Rattle.search_rules.specs.Keeping.{keepBy, enoughBy}
 use Rattle.search_rules.specs.Ceiling.{ceilingBy}
 use Rattle.search_rules.specs.Run.{words}
+use Rattle.search_rules.proofs.Ruling.{nearest-enough, drive-enough, nearest-ceiling, drive-ceiling, nearest-keep}
 use Rattle.search_order.proofs.Pairing.{pairs-none, pairs-length}
 use Rattle.search_first.specs.declared.Held.{Held}
 use Rattle.search_first.specs.code.Held.{heldOf}
@@ -28,41 +29,34 @@ use Rattle.search_held.specs.code.Rules.{ruleOf, heldBy, countBy, Fits}
 
 module _ (rule : Rule) (kept : Kept) (least : ℕ) (ws : List ℕ) where
   pub enough-few : (k : ℕ) → rule ≡ Nearest k → (kept .held .count ≡ k → ⊥) → false ≡ enoughBy (ruleOf rule) (heldBy (ruleOf rule) kept ws) least
-  unfolding enoughBy
-  enough-few k e h = rw (e, pairs-length, ne-eqb (kept .held .count) k h) refl
+  enough-few k e h = rw (e, nearest-enough, pairs-length, ne-eqb (kept .held .count) k h) refl
 
   pub enough-full : (k g : ℕ) → rule ≡ Nearest k → kept .held .count ≡ k → g ≡ greatestHeld (heldOf (kept .held))
       → ltb g least ≡ enoughBy (ruleOf rule) (heldBy (ruleOf rule) kept ws) least
-  unfolding enoughBy
-  enough-full k g e h f = rw (e, pairs-length, eq-eqb (kept .held .count) k h, f) refl
+  enough-full k g e h f = rw (e, nearest-enough, pairs-length, eq-eqb (kept .held .count) k h, f) refl
 
   pub enough-drive : (s : ℕ) → rule ≡ InDrive s → ltb s least ≡ enoughBy (ruleOf rule) (heldBy (ruleOf rule) kept ws) least
-  unfolding enoughBy
-  enough-drive s e = rw e refl
+  enough-drive s e = rw (e, drive-enough) refl
 
 -- ---- what the next yard is held against
 
 module _ (rule : Rule) (kept : Kept) (ws : List ℕ) where
   pub ceiling-few : (k : ℕ) → rule ≡ Nearest k → (kept .held .count ≡ k → ⊥) → none ≡ ceilingBy (ruleOf rule) (heldBy (ruleOf rule) kept ws)
-  unfolding ceilingBy
-  ceiling-few k e h = rw (e, pairs-length, ne-eqb (kept .held .count) k h) (sym (choose-no false (some (greatestHeld (heldOf (kept .held)))) none tt))
+  ceiling-few k e h = rw (e, nearest-ceiling, pairs-length, ne-eqb (kept .held .count) k h) (sym (choose-no false (some (greatestHeld (heldOf (kept .held)))) none tt))
 
   pub ceiling-full : (k g : ℕ) → rule ≡ Nearest k → kept .held .count ≡ k → g ≡ greatestHeld (heldOf (kept .held))
       → some g ≡ ceilingBy (ruleOf rule) (heldBy (ruleOf rule) kept ws)
-  unfolding ceilingBy
-  ceiling-full k g e h f = rw (e, pairs-length, eq-eqb (kept .held .count) k h, f) (sym (choose-yes true (some (greatestHeld (heldOf (kept .held)))) none tt))
+  ceiling-full k g e h f = rw (e, nearest-ceiling, pairs-length, eq-eqb (kept .held .count) k h, f) (sym (choose-yes true (some (greatestHeld (heldOf (kept .held)))) none tt))
 
   pub ceiling-drive : (s : ℕ) → rule ≡ InDrive s → some s ≡ ceilingBy (ruleOf rule) (heldBy (ruleOf rule) kept ws)
-  unfolding ceilingBy
-  ceiling-drive s e = rw e refl
+  ceiling-drive s e = rw (e, drive-ceiling) refl
 
 -- ---- what is kept
 
 module _ (rule : Rule) (kept : Kept) (e : Entry) (list : List ℕ) where
   pub keep-nearest : (k : ℕ) (new : Held) (after : List ℕ) → rule ≡ Nearest k → heldOf new ≡ hold k e (heldOf (kept .held))
       → heldBy (ruleOf rule) (record { held = new; listed = kept .listed }) after ≡ keepBy (ruleOf rule) e (heldBy (ruleOf rule) kept list)
-  unfolding keepBy
-  keep-nearest k new after r f = rw r f
+  keep-nearest k new after r f = rw (r, nearest-keep) f
 
   pub keep-drive : (s n : ℕ) (after : List ℕ) → rule ≡ InDrive s → listedIn after n ≡ keepBy (inDrive s) e (listedIn list (kept .listed))
       → heldBy (ruleOf rule) (record { held = kept .held; listed = n }) after ≡ keepBy (ruleOf rule) e (heldBy (ruleOf rule) kept list)

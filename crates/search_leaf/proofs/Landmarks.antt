@@ -22,7 +22,7 @@ use Rattle.tree_layout.specs.code.Accessors.{fieldsAt}
 use Rattle.tree_layout.specs.declared.Header.{Header}
 use Rattle.tree_layout.specs.declared.Fields.{Fields}
 use Rattle.tree_layout.proofs.Places.{decode-length}
-use Rattle.tree_layout.proofs.Reading.{leaf-list, leaf-place}
+use Rattle.tree_layout.proofs.MarkFields.{leaf-place, leaf-pairs}
 use Rattle.tree_layout.proofs.MarkPlaces.{listMark, region-marks, leaf-mark-at}
 use Rattle.tree.proofs.Fielding.{laid-region, laid-children}
 use Rattle.search_rules.specs.Rule.{Asking}
@@ -196,7 +196,7 @@ module _ (road tree : List ℕ) (a : Asking) (crews drives places table : List �
       -- its list, its junction, and where they are
       mark-list : mark .list ≡ listAt tree place n
       mark-list = ap (λ (m : Mark). m .list) mark-is
-          ∙ (leaf-list (u16At tree place) (readList (version tree) (listPart (version tree) tree n (place + junctionSize)) n 0) ∙ sym part)
+          ∙ (leaf-pairs (u16At tree place) (readList (version tree) (listPart (version tree) tree n (place + junctionSize)) n 0) ∙ sym part)
 
       mark-place : mark .place ≡ u16At tree place
       mark-place = ap (λ (m : Mark). m .place) mark-is

@@ -46,3 +46,4 @@ pub mod ExampleWays
 pub mod TwoWay
 pub mod Agreement
 pub mod WorkedWays
+pub mod Ruling

@@ -46,3 +46,13 @@ module _ (i : Instance) (limit r n : ℕ) (words list measured : List ℕ) (rule
   pub answer-is : answerOf rule list o ≡ answer i limit
   unfolding answerOf
   answer-is = same-answer (answer i limit) (o .settled) _ (o .taken) (o .measured) settled-is listed-is (taken ∙ sym (answer-taken i limit)) measured-is
+
+-- an outcome's answer, field by field
+pub answered : (rule : Rule) (list : List ℕ) (o : Outcome) → answerOf rule list o ≡ record {
+  settled = o .settled;
+  listed = choose (o .settled) (heldBy rule (o .kept) list) [];
+  taken = o .taken;
+  measured = o .measured;
+}
+unfolding answerOf
+answered rule list o = refl

@@ -14,6 +14,7 @@ use Rattle.search_held.specs.code.Rules.{heldBy, countBy}
 use Rattle.search_held.proofs.Ruling.{count-length}
 use Rattle.search_run.specs.declared.Outcome.{Outcome}
 use Rattle.search_run.specs.code.Answers.{answerOf}
+use Rattle.search_run.proofs.Answering.{answered}
 use Rattle.search_call.specs.Call.{Found, accepted}
 use Rattle.search_call.proofs.Calls.{accepted-is}
 use Rattle.search_tree.specs.Found.{foundOf, writtenBy}
@@ -27,36 +28,35 @@ same-found s l t m s′ l′ t′ m′ e f g h = rw (e, f, g, h) refl
 
 module _ (rule : Rule) (list : List ℕ) (o : Outcome) where
   pub measured-of : answerOf rule list o .measured ≡ o .measured
-  unfolding answerOf
-  measured-of = refl
+  measured-of = rw (answered rule list o) refl
 
   pub spent-found : (m : ℕ) → o .settled ≡ false → m ≡ o .measured
       → foundOf (record { refusal = 0; settled = 0; listed = 0; taken = o .taken; measured = m }) ≡ accepted (answerOf rule list o)
-  unfolding foundOf answerOf
+  unfolding foundOf
   spent-found m z e =
       let t : T (not (o .settled)) = false-T z in
-      same-found 0 0 (o .taken) m _ _ _ _ (sym (choose-no (o .settled) 1 0 t)) (sym (ap length (choose-no (o .settled) (heldBy rule (o .kept) list) [] t))) refl e
-      ∙ sym (accepted-is (answerOf rule list o))
+      rw (answered rule list o) (same-found 0 0 (o .taken) m _ _ _ _ (sym (choose-no (o .settled) 1 0 t)) (sym (ap length (choose-no (o .settled) (heldBy rule (o .kept) list) [] t))) refl e
+      ∙ sym (accepted-is _))
 
   pub settled-found : (n m : ℕ) → o .settled ≡ true → n ≡ countBy rule (o .kept) → m ≡ o .measured
       → foundOf (record { refusal = 0; settled = 1; listed = n; taken = o .taken; measured = m }) ≡ accepted (answerOf rule list o)
-  unfolding foundOf answerOf
+  unfolding foundOf
   settled-found n m z f e =
       let t : T (o .settled) = true-T z in
-      same-found 1 n (o .taken) m _ _ _ _ (sym (choose-yes (o .settled) 1 0 t))
+      rw (answered rule list o) (same-found 1 n (o .taken) m _ _ _ _ (sym (choose-yes (o .settled) 1 0 t))
       (f ∙ sym (ap length (choose-yes (o .settled) (heldBy rule (o .kept) list) [] t) ∙ count-length rule (o .kept) list)) refl e
-      ∙ sym (accepted-is (answerOf rule list o))
+      ∙ sym (accepted-is _))
 
   pub spent-written : (results : List ℕ) → o .settled ≡ false → results ≡ writtenBy (answerOf rule list o) results
-  unfolding writtenBy answerOf
-  spent-written results z = sym (choose-no (o .settled) _ results (false-T z))
+  unfolding writtenBy
+  spent-written results z = rw (answered rule list o) (sym (choose-no (o .settled) _ results (false-T z)))
 
   pub settled-written : (results out : List ℕ) → o .settled ≡ true → out ≡ write results 0 (words (heldBy rule (o .kept) list)) → out ≡ writtenBy (answerOf rule list o) results
-  unfolding writtenBy answerOf
+  unfolding writtenBy
   settled-written results out z e =
       let t : T (o .settled) = true-T z in
-      e ∙ ap (λ (l : List Entry). write results 0 (words l)) (sym (choose-yes (o .settled) (heldBy rule (o .kept) list) [] t))
-      ∙ sym (choose-yes (o .settled) _ results t)
+      rw (answered rule list o) (e ∙ ap (λ (l : List Entry). write results 0 (words l)) (sym (choose-yes (o .settled) (heldBy rule (o .kept) list) [] t))
+      ∙ sym (choose-yes (o .settled) _ results t))
 
 -- what is reported of them
 pub found-so : (f : Found) (a b : Answer) → f ≡ accepted a → a ≡ b → f ≡ accepted b

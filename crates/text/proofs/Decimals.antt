@@ -1,25 +1,25 @@
 -- Numbers in decimal: how one is made from a tenth of it; and the fewest digits in base 10 are these. Assumes nothing.
-use mathlib.Core.Path.{_≡_, refl, sym, ap, _∙_}
+use mathlib.Core.Path.{_≡_, sym, ap, _∙_}
 use mathlib.Core.Logic.{_⊎_, inl, inr}
 use mathlib.Core.List.{List, [], _∷_, _++_}
 use Prim.Native.Nat.{ℕ, zero, suc, _+_, _*_, _-_, _/_, _%_, _^_, _≤_, _<_}
 use native.Mathlib.Nat.{pow-suc, one-le-pow, pow-le-pow-right}
 use native.Mathlib.Numerals.{unary-clauses}
 use native.Mathlib.Omega.{arith}
-use borrow.Author.Tests.{lt-ltb, le-ltb}
+use borrow.Author.Tests.{lt-ltb}
+use lib.Dec.{ltb, lt→ltb, ltb→lt, not-T}
 use Rattle.io.specs.Digits.{digits, Fewest, glyph}
-use Rattle.book.specs.Choose.{choose}
-use Rattle.book.proofs.Choosing.{lt-or-ge}
+use Rattle.book.proofs.Choosing.{lt-or-ge, choose-yes, choose-no}
 use Rattle.text.specs.Text.{digit, decimalWithin, decimal}
 
 -- a number below 10, and any other
 within-small : (most n : ℕ) → n < 10 → decimalWithin (suc most) n ≡ digit n
-unfolding decimalWithin choose
-within-small most n h = simp (lt-ltb n 10 h)
+unfolding decimalWithin
+within-small most n h = choose-yes (ltb n 10) _ _ (lt→ltb n 10 h)
 
 within-step : (most n : ℕ) → 10 ≤ n → decimalWithin (suc most) n ≡ decimalWithin most (n / 10) ++ digit (n % 10)
-unfolding decimalWithin choose
-within-step most n h = simp (le-ltb n 10 h)
+unfolding decimalWithin
+within-step most n h = choose-no (ltb n 10) _ _ (not-T (ltb n 10) (λ t. omega (arith, ltb→lt n 10 t)))
 
 -- more digits than a number has change nothing
 within-enough : (f g n : ℕ) → n < f → n < g → decimalWithin f n ≡ decimalWithin g n

@@ -15,7 +15,7 @@ use Rattle.book.proofs.Lists.{eq→eqb, ne→neqb, distinct-append}
 use Rattle.tree_layout.specs.Values.{Region, regionAt}
 use Rattle.tree_leaf.specs.Leaf.{leafOk, firstList}
 use Rattle.tree_leaf.specs.Leaf.{yardsIn}
-use Rattle.tree.specs.Yards.{endOf, starts, hops, childrenOf, ownYards, leafYardsFrom, sumFrom, oneLeaf, oneInner}
+use Rattle.tree.specs.Yards.{endOf, starts, hops, childrenOf, ownYards, leafYardsFrom, yardsBelow, sumFrom, oneLeaf, oneInner}
 use Rattle.tree_leaf.proofs.Named.{yards-length, first-range, first-once}
 use Rattle.tree.proofs.Forest.{Forest, none, leaf, wrap, join, rise, fits, Rooted}
 
@@ -32,6 +32,11 @@ module _ (rs : List Region) where
   -- The yards of the leaves from number i up to e.
   unfoldable pub span : ℕ → ℕ → List ℕ
   span i e = leafYardsFrom rs (e - i) i
+
+  -- the yards below a region are those of the leaves of its subtree
+  pub below-span : (r : ℕ) → yardsBelow rs r ≡ span r (endOf rs r)
+  unfolding yardsBelow span
+  below-span r = refl
 
   yards-add : (a b i : ℕ) → leafYardsFrom rs (a + b) i ≡ leafYardsFrom rs a i ++ leafYardsFrom rs b (i + a)
   unfolding leafYardsFrom

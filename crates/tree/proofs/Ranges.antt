@@ -11,16 +11,11 @@ use Rattle.tree.specs.Shape.{treeRefusal}
 use Rattle.tree.specs.Yards.{endOf, yardsBelow, treeYards}
 use Rattle.tree.specs.Theorems.{LeafOf, Whole}
 use Rattle.tree.proofs.Forest.{Forest, none, leaf, wrap, join, end-is, Rooted}
-use Rattle.tree.proofs.ForestLaws.{Sane, span, span-mem, visit, sub, leaf-order}
+use Rattle.tree.proofs.ForestLaws.{Sane, span, below-span, span-mem, visit, sub, leaf-order}
 use Rattle.tree.proofs.Shaping.{root-end, root-forest, facts-shaped}
 use Rattle.tree.proofs.Theorems.{layout-sane, layout-there, tree-facts, accepted-whole}
 
 module _ (rs : List Region) where
-  -- the yards below a region are those of the leaves of its subtree
-  pub below-span : (r : ℕ) → yardsBelow rs r ≡ span rs r (endOf rs r)
-  unfolding yardsBelow span
-  below-span r = refl
-
   -- a region after another's subtree has a higher range
   pub subtree-order : Sane rs → {n i low high left e : ℕ} → Forest rs n i low high left e → (j k : ℕ) → i ≤ j → j < e → endOf rs j ≤ k → k < e
       → regionAt rs j .after ≤ regionAt rs k .first

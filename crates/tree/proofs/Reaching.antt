@@ -109,6 +109,10 @@ module _ (rs : List Region) where
   unfolding levelOf levelBy
   level-high f g p x h = let y : suc x - 0 ≡ suc x = omega arith in rw y at (levels-in f g p x (omega arith) h)
 
+  pub level-is : (x : ℕ) → levelOf rs x ≡ levelBy (endOf rs) x
+  unfolding levelOf
+  level-is x = refl
+
   pub level-low : (x : ℕ) → x < endOf rs 0 → 1 ≤ levelOf rs x
   unfolding levelOf levelBy holders
   level-low x h = rw (choose-yes {A = ℕ} (ltb x (endOf rs 0)) 1 0 (lt→ltb x (endOf rs 0) h)) (omega arith)

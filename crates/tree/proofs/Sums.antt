@@ -14,10 +14,6 @@ use Rattle.tree_layout.proofs.Numbered.{region-zero, region-later}
 use Rattle.tree.specs.Yards.{sumFrom, oneLeaf, oneInner}
 use Rattle.tree.proofs.ForestLaws.{sum}
 
-pub sum-nothing : (rs : List Region) (f : Region → ℕ) (i : ℕ) → sumFrom rs f 0 i ≡ 0
-unfolding sumFrom
-sum-nothing rs f i = refl
-
 sum-shift : (f : Region → ℕ) (r : Region) (rs : List Region) (n i : ℕ) → sumFrom (r ∷ rs) f n (suc i) ≡ sumFrom rs f n i
 unfolding sumFrom
 sum-shift f r rs zero i = refl

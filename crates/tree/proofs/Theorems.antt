@@ -25,7 +25,7 @@ use Rattle.tree.specs.Facts.{Preorder}
 use Rattle.tree.specs.Theorems.{TreeFacts, LeafOf, Regions, Holdings, Whole}
 use Rattle.tree_leaf.proofs.Named.{list-facts, first-length}
 use Rattle.tree.proofs.Forest.{Forest, none, leaf, wrap, join, end-is, rise, Rooted}
-use Rattle.tree.proofs.ForestLaws.{Sane, span, sum, span-split, span-none, span-leaf, span-inner, own-leaf, own-inner, visit, child, parent, adopted}
+use Rattle.tree.proofs.ForestLaws.{Sane, span, sum, below-span, span-split, span-none, span-leaf, span-inner, own-leaf, own-inner, visit, child, parent, adopted}
 use Rattle.tree.proofs.ForestLaws.{before-start, sub, leaf-ok, leaf-order, yard-count, yard-range, yard-once, leaf-count, inner-count}
 use Rattle.tree.proofs.Shaping.{inner-forest, EndsMeet, root-end, root-forest, root-yards, ends-meet, ranges-of, shape-facts, facts-shaped}
 use Rattle.tree.proofs.Members.{yard-from}
@@ -81,18 +81,14 @@ accepted-iff b = (tree-facts b, facts-tree b)
 -- ---- yards below a region
 
 module _ (rs : List Region) (sane : Sane rs) where
-  below-span : (r : ℕ) → yardsBelow rs r ≡ span rs r (endOf rs r)
-  unfolding yardsBelow span
-  below-span r = refl
-
   -- a forest's yards are those below its roots, one root after the other
   gathered : {n i low high left e : ℕ} → Forest rs n i low high left e → gather (yardsBelow rs) (starts (endOf rs) n i) ≡ span rs i e
   unfolding gather starts
   gathered (none {i = i} h z) = sym (span-none rs i)
-  gathered (leaf {i = i} h x y z) = append-nil (yardsBelow rs i) ∙ (below-span i ∙ rw z refl)
-  gathered (wrap {i = i} h x y z g) = append-nil (yardsBelow rs i) ∙ (below-span i ∙ rw z refl)
+  gathered (leaf {i = i} h x y z) = append-nil (yardsBelow rs i) ∙ (below-span rs i ∙ rw z refl)
+  gathered (wrap {i = i} h x y z g) = append-nil (yardsBelow rs i) ∙ (below-span rs i ∙ rw z refl)
   gathered (join {n = n} {i = i} {m = m} {e = e} a b c z g k) =
-      let w : yardsBelow rs i ≡ span rs i m = below-span i ∙ rw z refl in
+      let w : yardsBelow rs i ≡ span rs i m = below-span rs i ∙ rw z refl in
       rw (w, z, gathered k) (sym (span-split rs i m e (omega (arith, rise rs g)) (omega (arith, rise rs k))))
 
 -- ---- a shaped tree
@@ -184,21 +180,21 @@ module _ (t : Tree) (sane : Sane (t .regions)) (there : 1 ≤ length (t .regions
   unfolding hops
   leaf-below r h c =
       let e : endOf rs r ≡ suc r = ends-at r h ∙ rw c refl in
-      below-span rs sane r ∙ rw e (span-leaf rs sane r c)
+      below-span rs r ∙ rw e (span-leaf rs sane r c)
 
   joined-of : (r : ℕ) → r < length rs → 0 < regionAt rs r .children → yardsBelow rs r ≡ gather (yardsBelow rs) (childrenOf rs r)
   unfolding childrenOf
   joined-of r h c =
-      below-span rs sane r ∙ (span-inner rs sane r (endOf rs r) (visit rs sane root r (omega arith) h .up) c
+      below-span rs r ∙ (span-inner rs sane r (endOf rs r) (visit rs sane root r (omega arith) h .up) c
       ∙ sym (gathered rs sane (inner-forest rs root r (omega arith) h c)))
 
   pub tree-holdings : Holdings rs
   tree-holdings = record {
     joined = joined-of;
     ranges = ranges-of t sane there ok;
-    inside = λ r y h k. yard-range rs sane (subtree-at r h) y (rw (below-span rs sane r) at k);
-    once = λ r h. rw (below-span rs sane r) (yard-once rs sane (subtree-at r h));
-    count = λ r h. rw (below-span rs sane r) (yard-count rs sane (subtree-at r h));
+    inside = λ r y h k. yard-range rs sane (subtree-at r h) y (rw (below-span rs r) at k);
+    once = λ r h. rw (below-span rs r) (yard-once rs sane (subtree-at r h));
+    count = λ r h. rw (below-span rs r) (yard-count rs sane (subtree-at r h));
     listed = λ r h c m k y. let f = list-facts (regionAt rs r) (leaf-ok rs sane root r (omega arith) h c) m k in
         ((λ j. f .from-first y (rw (leaf-below r h c) at j)), (λ j. rw (leaf-below r h c) (f .to-first y j)));
     listed-once = λ r h c m k. list-facts (regionAt rs r) (leaf-ok rs sane root r (omega arith) h c) m k .once-each;

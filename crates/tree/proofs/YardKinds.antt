@@ -2,7 +2,7 @@
 use mathlib.Core.Path.{_≡_, refl, sym, ap, _∙_}
 use mathlib.Core.Logic.{_⊎_, inl, inr}
 use mathlib.Core.Bool.{not}
-use mathlib.Core.List.{List, [], _∷_, List·Memᴰ as Mem, List·Memᴰ·head as head, List·Memᴰ·not-nil as not-nil}
+use mathlib.Core.List.{List, [], _∷_, List·Memᴰ as Mem, List·Memᴰ·not-nil as not-nil}
 use mathlib.Core.List.{List·Memᴰ·cases-cons as cases-cons, Memᴰ·cast as cast}
 use Prim.Native.Nat.{ℕ, zero, suc, _+_, _≤_, _<_}
 use native.Mathlib.Decide.{ℕ-discrete}
@@ -13,12 +13,12 @@ use Rattle.book.specs.Choose.{choose}
 use Rattle.book.specs.Lists.{Distinct}
 use Rattle.book.proofs.Choosing.{choose-case, choose-yes, choose-no, choose-map, T-split}
 use Rattle.book.proofs.Lists.{eq→eqb, ne→neqb}
-use Rattle.tree_layout.specs.Values.{Element, Mark, Region, Tree, regionAt}
+use Rattle.tree_layout.specs.Values.{Element, Region, Tree, regionAt}
 use Rattle.tree_layout.specs.Decode.{decode}
 use Rattle.tree_layout.specs.code.Formed.{FormedTree}
 use Rattle.tree_layout.proofs.Formed.{decode-formed, at-mem}
 use Rattle.tree_leaf.specs.Leaf.{yardsIn, names, firstList}
-use Rattle.tree_leaf.proofs.Named.{names-mem, mem-names, yards-of, yards-from}
+use Rattle.tree_leaf.proofs.Named.{names-mem, mem-names, yards-none, yards-cons, yards-of, yards-from, first-mark-of}
 use Rattle.tree.specs.Shape.{treeRefusal}
 use Rattle.tree.specs.Yards.{ownYards, treeYards, kindsIn, ownList, kindsFrom, kindsOf}
 use Rattle.tree.specs.Theorems.{LeafOf, Whole}
@@ -29,15 +29,18 @@ use Rattle.tree.proofs.Theorems.{accepted-whole}
 
 -- in a list that names each yard once, an element's kinds are its yard's
 pub kinds-in : (es : List Element) → Distinct (yardsIn es) → (e : Element) → Mem e es → kindsIn es (e .yard) ≡ e .kinds
-unfolding kindsIn yardsIn
+unfolding kindsIn
 kinds-in [] d e k = absurd (not-nil k)
-kinds-in (g ∷ gs) d e k = go (cases-cons k) (λ j. kinds-in gs (d .1) e j)
+kinds-in (g ∷ gs) d e k = go (cases-cons k) (λ j. kinds-in gs (apart .1) e j)
   where
+    apart : (Mem (g .yard) (yardsIn gs) → ⊥) × Distinct (yardsIn gs)
+    apart = rw (yards-cons g gs) at d
+
     go : (e ≡ g) ⊎ Mem e gs → (Mem e gs → kindsIn gs (e .yard) ≡ e .kinds) → choose (eqb (g .yard) (e .yard)) (g .kinds) (kindsIn gs (e .yard)) ≡ e .kinds
     go (inl q) rec =
         choose-yes (eqb (g .yard) (e .yard)) _ _ (eq→eqb (g .yard) (e .yard) (ap (λ (x : Element). x .yard) (sym q))) ∙ ap (λ (x : Element). x .kinds) (sym q)
     go (inr j) rec =
-        choose-no (eqb (g .yard) (e .yard)) _ _ (ne→neqb (g .yard) (e .yard) (λ z. d .0 (cast z (yards-of gs e j)))) ∙ rec j
+        choose-no (eqb (g .yard) (e .yard)) _ _ (ne→neqb (g .yard) (e .yard) (λ z. apart .0 (cast z (yards-of gs e j)))) ∙ rec j
 
 -- ---- a region's own list
 
@@ -47,17 +50,17 @@ own-leaf r c = choose-yes (eqb (r .children) 0) _ _ (eq→eqb (r .children) 0 c)
 
 -- its yards are the region's own
 own-yards : (r : Region) → ownYards r ≡ yardsIn (ownList r)
-unfolding ownYards ownList yardsIn
-own-yards r = sym (choose-map yardsIn (eqb (r .children) 0) (firstList (r .marks)) [])
+unfolding ownYards ownList
+own-yards r = sym (choose-map yardsIn (eqb (r .children) 0) (firstList (r .marks)) [] ∙ rw yards-none refl)
 
 -- a region whose own list names something is a leaf
 own-names : (r : Region) (y : ℕ) → T (names (ownList r) y) → r .children ≡ 0
-unfolding ownList names
+unfolding ownList
 own-names r y t = go (T-split (eqb (r .children) 0))
   where
     go : T (eqb (r .children) 0) ⊎ T (not (eqb (r .children) 0)) → r .children ≡ 0
     go (inl s) = eqb→eq (r .children) 0 s
-    go (inr s) = absurd (rw (choose-no (eqb (r .children) 0) (firstList (r .marks)) [] s) at t)
+    go (inr s) = absurd (not-nil (rw yards-none at (names-mem [] y (rw (choose-no (eqb (r .children) 0) (firstList (r .marks)) [] s) at t))))
 
 -- ---- the regions from a number on
 
@@ -77,12 +80,6 @@ kinds-from rs y j (suc n) i p q t u =
 
 -- ---- a whole tree
 
--- the first list, if it has an element, is that of a landmark
-list-mark : (ms : List Mark) (e : Element) → Mem e (firstList ms) → (m : Mark) × Mem m ms × (firstList ms ≡ m .list)
-unfolding firstList
-list-mark [] e k = absurd (not-nil k)
-list-mark (m ∷ ms) e k = (m, head refl, refl)
-
 module _ (t : Tree) (whole : Whole t) where
   abbrev rs : List Region
   rs = t .regions
@@ -93,7 +90,7 @@ module _ (t : Tree) (whole : Whole t) where
   -- a leaf holds the yards of its first list
   leaf-holds : (j : ℕ) → j < length rs → regionAt rs j .children ≡ 0 → (e : Element) → Mem e (first j) → LeafOf rs (e .yard) j
   leaf-holds j h c e k =
-      let m = list-mark (regionAt rs j .marks) e k in
+      let m = first-mark-of (regionAt rs j .marks) e k in
       record {
         number = h;
         leaf = c;
@@ -112,7 +109,7 @@ module _ (t : Tree) (whole : Whole t) where
   pub kinds-listed : (j : ℕ) → j < length rs → regionAt rs j .children ≡ 0 → (e : Element) → Mem e (first j) → kindsOf t (e .yard) ≡ e .kinds
   unfolding kindsOf
   kinds-listed j h c e k =
-      let m = list-mark (regionAt rs j .marks) e k in
+      let m = first-mark-of (regionAt rs j .marks) e k in
       let o = own-leaf (regionAt rs j) c in
       let n : T (names (ownList (regionAt rs j)) (e .yard)) = rw o (mem-names (first j) (e .yard) (yards-of (first j) e k)) in
       kinds-from rs (e .yard) j (length rs) 0 (omega arith) (omega arith) n (λ i l v. one-list j h c e k i (omega arith) v)
@@ -136,7 +133,7 @@ module _ (t : Tree) (whole : Whole t) where
       let x = yard-element y k in
       let j = x .0 in
       let e = x .1 in
-      let m = list-mark (regionAt rs j .marks) e (x .4) in
+      let m = first-mark-of (regionAt rs j .marks) e (x .4) in
       let q : kindsOf t (e .yard) ≡ e .kinds = kinds-listed j (x .2) (x .3) e (x .4) in
       let a : e .kinds ≡ 255 = formed (regionAt rs j) (at-mem rs j (x .2)) .any-listed v (m .0) (m .1) e (rw (m .2) at (x .4)) in
       rw (← x .5) (q ∙ a)

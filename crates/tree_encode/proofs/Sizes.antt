@@ -21,7 +21,8 @@ use Rattle.tree_layout.proofs.Places.{mark-size-leaf, mark-size-inner}
 use Rattle.tree_layout.specs.code.Formed.{Formed, FormedTree}
 use Rattle.tree_layout.proofs.Decoding.{record-size}
 use Rattle.tree.specs.Yards.{sumFrom}
-use Rattle.tree.proofs.Sums.{sum-nothing, sum-cons}
+use Rattle.tree.proofs.Counts.{sum-none}
+use Rattle.tree.proofs.Sums.{sum-cons}
 use Rattle.tree_encode.specs.Encode.{kindBytes, encodeElement, encodeList, encodeLeafMark, encodeInnerMark, encodeMark, encodeMarks, encodeRegion, encodeRegions}
 use Rattle.tree_encode.specs.Encode.{encodeBody, encode, treeRoom}
 use Rattle.tree_encode.specs.code.Facts.{sizeOf}
@@ -139,7 +140,7 @@ region-length v m r f = region-size v m r (f .count) (λ e k i. f .lists e k i .
 pub regions-length : (v m : ℕ) (rs : List Region) → ((r : Region) → Mem r rs → Formed v m r)
     → length (encodeRegions v rs) ≡ sumFrom rs (sizeOf v m) (length rs) 0
 unfolding encodeRegions
-regions-length v m [] f = sym (sum-nothing [] (sizeOf v m) 0)
+regions-length v m [] f = sym (sum-none [] (sizeOf v m) 0)
 regions-length v m (r ∷ rs) f = omega (
   arith,
   length-append (encodeRegion v r) (encodeRegions v rs),

@@ -18,10 +18,6 @@ pub inner-is : (place least greatest : ℕ) → innerMark place least greatest �
 unfolding innerMark
 inner-is place least greatest = refl
 
-pub first-more : (e : Element) (es : List Element) → firstDistance (e ∷ es) ≡ e .distance
-unfolding firstDistance
-first-more e es = refl
-
 -- the first of n + 1 pairs from a place on
 pub first-read : (v : ℕ) (p : List ℕ) (n at : ℕ) → firstDistance (readList v p (suc n) at) ≡ u32At p at
 unfolding firstDistance readList elementAt

@@ -2,10 +2,10 @@
 use mathlib.Core.Path.{_≡_, refl, ap}
 use mathlib.Core.Logic.{_⊎_, inl, inr}
 use mathlib.Core.Bool.{not}
-use mathlib.Core.List.{List, List·Memᴰ as Mem, List·Memᴰ·not-nil as not-nil, List·Memᴰ·cases-cons as cases-cons}
+use mathlib.Core.List.{List, [], List·Memᴰ as Mem, List·Memᴰ·not-nil as not-nil, List·Memᴰ·cases-cons as cases-cons}
 use Prim.Native.Nat.{ℕ, zero, suc, _+_, _<_}
 use native.Mathlib.Omega.{arith}
-use lib.ListN.{length}
+use lib.ListN.{length, getD}
 use lib.Dec.{T, eqb, eqb→eq}
 use Rattle.book.specs.Bytes.{u8At, u16At, u32At}
 use Rattle.book.specs.Open.{version}
@@ -13,7 +13,7 @@ use Rattle.book.proofs.Choosing.{choose-yes, choose-no, T-split}
 use Rattle.book.proofs.Lists.{eq→eqb, ne→neqb, neqb→ne, getD-mem}
 use Rattle.kinds.proofs.Reading.{kind-any}
 use Rattle.tree_layout.specs.Sizes.{fieldsSize, elementSize, leafMarkSize}
-use Rattle.tree_layout.specs.Values.{Element, Mark, Region, leafMark, innerMark, noRegion, regionAt}
+use Rattle.tree_layout.specs.Values.{Element, Mark, Region, leafMark, innerMark, noMark, noRegion, regionAt}
 use Rattle.tree_layout.specs.Decode.{elementAt, readList, listPart, readLists, readSpans, readMarks, readRegion, readRegions, sizeAt, decode, landmarkCount}
 use Rattle.tree_layout.specs.Decode.{regionCount}
 use Rattle.tree_layout.specs.code.Formed.{Formed, FormedTree}
@@ -129,6 +129,15 @@ unfolding decode
 decode-formed b = regions-formed b (landmarkCount b) (regionCount b) 12
 
 -- region j stands in the list of regions
+pub at-is : (rs : List Region) (j : ℕ) → regionAt rs j ≡ getD rs j noRegion
+unfolding regionAt
+at-is rs j = refl
+
 pub at-mem : (rs : List Region) (j : ℕ) → j < length rs → Mem (regionAt rs j) rs
 unfolding regionAt
 at-mem rs j h = getD-mem rs j noRegion h
+
+-- no landmark has an empty list
+pub no-mark-list : noMark .list ≡ []
+unfolding noMark
+no-mark-list = refl

@@ -8,7 +8,6 @@ pub mod Sizes
 pub mod Marks
 pub mod Refusing
 pub mod Vectors
-pub mod Lasts
 pub mod Ends
 pub mod MarkPlaces
 pub mod Leasts

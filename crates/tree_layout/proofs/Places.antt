@@ -5,9 +5,10 @@ use Prim.Native.Nat.{ℕ, zero, suc, _+_, _-_, _*_, _≤_, _<_}
 use native.Mathlib.Omega.{arith}
 use lib.ListN.{length, getD}
 use lib.Dec.{T, leb, eqb, le→leb, eqb→eq}
-use Rattle.book.specs.Bytes.{u8At, u16At, Bytes}
+use Rattle.book.specs.Bytes.{u8At, u16At}
 use Rattle.book.specs.Open.{version}
 use Rattle.book.proofs.Laws.{u16-small}
+use Rattle.book.proofs.Writing.{lent-bytes}
 use Rattle.book.proofs.Choosing.{choose-yes, choose-no, and-right, and-both}
 use Rattle.book.proofs.Lists.{eq→eqb, ne→neqb}
 use Rattle.tree_layout.specs.Values.{noRegion, regionAt}
@@ -42,8 +43,8 @@ size-is b m at fields mark e f = rw (e, f) refl
 -- the landmarks of a record take few bytes
 pub landmarks-small : (b : List ℕ) (m at : ℕ) → m ≤ 4 → ((i : ℕ) → getD b i 0 < 256)
     → m * markSize (version b) (u8At b (at + 4)) (u16At b (at + 5)) ≤ 1835020
-unfolding Bytes
-landmarks-small b m at h f = marks-small (version b) m (u8At b (at + 4)) (u16At b (at + 5)) h (omega (arith, u16-small b f (at + 5)))
+landmarks-small b m at h f =
+    marks-small (version b) m (u8At b (at + 4)) (u16At b (at + 5)) h (omega (arith, u16-small b (lent-bytes b f) (at + 5)))
 
 -- a record has its fields before the landmarks
 pub size-least : (b : List ℕ) (m at : ℕ) → fieldsSize (version b) ≤ sizeAt b m at

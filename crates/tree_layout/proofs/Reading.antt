@@ -9,7 +9,7 @@ use Rattle.book.specs.Bytes.{u8At, u16At}
 use Rattle.book.specs.Open.{version}
 use Rattle.kinds.specs.Kinds.{kindAt}
 use Rattle.tree_layout.specs.Sizes.{fieldsSize, elementSize, listSize, leafMarkSize}
-use Rattle.tree_layout.specs.Values.{Element, leafMark, innerMark}
+use Rattle.tree_layout.specs.Values.{leafMark}
 use Rattle.tree_layout.specs.Decode.{elementAt, readList, listPart, readLists, readRegion, junctionCount, regionCount, treeYardCount, landmarkCount}
 use Rattle.tree_layout.specs.Refusal.{all}
 use Rattle.tree_layout.specs.Reading.{layoutCase, layoutNumber, headerOf}
@@ -51,26 +51,6 @@ list-part v b n a e h = let s : e - a ≡ listSize v n = omega arith in rw s ref
 
 -- ---- a leaf's landmarks
 
-pub leaf-list : (place : ℕ) (list : List Element) → leafMark place list .list ≡ list
-unfolding leafMark
-leaf-list place list = refl
-
-pub leaf-place : (place : ℕ) (list : List Element) → leafMark place list .place ≡ place
-unfolding leafMark
-leaf-place place list = refl
-
-pub inner-place : (place least greatest : ℕ) → innerMark place least greatest .place ≡ place
-unfolding innerMark
-inner-place place least greatest = refl
-
-pub inner-least : (place least greatest : ℕ) → innerMark place least greatest .least ≡ least
-unfolding innerMark
-inner-least place least greatest = refl
-
-pub inner-greatest : (place least greatest : ℕ) → innerMark place least greatest .greatest ≡ greatest
-unfolding innerMark
-inner-greatest place least greatest = refl
-
 pub lists-turn : (b : List ℕ) (yards m k at : ℕ) → k < m
     → readLists b yards (m - k) at
     ≡ leafMark (u16At b at) (readList (version b) (listPart (version b) b yards (at + 2)) yards 0)
@@ -108,25 +88,6 @@ module _ (b : List ℕ) (m at : ℕ) where
   pub region-lists : u8At b (at + 4) ≡ 0 → readRegion b m at .marks ≡ readLists b (u16At b (at + 5)) m (at + fieldsSize (version b))
   unfolding readRegion
   region-lists h = marks-lists b m (u8At b (at + 4)) (u16At b (at + 5)) (at + fieldsSize (version b)) h
-
--- ---- the header's fields
-
-module _ (b : List ℕ) where
-  pub junction-count : junctionCount b ≡ u16At b 5
-  unfolding junctionCount
-  junction-count = refl
-
-  pub region-count : regionCount b ≡ u16At b 7
-  unfolding regionCount
-  region-count = refl
-
-  pub yard-count : treeYardCount b ≡ u16At b 9
-  unfolding treeYardCount
-  yard-count = refl
-
-  pub landmark-count : landmarkCount b ≡ u8At b 11
-  unfolding landmarkCount
-  landmark-count = refl
 
 -- ---- the reader's answer
 

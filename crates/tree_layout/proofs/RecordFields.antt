@@ -9,7 +9,7 @@ use Rattle.book.specs.Bytes.{u8At, u16At, u32At}
 use Rattle.book.specs.Open.{version}
 use Rattle.tree_layout.specs.Sizes.{fieldsSize, listSize, leafMarkSize}
 use Rattle.tree_layout.specs.Values.{Element, Mark, noMark, leafMark, innerMark, firstDistance, lastFrom}
-use Rattle.tree_layout.specs.Decode.{markSize, sizeAt, readList, listPart, landmarkCount}
+use Rattle.tree_layout.specs.Decode.{markSize, sizeAt, readList, listPart, readRegion, landmarkCount}
 use Rattle.tree_layout.proofs.Places.{mark-size-leaf, mark-size-inner, size-at, size-least}
 use Rattle.tree_layout.proofs.Ends.{leaf-is, inner-is, first-read, last-read}
 use Rattle.tree_layout.proofs.MarkPlaces.{region-marks, leaf-mark-at, inner-mark-at}
@@ -105,19 +105,15 @@ pub marks-count : (b : List ℕ) (at : ℕ) → length (marksAt b at) ≡ landma
 unfolding marksAt
 marks-count b at = region-marks b (landmarkCount b) at
 
--- ---- what is read of a landmark is what it has
+-- they are those that are read there
+pub marks-read : (b : List ℕ) (at : ℕ) → marksAt b at ≡ readRegion b (landmarkCount b) at .marks
+unfolding marksAt
+marks-read b at = refl
 
-pub landmark-place : (m : Mark) → landmarkOf m .place .number ≡ m .place
+-- a landmark's numbers are its mark's
+pub landmark-fields : (l : Landmark) (m : Mark) → l ≡ landmarkOf m → (l .place .number ≡ m .place) × (l .least ≡ m .least) × (l .greatest ≡ m .greatest)
 unfolding landmarkOf
-landmark-place m = refl
-
-pub landmark-least : (m : Mark) → landmarkOf m .least ≡ m .least
-unfolding landmarkOf
-landmark-least m = refl
-
-pub landmark-greatest : (m : Mark) → landmarkOf m .greatest ≡ m .greatest
-unfolding landmarkOf
-landmark-greatest m = refl
+landmark-fields l m e = (ap (λ (x : Landmark). x .place .number) e, ap (λ (x : Landmark). x .least) e, ap (λ (x : Landmark). x .greatest) e)
 
 -- what stands for no landmark has no list
 pub no-mark-list : noMark .list ≡ []

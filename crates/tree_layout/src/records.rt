@@ -2,7 +2,6 @@
 use crate::Fields;
 use crate::Header;
 use crate::Listed;
-use crate::Span;
 use book::Junction;
 ghost use mathlib.Core.Path.{_≡_};
 ghost use Prim.Native.Nat.{_+_, _≤_};
@@ -10,9 +9,9 @@ ghost use lib.ListN.{length};
 ghost use Rattle.book.specs.Bytes.{u16At};
 ghost use Rattle.book.specs.Open.{version};
 ghost use Rattle.tree_layout.specs.Sizes.{headerSize, fieldsSize, junctionSize, elementSize, listSize};
-ghost use Rattle.tree_layout.specs.Sizes.{leafMarkSize, innerMarkSize};
+ghost use Rattle.tree_layout.specs.Sizes.{leafMarkSize};
 ghost use Rattle.tree_layout.specs.Decode.{listPart};
-ghost use Rattle.tree_layout.specs.code.Accessors.{fieldsAt, spanAt, listedAt};
+ghost use Rattle.tree_layout.specs.code.Accessors.{fieldsAt, listedAt};
 ghost use Rattle.tree_layout.specs.Reading.{headerOf};
 
 // Where the first region's record stands, after the header.
@@ -91,17 +90,6 @@ pub fn junction(b: &[u8], at: usize) -> Junction
 {
     Junction {
         number: book::u16_at(b, at),
-    }
-}
-
-// The least and greatest of an inner region's landmark at a place.
-pub fn span(b: &[u8], at: usize) -> Span
-    requires { ⌜ at + innerMarkSize ≤ length (now b) ⌝ }
-    ensures { λ r. ⌜ r ≡ spanAt (now (b .entry)) at ⌝ }
-{
-    Span {
-        least: book::u32_at(b, at + 2),
-        greatest: book::u32_at(b, at + 6),
     }
 }
 

@@ -16,7 +16,8 @@ use Rattle.tree_layout.specs.Refusal.{all}
 use Rattle.tree_layout.specs.code.Accessors.{fieldsAt}
 use Rattle.tree_layout.specs.declared.Fields.{Fields}
 use Rattle.tree_layout.proofs.Places.{mark-size-leaf, size-at}
-use Rattle.tree_layout.proofs.Reading.{all-none, all-next, list-turn, list-none, leaf-list, lists-turn, lists-none, region-first, region-after, region-lists}
+use Rattle.tree_layout.proofs.MarkFields.{leaf-pairs}
+use Rattle.tree_layout.proofs.Reading.{all-none, all-next, list-turn, list-none, lists-turn, lists-none, region-first, region-after, region-lists}
 use Rattle.tree_leaf.specs.Leaf.{names, once, inRange, namedBy, firstList, sameYards, agreeing, leafOk}
 
 -- the pair at a place, and the n - (k + 1) pairs after it
@@ -71,7 +72,7 @@ pub first-list : (b : List ℕ) (yards m at : ℕ) → 0 < m → firstList (read
 unfolding firstList
 first-list b yards m at h =
     let s : m - 0 ≡ m = omega arith in
-    rw (← s, lists-turn b yards m 0 at h) (leaf-list (u16At b at) (readList (version b) (listPart (version b) b yards (at + 2)) yards 0))
+    rw (← s, lists-turn b yards m 0 at h) (leaf-pairs (u16At b at) (readList (version b) (listPart (version b) b yards (at + 2)) yards 0))
 
 -- two lists of a book, each the part that starts where its record puts it
 pub parts-agree : (b : List ℕ) (low high n start at v : ℕ) (first p : List ℕ) → v ≡ version b → first ≡ listPart (version b) b n (start + 2)
@@ -90,7 +91,7 @@ module _ (b : List ℕ) (yards m k at low high : ℕ) (ref : List Element) where
       rw (lists-turn b yards m k at h)
       (all-next (λ (x : Mark). sameYards low high ref (x .list)) (leafMark (u16At b at) (readList (version b) (listPart (version b) b yards (at + 2)) yards 0)) (readLists b yards (m -
       (k + 1)) (at + leafMarkSize (version b) yards))
-      ∙ rw (leaf-list (u16At b at) (readList (version b) (listPart (version b) b yards (at + 2)) yards 0)) refl)
+      ∙ rw (leaf-pairs (u16At b at) (readList (version b) (listPart (version b) b yards (at + 2)) yards 0)) refl)
 
   pub agree-stop : (x : List Element) → ref ≡ x → k < m → sameYards low high x (readList (version b) (listPart (version b) b yards (at + 2)) yards 0) ≡ false
       → agreeing low high ref (readLists b yards (m - k) at) ≡ false

@@ -13,6 +13,7 @@ use Rattle.book.proofs.Choosing.{and-left, and-right, and-both}
 use Rattle.book.proofs.Lists.{or-left, or-right, or-cases, eq→eqb}
 use Rattle.tree_layout.specs.Values.{Element, Mark, Region, noMark}
 use Rattle.tree_layout.specs.Refusal.{all}
+use Rattle.tree_layout.proofs.Formed.{no-mark-list}
 use Rattle.tree_layout.proofs.Tests.{all-mem, all-intro}
 use Rattle.tree_leaf.specs.Leaf.{names, once, inRange, namedBy, firstList, sameYards, agreeing, leafOk, yardsIn}
 use Rattle.tree_leaf.specs.Facts.{LeafLists}
@@ -181,6 +182,18 @@ lists-leaf r f = all-intro (listTest r (firstList (r .marks))) (r .marks) (λ m 
     go (x ∷ xs) m i g h p q = record { once-each = p; in-range = q; to-first = g x (head refl); from-first = h x (head refl) }
 
 -- the yards of a leaf's first list are in its range, each once
+-- the first list is the first landmark's
+pub first-from : (ms : List Mark) → firstList ms ≡ getD ms 0 noMark .list
+unfolding firstList
+first-from [] = sym no-mark-list
+first-from (m ∷ ms) = refl
+
+-- if it has an element it is that of some landmark
+pub first-mark-of : (ms : List Mark) (e : Element) → Mem e (firstList ms) → (m : Mark) × Mem m ms × (firstList ms ≡ m .list)
+unfolding firstList
+first-mark-of [] e k = absurd (not-nil k)
+first-mark-of (m ∷ ms) e k = (m, head refl, refl)
+
 pub first-range : (r : Region) → T (leafOk r) → (y : ℕ) → Mem y (yardsIn (firstList (r .marks))) → (r .first ≤ y) × (y < r .after)
 unfolding firstList yardsIn
 first-range r t y k = go (r .marks) (list-facts r t) k

@@ -148,3 +148,8 @@ module _ (b : List ℕ) (e : yardRefusal b ≡ 0) where
   pub had-any : (y k : ℕ) → HasKinds b y k → version b ≡ 1 → k ≡ 255
   unfolding yardKind
   had-any y k h one = sym (h .bits) ∙ kind-any (version b) b (yardPlace b (h .number) + 2) one
+
+-- the kinds by junction are the table's
+pub kinds-by : (b : List ℕ) → (λ y. getD (kindTable b) y 0) ≡ kindOf b
+unfolding kindOf
+kinds-by b = refl

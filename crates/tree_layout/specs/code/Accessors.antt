@@ -6,7 +6,6 @@ use Rattle.book.specs.Open.{version}
 use Rattle.kinds.specs.Kinds.{kindAt}
 use Rattle.tree_layout.specs.Sizes.{listSize}
 use Rattle.tree_layout.specs.declared.Fields.{Fields}
-use Rattle.tree_layout.specs.declared.Span.{Span}
 use Rattle.tree_layout.specs.declared.Listed.{Listed}
 
 -- the fields of the record at a place, and the place
@@ -19,10 +18,6 @@ fieldsAt b at = record {
   yards = u16At b (at + 5);
   kinds = kindAt (version b) b (at + 7);
 }
-
--- an inner region's least and greatest, of the landmark at a place
-abbrev pub spanAt : List ℕ → ℕ → Span
-spanAt b at = record { least = u32At b (at + 2); greatest = u32At b (at + 6) }
 
 -- element number k of a list of a version v book
 abbrev pub listedAt : (v : ℕ) → List ℕ → ℕ → Listed
