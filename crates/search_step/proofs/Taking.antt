@@ -48,6 +48,9 @@ module _ {road tree : List ℕ} {a : Asking} {crews drives places table : List �
   pub some-junction : 0 < junctionCount tree
   some-junction = ready .laid .layout .junctions .0
 
+  same-junctions : junctionCount tree ≡ junctions road
+  same-junctions = sym (ready .passed .counts)
+
 -- the number that is picked, in the array and as a number of 16 bits
 pub record Picked (tree places words : List ℕ) (p : ℕ) : Type 0 where
   pub inside : p < length words
