@@ -7,8 +7,8 @@ use crate::kinds;
 use crate::refusal::WORK_WORDS;
 use crate::search::{ask, Asked, Found};
 
-/// The most bytes of input that a program takes.
-pub const MOST_INPUT: u64 = 65_536;
+/// The most bytes that a program's input may have: 1 MiB.
+pub const MOST_INPUT: u64 = 1_048_576;
 
 /// "The list program reads road, tree and query books from standard input": what it prints for these bytes.
 pub fn list(input: &[u8]) -> String {

@@ -186,11 +186,14 @@ fn files([one, other, third]: [&OsString; 3]) -> Result<[Vec<u8>; 3], String> {
     Ok([file(one)?, file(other)?, file(third)?])
 }
 
-/// A program reads at most 65,536 bytes and takes those for all of it.
+/// A program's whole input, if it is no longer than it may be.
 fn at_most(input: impl Read, name: &str) -> Result<Vec<u8>, String> {
     let mut bytes = Vec::new();
-    let read = input.take(MOST_INPUT).read_to_end(&mut bytes);
+    let read = input.take(MOST_INPUT + 1).read_to_end(&mut bytes);
     read.map_err(|error| format!("{name}: {error}"))?;
+    if bytes.len() as u64 > MOST_INPUT {
+        return Err(format!("{name}: longer than {MOST_INPUT} bytes"));
+    }
     Ok(bytes)
 }
 

@@ -43,11 +43,21 @@ fn lists() {
     assert_eq!(printed(&["list"], &books), expected);
     assert!(expected.starts_with("yard seconds\n"));
     assert_eq!(printed(&["list"], &[]), "refused 1\n");
-    let mut longest = books.clone();
-    longest.resize(65_536, 0);
-    let cut = printed(&["list"], &longest);
-    longest.resize(100_000, 1);
-    assert_eq!(printed(&["list"], &longest), cut);
+}
+
+/// An input of 1 MiB is taken whole, and of one byte more nothing is printed.
+#[test]
+fn inputs_of_one_mebibyte() {
+    let mut book = vec![0, 15, 255, 252, 1];
+    book.resize(1_048_576, 0);
+    for command in [&["list"][..], &["outline"], &["roads", "-"]] {
+        assert_eq!(printed(command, &book).lines().count(), 1);
+        let longer = run(command, &[&book[..], &[0]].concat());
+        assert_eq!(longer.status.code(), Some(2));
+        assert!(longer.stdout.is_empty());
+        let fault = "reference: standard input: longer than 1048576 bytes\n";
+        assert!(longer.stderr.starts_with(fault.as_bytes()));
+    }
 }
 
 /// Yards 5, 2, 6 and 1 are 60 + 31, 21 + 70, 75 + 16 and 10 + 81 seconds away: the furthest crews are at 60, 70, 75 and

@@ -1,5 +1,5 @@
 -- What a build leaves, as the calls after it find it: the tree's book, which passes, and the work area. Assumes nothing.
-use mathlib.Core.Path.{_≡_, refl, sym, ap, _∙_}
+use mathlib.Core.Path.{_≡_, sym, ap, _∙_}
 use mathlib.Core.Logic.{_⊎_, inl, inr}
 use mathlib.Core.List.{List}
 use Prim.Native.Nat.{ℕ, _≤_, _<_}
@@ -12,7 +12,6 @@ use Rattle.check_tree.specs.Check.{checkAnswer}
 use Rattle.build_tree.specs.Build.{buildAnswer, builtLength, treeAfter}
 use Rattle.build_tree.specs.Facts.{Writes, writtenBook}
 use Rattle.build_tree.proofs.Theorems.{build-exact}
-use Rattle.search_call.specs.Call.{Want, Found, searchRefusal, searchFound, resultsAfter}
 
 module _ (road yard : List ℕ) (m limit : ℕ) (work tree : List ℕ) where
   abbrev why : ℕ
@@ -69,16 +68,3 @@ module _ (road yard : List ℕ) (m limit : ℕ) (work tree : List ℕ) where
           → last
           ≡ workAfter (buildAnswer road yard m limit (length work) (length tree)) (workAfter (buildAnswer road yard m limit (length work) (length tree)) work)
       work-is last e f = cc (check-is)
-
--- ---- a search of the book, whose bytes and work area were lent by other names
-
-module _ (road part book query : List ℕ) (want : Want) (words words′ : ℕ) (same : part ≡ book) (kept : words ≡ words′) where
-  pub found-of : (f : Found) (results : ℕ) → f ≡ searchFound road part query want words results → f ≡ searchFound road book query want words′ results
-  found-of f results e = e ∙ rw (same, kept) refl
-
-  pub work-of : (results : ℕ) (out later last : List ℕ) → out ≡ workAfter (searchRefusal road part query want words results) later → later ≡ last
-      → out ≡ workAfter (searchRefusal road book query want words′ results) last
-  work-of results out later last e f = e ∙ rw (same, kept, f) refl
-
-  pub results-of : (out results : List ℕ) → out ≡ resultsAfter road part query want words results → out ≡ resultsAfter road book query want words′ results
-  results-of out results e = e ∙ rw (same, kept) refl

@@ -1,6 +1,7 @@
 // Reads a road book from standard input, and writes for each junction its greatest distance to any junction and the sum
 // of its distances to all. The whole text is made first, and then written.
 use book::Junction;
+use road_layout::RoadBook;
 use streams::Read;
 ghost use mathlib.Core.Path.{_≡_};
 ghost use mathlib.Core.List.{List, _++_};
@@ -91,15 +92,15 @@ fn report(b: &[u8], out: &mut [u8]) -> usize
     ensures fits { λ r. ⌜ r ≤ 65536 ⌝ }
 {
     let mut adj = [0u16; adjacency::WORDS];
-    let why = road_layout::number(road::read(b, &mut adj));
-    if why != 0 {
-        return text::put_refused(out, 0, why as u32);
-    }
+    let o = road::read(b, &mut adj);
+    let RoadBook::Sound { junctions, roads } = o else {
+        return text::put_refused(out, 0, road_layout::number(o) as u32);
+    };
     rows(out, &adj)
 }
 
 fn main() {
-    let mut input = io::large_buffer();
+    let mut input = streams::buffer();
     let Read::Bytes(n) = streams::read_input(&mut input) else {
         return;
     };

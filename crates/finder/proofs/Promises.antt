@@ -1,5 +1,5 @@
 -- The demands are kept. Assumes nothing.
-use mathlib.Core.Path.{_≡_, _∙_}
+use mathlib.Core.Path.{_≡_, ap, _∙_}
 use mathlib.Core.Logic.{_↔_}
 use mathlib.Core.List.{List, [], _∷_, _++_}
 use Prim.Native.Nat.{ℕ, _≤_}
@@ -16,7 +16,7 @@ use Rattle.road_layout.specs.Tests.{roadLayoutTests}
 use Rattle.road.specs.Facts.{Passing}
 use Rattle.road.specs.Refusal.{roadRefusal}
 use Rattle.road.specs.Tests.{roadTests, Connected, CutOff}
-use Rattle.road.proofs.Theorems.{passing-exact, road-tests, cut-off-exact}
+use Rattle.road.proofs.Theorems.{passing-exact, road-tests, cut-off-exact, metric}
 use Rattle.yard.specs.Yards.{yardRefusalIn}
 use Rattle.yard.specs.Tests.{yardTestsIn}
 use Rattle.yard.proofs.YardLayout.{yard-layout-in}
@@ -36,6 +36,8 @@ use Rattle.build_tree.specs.Build.{buildAnswer}
 use Rattle.build_tree.proofs.Theorems.{build-refusals, build-exact}
 use Rattle.build_tree.proofs.FirstFailing.{build-tests}
 use Rattle.query.proofs.Reading.{query-exact}
+use Rattle.search_rules.specs.Instance.{Instance}
+use Rattle.search_rules.proofs.Equations.{search-of}
 use Rattle.search_rules.proofs.Ceiling.{above-kept}
 use Rattle.search_rules.proofs.Fairness.{ties-fair}
 use Rattle.search_measure.proofs.Measuring.{measures-true}
@@ -49,7 +51,7 @@ use Rattle.search_call.proofs.Agreeing.{searches-agree}
 use Rattle.search_call.proofs.Versions.{versions-agree}
 use Rattle.finder.specs.Promises.{SoundBooks, SoundTreeBook, FirstRefusal, AcceptedCheck, CheckSafe, CheckTrue, FirstBuildRefusal, BuildAccepted}
 use Rattle.finder.specs.Promises.{BuildSafe}
-use Rattle.finder.specs.Promises.{BuildTrue, FirstSearchRefusal, SearchAccepted, SearchSafe, SearchesTrue, SearchesDecided, YardsKeyed, YardsOrdered, YardsMeasured}
+use Rattle.finder.specs.Promises.{BuildTrue, FirstSearchRefusal, SearchAccepted, SearchSafe, SearchesTrue, SearchesDecided, DistancesLeast, YardsKeyed, YardsOrdered, YardsMeasured}
 use Rattle.finder.specs.Promises.{checkTests, buildTests, searchTests}
 
 -- ---- sound books are those that no test turns back
@@ -273,6 +275,9 @@ searches-true = demand-3
 
 pub searches-decided : SearchesDecided
 searches-decided = (any-tree, work-unread, searches-agree, versions-agree)
+
+pub distances-least : DistancesLeast
+distances-least road p u v hu hv = (metric road p .least u v hu hv, λ tree a crews. ap (λ (i : Instance). i .d u v) (search-of road tree a crews))
 
 pub yards-keyed : YardsKeyed
 yards-keyed = keys-true

@@ -17,7 +17,9 @@ use Rattle.work_area.specs.Work.{workWords, zeroed, workAfter}
 use Rattle.road_layout.specs.Road.{junctions}
 use Rattle.road_layout.specs.Facts.{RoadLayout}
 use Rattle.adjacency.specs.Arcs.{net}
-use Rattle.road.specs.Facts.{Passing}
+use Rattle.road.specs.Walk.{Least}
+use Rattle.road.specs.Dijkstra.{dist}
+use Rattle.road.specs.Facts.{Passing, IsJunction}
 use Rattle.road.specs.Tests.{roadTests, CutOff}
 use Rattle.yard.specs.Yards.{YardLayout, yardCount, yardAt, yardsOf}
 use Rattle.yard.specs.Tests.{yardTestsIn}
@@ -35,6 +37,8 @@ use Rattle.build_tree.specs.Building.{BuiltFrom}
 use Rattle.build_tree.specs.Facts.{InRange, BuildAreas, writtenBook}
 use Rattle.query.specs.Query.{QueryLayout}
 use Rattle.query.specs.Tests.{queryTests}
+use Rattle.search_rules.specs.Rule.{Asking}
+use Rattle.search_rules.specs.Books.{searchOf}
 use Rattle.search_rules.specs.Ceiling.{AboveKept}
 use Rattle.search_rules.specs.Fairness.{TiesFair}
 use Rattle.search_measure.specs.Facts.{MeasuresTrue}
@@ -293,6 +297,16 @@ SearchesTrue = (calls : List Call) → OfBytes calls → (first : Lent) → Prom
 -- alike, one of version 1 by the steps without kinds.
 abbrev pub SearchesDecided : Type 0
 SearchesDecided = AnyTree × WorkUnread × SearchesAgree × VersionsAgree
+
+-- ---- distance
+--
+-- "Distance d(u, v) is the least total of seconds over all walks from u to v": `dist` is that total, from any junction
+-- of a road book that passes to any other. A search's distance, by which every bound and every key goes, is `dist`,
+-- whatever the tree, what is asked for and the crews are.
+abbrev pub DistancesLeast : Type 0
+DistancesLeast = (road : List ℕ) → Passing road → (u v : ℕ) → IsJunction road u → IsJunction road v
+    → Least (net road) u v (dist road u v)
+    × ((tree : List ℕ) (a : Asking) (crews : List ℕ) → searchOf road tree a crews .d u v ≡ dist road u v)
 
 -- ---- the yards worth measuring
 --

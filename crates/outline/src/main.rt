@@ -112,7 +112,7 @@ fn report(b: &[u8], out: &mut [u8]) -> usize
 }
 
 fn main() {
-    let mut input = io::large_buffer();
+    let mut input = streams::buffer();
     let Read::Bytes(n) = streams::read_input(&mut input) else {
         return;
     };

@@ -22,7 +22,7 @@ use Rattle.adjacency.proofs.Netting.{arc, net-is, each-arc}
 use Rattle.road.specs.Walk.{Walk, Least, Fit, SoundArcs}
 use Rattle.road.specs.Dijkstra.{far, width, at, distances, dist}
 use Rattle.road.specs.Refusal.{allReached, roadRefusal}
-use Rattle.road.specs.Facts.{Joined, Passing, IsJunction, Metric}
+use Rattle.road.specs.Facts.{Joined, Passing, IsJunction, Metric, LeastFrom}
 use Rattle.road.specs.Tests.{roadTests, CutOff}
 use Rattle.road.proofs.Walks.{join, turn}
 use Rattle.road.proofs.Distances
@@ -212,6 +212,10 @@ module _ (b : List ℕ) (p : Passing b) where
 
       sound : SoundArcs (junctions b) (net b)
       sound = net-sound b (p .layout)
+
+  -- the distances from a junction, as they stand in a list, are the least totals of walks
+  pub row-least : (u : ℕ) (ds : List ℕ) → IsJunction b u → ds ≡ distances (net b) (junctions b) u → LeastFrom b u ds
+  row-least u ds hu e v hv = rw (e, dist-at b u v) (metric .least u v hu hv)
 
   -- the differences that bounds are made of: away from a landmark l, and towards it
   pub away : (l q x : ℕ) → IsJunction b l → IsJunction b q → IsJunction b x → dist b l x ≤ dist b l q + dist b q x

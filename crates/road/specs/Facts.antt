@@ -7,7 +7,7 @@ use Rattle.road_layout.specs.Road.{junctions}
 use Rattle.road_layout.specs.Facts.{RoadLayout}
 use Rattle.adjacency.specs.Arcs.{Arc, net}
 use Rattle.road.specs.Walk.{Walk, Least}
-use Rattle.road.specs.Dijkstra.{dist}
+use Rattle.road.specs.Dijkstra.{at, dist}
 
 -- some walk leads from u to v
 abbrev pub Joined : List Arc → ℕ → ℕ → Type 0
@@ -30,3 +30,7 @@ pub record Metric (b : List ℕ) : Type 0 where
   pub self : (u : ℕ) → IsJunction b u → dist b u u ≡ 0
   pub triangle : (u v w : ℕ) → IsJunction b u → IsJunction b v → IsJunction b w → dist b u w ≤ dist b u v + dist b v w
   pub bounded : (u v : ℕ) → IsJunction b u → IsJunction b v → dist b u v ≤ 1023 * 65535
+
+-- a list of distances from u: each that is a junction's is the least total of any walk from u to it
+abbrev pub LeastFrom : List ℕ → ℕ → List ℕ → Type 0
+LeastFrom b u ds = (v : ℕ) → IsJunction b v → Least (net b) u v (at ds v)

@@ -6,10 +6,10 @@ ghost use mathlib.Core.List.{List};
 ghost use Prim.Native.Nat.{ℕ, _+_, _/_, _≤_, _<_};
 ghost use lib.ListN.{length, replicate, set};
 ghost use Rattle.tournament.specs.code.Tournament.{queueWords, putLeaf, top};
-ghost use Rattle.road_layout.specs.Road.{junctions};
 ghost use Rattle.adjacency.specs.Arcs.{net};
 ghost use Rattle.adjacency.specs.Adjacency.{countIn, Adjacency, IsAdjacency};
-ghost use Rattle.road.specs.Dijkstra.{far, at, distances};
+ghost use Rattle.road.specs.Dijkstra.{far, at};
+ghost use Rattle.road.specs.Facts.{Passing, LeastFrom};
 ghost use Rattle.road.specs.code.Queue.{absent, reach, Above, shortenBoth, relaxBoth};
 ghost use Rattle.road.specs.code.Queue.{Walking, WalkingIn, IsWalking, Roomy};
 ghost use Rattle.road.specs.code.Rows.{RowFrom};
@@ -122,11 +122,13 @@ pub fn start(row: &mut [u32], done: &mut [bool], queue: &mut [u64], source: Junc
     tournament::put(queue, s, source.number as u64);
 }
 
-// Writes the distances from a source, FAR where there is no walk.
+// Writes the distances from a source, FAR where there is no walk: in a road book that passes, the least total of any
+// walk to each junction.
 pub fn distances(adj: &[u16], row: &mut [u32], source: Junction)
     requires { ⌜ IsAdjacency (now adj) × (length (now row) ≡ 1024) × (source .number < countIn (now adj)) ⌝ }
-    ensures { λ _. ⌜ ((b : List ℕ) → Adjacency b (now (adj .entry))
-        → now (row .exit) ≡ distances (net b) (junctions b) (source .number)) ⌝ }
+    ensures row { λ _. ⌜ RowFrom (now (adj .entry)) (now (row .exit)) (source .number) ⌝ }
+    ensures least { λ _. ⌜ ((b : List ℕ) → Passing b → Adjacency b (now (adj .entry))
+        → LeastFrom b (source .number) (now (row .exit))) ⌝ }
 {
     let mut done = [false; 1024];
     let mut queue = [0u64; tournament::WORDS];

@@ -5,6 +5,7 @@ pub mod Bounded
 pub mod Instances
 pub mod Measured
 pub mod Lists
+pub mod InTurn
 pub mod Room
 pub mod Demand
 pub mod Agreeing

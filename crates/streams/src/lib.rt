@@ -1,11 +1,18 @@
 // Standard input read whole and standard output written whole, or a line on standard error that says why not.
 use libc::EINTR;
+use libc::STDERR_FILENO;
 use libc::STDIN_FILENO;
 use libc::STDOUT_FILENO;
+ghost use mathlib.Core.Path.{_≡_};
 ghost use Prim.Native.Nat.{_≤_};
 ghost use lib.ListN.{length};
 ghost use Rattle.io.specs.Counts.{Counts};
-ghost use Rattle.streams.specs.Moved.{bytesIn};
+ghost use Rattle.streams.specs.Moved.{bytesIn, mostInput, inputRoom};
+
+// The most bytes that an input may have, 1 MiB, and an array with room for one more, which tells that there is more.
+pub const MOST: usize = 1048576;
+
+pub const ROOM: usize = 1048577;
 
 // How often a read or a write that a signal interrupts is begun again: far more than any run takes, since a loop has to
 // end.
@@ -52,14 +59,30 @@ fn read_all(buf: &mut [u8]) -> Read
     Read::Bytes(done)
 }
 
-// Reads standard input until the buffer is full or the input ends. If a read fails, standard error says so.
+// Zeros, to read an input into.
+pub fn buffer() -> [u8; ROOM]
+    ensures { λ r. ⌜ inputRoom ≡ length r ⌝ }
+{
+    [0; ROOM]
+}
+
+// Reads standard input until it ends. If a read fails, or the buffer is full and so the input is longer than it may be,
+// standard error says so.
 pub fn read_input(buf: &mut [u8]) -> Read
-    ensures { λ r. ⌜ bytesIn r ≤ length (now (buf .exit)) ⌝ }
+    requires { ⌜ inputRoom ≡ length (now buf) ⌝ }
+    ensures { λ r. ⌜ bytesIn r ≤ mostInput ⌝ }
 {
     let Read::Bytes(n) = read_all(buf) else {
         os::fail(b"standard input");
         return Read::Failed;
     };
+    if MOST < n {
+        io::write_all(
+            STDERR_FILENO,
+            b"standard input: longer than 1048576 bytes\n",
+        );
+        return Read::Failed;
+    }
     Read::Bytes(n)
 }
 

@@ -26,7 +26,7 @@ fn text_of(input: &[u8], out: &mut [u8]) -> usize
 }
 
 fn main() {
-    let mut input = io::large_buffer();
+    let mut input = streams::buffer();
     let Read::Bytes(n) = streams::read_input(&mut input) else {
         return;
     };

@@ -76,7 +76,7 @@ returns c =
     let p = at16 .put-number .ensures in
     let q = at9 .put-number2 .ensures in
     let r = c .before .before .put-number3 .ensures in
-    let d = at21 .distances .ensures in
+    let d = at21 .distances .ensures .0 in
     let n = at19 .junctions .ensures in (
       λ b ad.
           append-as (row-is b _ _ _ _ _ (d b ad) (n ∙ ad .count) (at11 .furthest .ensures) (at4 .total .ensures))

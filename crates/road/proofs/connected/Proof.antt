@@ -28,7 +28,7 @@ all-reached-requires c κs =
 
 returns : tie.Need-returns
 returns c =
-    λ b ad. reached-by _ _ _ _ _ (c .all-reached .ensures) (c .before .before .before .before .distances .ensures b ad)
+    λ b ad. reached-by _ _ _ _ _ (c .all-reached .ensures) (c .before .before .before .before .distances .ensures .0 b ad)
     (c .before .junctions .ensures ∙ ad .count)
 
 pub connected-spec : {M : Type 1} → statement M

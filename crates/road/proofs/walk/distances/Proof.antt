@@ -7,6 +7,7 @@ use lib.ListN.{length}
 use Rattle.tournament.specs.code.Tournament.{queueWords}
 use Rattle.adjacency.proofs.Linking.{few-junctions}
 use Rattle.road.specs.code.Queue.{WalkingIn}
+use Rattle.road.proofs.Theorems.{row-least}
 use Rattle.road.proofs.Stepping.{walking-sizes, walking-start, finished}
 use Rattle.road.proofs.walk.distances.Statement.{statement}
 use Rattle.road.proofs.walk.distances.Tie as tie
@@ -85,7 +86,8 @@ returns c =
     let far = c .before .before .before .before .before .before .before in
     let s = far .before .before .before .before .before .before in
     let w = walking-start (s .args .adj .now) (far .start .ensures) in
-    finished _ _ _ _ _ _ (omega (arith, c .before .before .junctions .ensures)) (c .before .loop .inv .4 _ (s .pre .2) w)
+    let row = finished _ _ _ _ _ _ (omega (arith, c .before .before .junctions .ensures)) (c .before .loop .inv .4 _ (s .pre .2) w) in
+    (row, λ b p ad. row-least b p _ _ (omega (arith, ad .count, s .pre .2)) (row b ad))
 
 pub distances-spec : {M : Type 1} → statement M
 distances-spec =

@@ -15,7 +15,7 @@ same-length : tie.Need-same-length
 same-length c = search needs
 
 returns-2 : tie.Need-returns-2
-returns-2 c = c .before .before .distances .ensures
+returns-2 c = c .before .before .distances .ensures .0
 
 pub walk-from-spec : {M : Type 1} → statement M
 walk-from-spec = tie.close (tie.spec returns distances-requires same-length returns-2)
