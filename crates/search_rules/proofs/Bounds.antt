@@ -9,7 +9,7 @@ use lib.Dec.{T, T-not, leb, eqb}
 use Rattle.book.specs.Choose.{choose}
 use Rattle.book.proofs.Choosing.{choose-case, choose-yes, choose-no}
 use Rattle.tree_layout.specs.Values.{Element, Mark}
-use Rattle.tree_layout.proofs.RecordFields.{no-mark-list}
+use Rattle.tree_layout.proofs.Formed.{no-mark-list}
 use Rattle.search_rules.specs.Instance.{Instance, size, children, marks, leaf}
 use Rattle.search_rules.specs.Bounds.{absDiff, combine, aggregate, greatestOf, leastFrom, leastOf, crewBound, tableAt, lower, upper, over, total}
 use Rattle.search_rules.specs.Bounds.{markBound}

@@ -1,6 +1,6 @@
 -- The landmarks of a record, as they are read. Assumes nothing.
 use mathlib.Core.Path.{_≡_, refl, sym, ap, _∙_}
-use mathlib.Core.List.{List, []}
+use mathlib.Core.List.{List}
 use Prim.Native.Nat.{ℕ, zero, suc, _+_, _*_, _-_, _≤_, _<_}
 use native.Mathlib.Nat.{suc-mul, mul-le-mul-right}
 use native.Mathlib.Omega.{arith}
@@ -114,8 +114,3 @@ marks-read b at = refl
 pub landmark-fields : (l : Landmark) (m : Mark) → l ≡ landmarkOf m → (l .place .number ≡ m .place) × (l .least ≡ m .least) × (l .greatest ≡ m .greatest)
 unfolding landmarkOf
 landmark-fields l m e = (ap (λ (x : Landmark). x .place .number) e, ap (λ (x : Landmark). x .least) e, ap (λ (x : Landmark). x .greatest) e)
-
--- what stands for no landmark has no list
-pub no-mark-list : noMark .list ≡ []
-unfolding noMark
-no-mark-list = refl
