@@ -13,6 +13,15 @@ net-is b = refl
 abbrev pub arc : ℕ → ℕ → ℕ → Arc
 arc u v s = record { from = u; to = v; seconds = s }
 
+-- no road, no arc; and each road has both
+pub arcs-none : arcs [] ≡ []
+unfolding arcs
+arcs-none = refl
+
+pub arcs-more : (r : Road) (rs : List Road) → arcs (r ∷ rs) ≡ arc (r .high) (r .low) (r .seconds) ∷ arc (r .low) (r .high) (r .seconds) ∷ arcs rs
+unfolding arcs along back
+arcs-more r rs = refl
+
 -- what holds of both arcs of each road holds of every arc
 pub each-arc : (P : Arc → Type 0) (rs : List Road)
     → ((r : Road) → List·Memᴰ r rs → P (arc (r .low) (r .high) (r .seconds)) × P (arc (r .high) (r .low) (r .seconds)))

@@ -38,7 +38,7 @@ use Rattle.build_tree.proofs.FirstFailing.{build-tests}
 use Rattle.query.proofs.Reading.{query-exact}
 use Rattle.search_rules.specs.Instance.{Instance}
 use Rattle.search_rules.proofs.Equations.{search-of}
-use Rattle.search_rules.proofs.Ceiling.{above-kept}
+use Rattle.search_rules.proofs.Ceiling.{ceilings-true, above-kept}
 use Rattle.search_rules.proofs.Fairness.{ties-fair}
 use Rattle.search_measure.proofs.Measuring.{measures-true}
 use Rattle.search_call.specs.Call.{Want, mostYards, Call, Areas, treeRefusalIn, foundOn}
@@ -286,4 +286,4 @@ pub yards-ordered : YardsOrdered
 yards-ordered = ties-fair
 
 pub yards-measured : YardsMeasured
-yards-measured = (measures-true, above-kept)
+yards-measured = (measures-true, ceilings-true, above-kept)

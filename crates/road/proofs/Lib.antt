@@ -3,7 +3,6 @@ pub mod Relaxing
 pub mod Picking
 pub mod Rounds
 pub mod Distances
-pub mod UnderWay
 pub mod Theorems
 pub mod Shortening
 pub mod Following

@@ -20,7 +20,6 @@ use Rattle.adjacency.specs.Arcs.{Arc, net}
 use Rattle.adjacency.specs.Adjacency.{countIn, Adjacency, IsAdjacency}
 use Rattle.road.specs.Walk.{Walk, stay, step, SoundArcs}
 use Rattle.road.specs.Dijkstra.{far, width, at, WalkState, walked, score, pickNearest, relax, walkOn, roundAt, rounds, startWalk, walkFrom, distances}
-use Rattle.road.specs.UnderWay.{frontier}
 use Rattle.road.specs.code.Queue.{state, absent, word, queueWord, QueueHolds, Reach, reach, Above, relaxBoth, Walking, WalkingIn, Roomy}
 use Rattle.road.proofs.Picking.{score-open, score-low, pick-below, pick-least, pick-first, walked-same, walked-other, walked-new, walked-start}
 use Rattle.road.proofs.Relaxing.{at-set-same, at-set-other}
@@ -84,22 +83,6 @@ module _ (queue : List ℕ) (st : WalkState) (q : QueueHolds queue st) where
       go : Dec (score st v < far) → far ≤ score st v
       go (yes f) = absurd (omega (arith, top-least queue (q .tournament) v b, q .words v b, word-queued st v f))
       go (no f) = omega arith
-
-  -- no word is above the mark
-  pub top-few : top queue ≤ absent
-  top-few = go (top-leaf queue (q .tournament))
-    where
-      go : (v : ℕ) × (v < 1024) × (top queue ≡ leaf queue v) → top queue ≤ absent
-      go (v, b, e) = by-score (decLt (score st v) far)
-        where
-          by-score : Dec (score st v < far) → top queue ≤ absent
-          by-score (yes f) = omega (arith, e ∙ q .words v b ∙ word-queued st v f)
-          by-score (no f) = omega (arith, e ∙ q .words v b ∙ word-marked st v (omega arith))
-
--- no score is above `far`
-score-most : (st : WalkState) → ((v : ℕ) → at (st .ds) v ≤ far) → (v : ℕ) → score st v ≤ far
-unfolding score
-score-most st most v = choose-case (λ (x : ℕ). x ≤ far) (walked (st .done) v) (λ t. omega arith) (λ t. most v)
 
 -- ---- walking on
 
@@ -236,21 +219,6 @@ module _ (b : List ℕ) (source k : ℕ) (ds : List ℕ) (done : List Bool) (que
     queued = w .queued;
   }
 
-  -- how far the walk has come
-  frontier-top : top queue / 1024 ≡ frontier (junctions b) st
-  unfolding frontier
-  frontier-top = go (decLt (top queue) absent)
-    where
-      p : ℕ
-      p = pickNearest st (junctions b)
-
-      go : Dec (top queue < absent) → top queue / 1024 ≡ score st p
-      go (yes h) = sym (nearest h .scored) ∙ ap (score st) (nearest h .picked)
-      go (no h) =
-          let none = top-none queue st (w .queued) p (omega (arith, pick-below st (junctions b) (omega arith), small)) (omega arith) in
-          let most = score-most st (inv .most) p in
-          omega (arith, top-few queue st (w .queued))
-
   -- the same, by the word that was read
   near-by : (t : ℕ) → t ≡ top queue → t < absent → k < junctions b → t / 1024 ≤ 67042305
   near-by t e h less = rw e (near-enough (rw e at h) less)
@@ -276,12 +244,6 @@ module _ (adj : List ℕ) (source k : ℕ) (ds : List ℕ) (done : List Bool) (q
   walking-sizes i =
       let a = i .adjacent in
       sizes (i .book) source k ds done queue (a .layout) (junction-below (i .book) a) (w (i .book) a)
-
-  pub walking-few : IsAdjacency adj → top queue ≤ absent
-  walking-few i = top-few queue (state ds done) (w (i .book) (i .adjacent) .queued)
-
-  pub walking-frontier : (b : List ℕ) → Adjacency b adj → top queue / 1024 ≡ frontier (junctions b) (state ds done)
-  walking-frontier b a = frontier-top b source k ds done queue (a .layout) (junction-below b a) (w b a)
 
   module _ (t : ℕ) (e : t ≡ top queue) where
     pub walking-near : IsAdjacency adj → t < absent → k < countIn adj → t / 1024 ≤ 67042305

@@ -1,6 +1,5 @@
 pub mod Walk
 pub mod Dijkstra
-pub mod UnderWay
 pub mod Refusal
 pub mod Facts
 pub mod Tests

@@ -75,16 +75,8 @@ fn walk_on(adj: &[u16], row: &mut [u32], done: &mut [bool], queue: &mut [u64], u
     relax(adj, row, queue, u, d);
 }
 
-// The distance of the nearest junction that is reached and not yet walked on from, FAR if there is none.
-pub fn frontier(queue: &[u64]) -> u32
-    requires { ⌜ (length (now queue) ≡ queueWords) × (top (now queue) ≤ absent) ⌝ }
-    ensures { λ r. ⌜ r ≡ top (now (queue .entry)) / 1024 ⌝ }
-{
-    (tournament::least(queue) / 1024) as u32
-}
-
 // The next round of a walk: walks on from the nearest junction that is reached and not yet walked on from.
-pub fn round(adj: &[u16], row: &mut [u32], done: &mut [bool], queue: &mut [u64])
+fn round(adj: &[u16], row: &mut [u32], done: &mut [bool], queue: &mut [u64])
     requires { ⌜ IsAdjacency (now adj) × IsWalking (now adj) (now row) (now done) (now queue) ⌝ }
     ensures { λ _. ⌜ ((source k : ℕ) → source < countIn (now (adj .entry))
         → WalkingIn (now (adj .entry)) source k (now (row .entry)) (now (done .entry)) (now (queue .entry))
@@ -110,7 +102,7 @@ fn reset(row: &mut [u32], done: &mut [bool])
 }
 
 // Starts a walk from a source: only the source is reached, at 0.
-pub fn start(row: &mut [u32], done: &mut [bool], queue: &mut [u64], source: Junction)
+fn start(row: &mut [u32], done: &mut [bool], queue: &mut [u64], source: Junction)
     requires { ⌜ Roomy (now row) (now done) (now queue) × (source .number < 1024) ⌝ }
     ensures { λ _. ⌜ ((b : List ℕ)
         → Walking b (source .number) 0 (now (row .exit)) (now (done .exit)) (now (queue .exit))) ⌝ }

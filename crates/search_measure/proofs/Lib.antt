@@ -1,5 +1,10 @@
-pub mod Measuring
+pub mod Lasting
+pub mod Standing
+pub mod Theorems
+pub mod Finding
 pub mod Deciding
-pub mod Walking
+pub mod Along
+pub mod Measuring
+pub mod Crewing
 pub mod Totals
-pub mod Examples
+pub mod Worked

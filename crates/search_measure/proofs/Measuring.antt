@@ -1,323 +1,125 @@
--- Measuring answers by the least totals of walks, and walks on from no junction beyond the ceiling. Assumes nothing.
+-- What is proved of a yard's measuring, crew after crew. Assumes nothing.
 use mathlib.Core.Path.{_≡_, refl, sym, ap, _∙_}
 use mathlib.Core.Logic.{_⊎_, inl, inr}
-use mathlib.Core.Bool.{Bool, true, false, not, _||_}
-use mathlib.Core.Option.{Option, none, some, Option·some-injective, Option·none-ne-some}
+use mathlib.Core.Bool.{not}
+use mathlib.Core.Option.{Option}
 use mathlib.Core.List.{List, [], _∷_, List·Memᴰ as Mem, List·Memᴰ·head as head, List·Memᴰ·tail as tail}
-use Prim.Native.Nat.{ℕ, zero, suc, max, _≤_, _<_}
-use native.Mathlib.Decide.{ℕ-discrete, decLt}
+use mathlib.Core.List.{List·Memᴰ·not-nil as not-nil, List·Memᴰ·cases-cons as cases-cons}
+use Prim.Native.Nat.{ℕ, max, _≤_, _<_}
 use native.Mathlib.Omega.{arith}
-use lib.Dec.{T, T-not, ltb, ltb→lt, lt→ltb, leb→le, nleb→lt, nltb→le}
-use Rattle.book.proofs.Choosing.{choose-case, choose-yes, choose-no, T-split, or-cases}
+use lib.Dec.{T}
+use Rattle.book.proofs.Choosing.{T-split}
 use Rattle.road_layout.specs.Road.{junctions}
-use Rattle.adjacency.specs.Arcs.{net}
-use Rattle.road.specs.Walk.{Least, SoundArcs}
-use Rattle.road.specs.Dijkstra.{far, width, at, dist, WalkState, walked, pickNearest, rounds, startWalk}
+use Rattle.road.specs.Dijkstra.{dist}
 use Rattle.road.specs.Facts.{Passing}
-use Rattle.road.specs.UnderWay.{frontier, UnderWay}
-use Rattle.road.proofs.Walks.{least-unique}
-use Rattle.road.proofs.Theorems.{net-sound, metric, symmetric}
-use Rattle.road.proofs.Picking.{walked-start}
-use Rattle.road.proofs.UnderWay.{rounds-under-way, round-walked}
+use Rattle.road.proofs.Theorems.{metric}
 use Rattle.search_rules.specs.Bounds.{combine, aggregate}
-use Rattle.search_rules.specs.Ceiling.{exceeds, exact, above, measuredBy}
-use Rattle.search_rules.specs.Walks.{AggregateLeast}
-use Rattle.search_rules.proofs.Bounds.{aggregate-mono}
-use Rattle.search_rules.proofs.Equations.{aggregate-same, combine-max}
+use Rattle.search_rules.specs.Ceiling.{exceeds, measuredBy}
+use Rattle.search_rules.specs.Ceiling
+use Rattle.search_rules.proofs.Bounds.{combine-mono, combine-zero, zero-combine, combine-assoc}
+use Rattle.search_rules.proofs.Exceeding.{exceeds-zero, exceeds-more, measured-above, measured-exact}
+use Rattle.search_rules.proofs.Equations.{combine-max, aggregate-none}
+use Rattle.search_rules.proofs.Measures.{aggregate-cons}
 use Rattle.search_rules.proofs.Walks.{aggregate-one}
-use Rattle.search_measure.specs.Measuring.{reckoned, reckoning, furthestSoFar, reached, decided, walkStep, walkSteps, walkRun, measureYard}
-use Rattle.search_measure.specs.Facts.{Measures, MeasuresTrue}
+use Rattle.search_measure.specs.Way.{Stand, budget, over, Ended, reached, above, endedBy, leastWay, wayAnswer}
+use Rattle.search_measure.specs.Crews.{onward, measureFrom, waysFrom, measureYard, yardWays, MeasuresTrue}
+use Rattle.search_measure.proofs.Standing.{ended-above, ended-reached}
+use Rattle.search_measure.proofs.Theorems.{ways-true}
 
--- ---- aggregates
+module _ (road : List ℕ) (p : Passing road) (code : ℕ) (ceiling : Option ℕ) (yard : ℕ) (at-yard : yard < junctions road) where
+  -- a crew's way answers by its distance
+  answer-is : (q total : ℕ) → q < junctions road → wayAnswer road (budget code total ceiling) q yard ≡ endedBy (budget code total ceiling) (dist road q yard)
+  answer-is q total h = ways-true road p (budget code total ceiling) q yard h at-yard .answers (dist road q yard) (metric road p .least q yard h at-yard)
 
-combine-left : (code a b : ℕ) → a ≤ combine code a b
-unfolding combine
-combine-left code a b = choose-case (λ (x : ℕ). a ≤ x) _ (λ t. omega arith) (λ t. omega arith)
+  over-is : (total t : ℕ) → T (over (budget code total ceiling) t) → T (exceeds ceiling (combine code total t))
+  unfolding over
+  over-is total t o = o
 
-combine-right : (code a b : ℕ) → b ≤ combine code a b
-unfolding combine
-combine-right code a b = choose-case (λ (x : ℕ). b ≤ x) _ (λ t. omega arith) (λ t. omega arith)
+  not-over-is : (total t : ℕ) → T (not (over (budget code total ceiling) t)) → T (not (exceeds ceiling (combine code total t)))
+  unfolding over
+  not-over-is total t o = o
 
--- none of some numbers is above their maximum
-greatest-each : (h : ℕ → ℕ) (qs : List ℕ) (q : ℕ) → Mem q qs → h q ≤ aggregate 1 h qs
-unfolding aggregate
-greatest-each h (p ∷ qs) q (head e) = rw e (combine-left 1 (h p) (aggregate 1 h qs))
-greatest-each h (p ∷ qs) q (tail m) = omega (arith, greatest-each h qs q m, combine-right 1 (h p) (aggregate 1 h qs))
+  -- the aggregate over the crews that are left
+  rest : ℕ → List ℕ → ℕ
+  rest c qs = aggregate c (λ q. dist road q yard) qs
 
-greatest-none : (h : ℕ → ℕ) → aggregate 1 h [] ≡ 0
-unfolding aggregate
-greatest-none h = refl
-
-greatest-more : (h : ℕ → ℕ) (p : ℕ) (qs : List ℕ) → aggregate 1 h (p ∷ qs) ≡ max (h p) (aggregate 1 h qs)
-unfolding aggregate
-greatest-more h p qs = sym (combine-max 1 (h p) (aggregate 1 h qs) (λ e. omega arith))
-
-greatest-below : (h : ℕ → ℕ) (m : ℕ) → ((q : ℕ) → h q ≤ m) → (qs : List ℕ) → aggregate 1 h qs ≤ m
-greatest-below h m k [] = rw greatest-none (omega arith)
-greatest-below h m k (p ∷ qs) = rw greatest-more (omega (arith, k p, greatest-below h m k qs))
-
--- if the maximum is above t, so is one of them, and any aggregate of what t bounds is no less than t
-greatest-some : (code : ℕ) (g h : ℕ → ℕ) (t : ℕ) (qs : List ℕ) → ((q : ℕ) → t < h q → t ≤ g q) → t < aggregate 1 h qs → t ≤ aggregate code g qs
-unfolding aggregate
-greatest-some code g h t [] k l = absurd (omega (arith, greatest-none h))
-greatest-some code g h t (p ∷ qs) k l = go (decLt t (h p)) (λ m. greatest-some code g h t qs k m)
-  where
-    go : Dec (t < h p) → (t < aggregate 1 h qs → t ≤ aggregate code g qs) → t ≤ combine code (g p) (aggregate code g qs)
-    go (yes m) rest = omega (arith, k p m, combine-left code (g p) (aggregate code g qs))
-    go (no m) rest = omega (arith, rest (omega (arith, greatest-more h p qs)), combine-right code (g p) (aggregate code g qs))
-
--- neither of two holds
-neither-left : (a b : Bool) → T (not (a || b)) → T (not a)
-neither-left true b t = t
-neither-left false b t = tt
-
-neither-right : (a b : Bool) → T (not (a || b)) → T (not b)
-neither-right true b t = absurd t
-neither-right false b t = t
-
-pub neither : (a b : Bool) → T (not a) → T (not b) → T (not (a || b))
-neither true b t u = t
-neither false b t u = u
-
--- ---- the answer
-
--- what exceeds a ceiling is above it, and so is what is greater
-above-both : (ceiling : Option ℕ) (a b m n : ℕ) → a ≤ b → T (exceeds ceiling a) → measuredBy ceiling a m ≡ measuredBy ceiling b n
-unfolding exceeds measuredBy
-above-both none a b m n h t = absurd t
-above-both (some c) a b m n h t =
-    choose-yes (ltb c a) above (exact a m) t ∙ sym (choose-yes (ltb c b) above (exact b n) (lt→ltb c b (omega (arith, ltb→lt c a t))))
-
-not-above : (ceiling : Option ℕ) (c a : ℕ) → ceiling ≡ some c → T (not (exceeds ceiling a)) → a ≤ c
-unfolding exceeds
-not-above none c a e t = absurd (Option·none-ne-some c e)
-not-above (some b) c a e t = let f : b ≡ c = Option·some-injective b c e in omega (arith, nltb→le b a t)
-
--- ---- a walk under way, in a road book that passes
-
-module _ (road : List ℕ) (roads : Passing road) (code : ℕ) (crews : List ℕ) (there : (q : ℕ) → Mem q crews → q < junctions road)
-    (ceiling : Option ℕ) (yard : ℕ) (inside : yard < junctions road) where
-  abbrev n : ℕ
-  n = junctions road
-
-  small : n ≤ width
-  small = roads .layout .few-junctions
-
-  sound : SoundArcs n (net road)
-  sound = net-sound road (roads .layout)
-
-  -- the walk after k rounds
-  abbrev at-round : ℕ → WalkState
-  at-round k = rounds (net road) n k (startWalk yard)
-
-  pub way : (k : ℕ) → UnderWay (net road) n yard k (at-round k)
-  way k = rounds-under-way (net road) n yard small sound inside k
-
-  -- a yard's aggregate, and the distance of its furthest crew
-  abbrev total : ℕ
-  total = aggregate code (λ q. dist road q yard) crews
-
-  abbrev furthest : ℕ
-  furthest = aggregate 1 (λ q. dist road q yard) crews
-
-  leg : (q : ℕ) → q < n → Least (net road) yard q (dist road q yard)
-  leg q h = rw (symmetric road (roads .layout) q yard h inside) (metric road roads .least yard q inside h)
-
-  module _ (k : ℕ) where
-    abbrev st : WalkState
-    st = at-round k
-
-    -- no crew is nearer than it is reckoned
-    pub reckoned-low : (q : ℕ) → q < n → reckoned road st q ≤ dist road q yard
-    unfolding reckoned
-    reckoned-low q h = way k .floor q (dist road q yard) (leg q h .walk)
-
-    pub reckoning-low : reckoning road code crews st ≤ total
-    unfolding reckoning
-    reckoning-low = aggregate-mono code _ _ crews (λ q m. reckoned-low q (there q m))
-
-    -- a crew that is reached is at its distance so far
-    near-is : (q : ℕ) → q < n → at (st .ds) q ≤ frontier n st → at (st .ds) q ≡ dist road q yard
-    near-is q h near =
-        let low = way k .floor q (dist road q yard) (leg q h .walk) in
-        let most = metric road roads .bounded q yard h inside in
-        least-unique (way k .known q near (omega arith)) (leg q h)
-
-    -- every crew is reached: an aggregate of the distances so far, be they reckoned or not, is that of the true ones
-    module _ (t : T (reached road crews st)) where
-      near-each : (q : ℕ) → Mem q crews → at (st .ds) q ≤ frontier n st
-      unfolding reached furthestSoFar
-      near-each q m = omega (arith, leb→le (aggregate 1 (at (st .ds)) crews) (frontier n st) t, greatest-each (at (st .ds)) crews q m)
-
-      near-all : (c : ℕ) (g : ℕ → ℕ) → ((q : ℕ) → at (st .ds) q ≤ frontier n st → g q ≡ at (st .ds) q)
-          → aggregate c g crews ≡ aggregate c (λ q. dist road q yard) crews
-      near-all c g e = aggregate-same c _ _ crews (λ q m. e q (near-each q m) ∙ near-is q (there q m) (near-each q m))
-
-      reckoning-is : reckoning road code crews st ≡ total
-      unfolding reckoning reckoned
-      reckoning-is = near-all code _ (λ q h. omega arith)
-
-      furthest-is : furthestSoFar crews st ≡ furthest
-      unfolding furthestSoFar
-      furthest-is = near-all 1 _ (λ q h. refl)
-
-    module _ (t : T (not (decided road code crews ceiling st))) where
-      -- while it is not decided, some crew is beyond the frontier
-      out : frontier n st < aggregate 1 (at (st .ds)) crews
-      unfolding decided reached furthestSoFar
-      out = nleb→lt (aggregate 1 (at (st .ds)) crews) (frontier n st) (neither-right (exceeds ceiling (reckoning road code crews st)) (reached road crews st) t)
-
-      -- so there is a junction to walk on from
-      pub undecided-left : frontier n st < far
-      undecided-left = omega (arith, out, greatest-below (at (st .ds)) far (way k .most) crews)
-
-      -- and it is no further than the ceiling
-      frontier-low : frontier n st ≤ reckoning road code crews st
-      unfolding reckoning reckoned
-      frontier-low = greatest-some code (reckoned road st) (at (st .ds)) (frontier n st) crews (λ q h. omega arith) out
-
-      frontier-within : (c : ℕ) → ceiling ≡ some c → frontier n st ≤ c
-      unfolding decided
-      frontier-within c e = omega (arith, frontier-low, low)
-        where
-          below : T (not (exceeds ceiling (reckoning road code crews st)))
-          below = neither-left (exceeds ceiling (reckoning road code crews st)) (reached road crews st) t
-
-          low : reckoning road code crews st ≤ c
-          low = not-above ceiling c (reckoning road code crews st) e below
-
-    -- once it is decided, the answer is that of the yard's two numbers
-    answered : T (decided road code crews ceiling st)
-        → measuredBy ceiling (reckoning road code crews st) (furthestSoFar crews st) ≡ measuredBy ceiling total furthest
-    unfolding decided
-    answered t = go (or-cases (exceeds ceiling (reckoning road code crews st)) (reached road crews st) t)
-      where
-        go : T (exceeds ceiling (reckoning road code crews st)) ⊎ T (reached road crews st)
-            → measuredBy ceiling (reckoning road code crews st) (furthestSoFar crews st) ≡ measuredBy ceiling total furthest
-        go (inr u) = λ j. measuredBy ceiling (reckoning-is u j) (furthest-is u j)
-        go (inl u) = above-both ceiling _ _ _ _ reckoning-low u
-
-  -- ---- the run
-
-  -- none that has been walked on from is further than the ceiling
-  abbrev Inside : WalkState → Type 0
-  Inside w = (c : ℕ) → ceiling ≡ some c → (v d : ℕ) → T (walked (w .done) v) → Least (net road) yard v d → d ≤ c
-
-  inside-start : Inside (at-round 0)
-  unfolding rounds startWalk
-  inside-start c e v d t l = absurd (rw (walked-start width v) at t)
-
-  -- a round while it is not decided keeps that
-  inside-round : (k : ℕ) → T (not (decided road code crews ceiling (at-round k))) → Inside (at-round k) → Inside (at-round (suc k))
-  unfolding rounds
-  inside-round k t i c e v d u l = go (round-walked (net road) n (at-round k) v (way k .marks) (omega arith) small u)
+  -- the crews that are left are measured by their aggregates
+  measure-from : (qs : List ℕ) → ((q : ℕ) → Mem q qs → q < junctions road) → (total furthest : ℕ) → T (not (exceeds ceiling total))
+      → measureFrom road code ceiling yard total furthest qs ≡ measuredBy ceiling (combine code total (rest code qs)) (max furthest (rest 1 qs))
+  unfolding measureFrom rest
+  measure-from [] there total furthest o =
+      let e : combine code total (aggregate code (λ q. dist road q yard) []) ≡ total = ap (combine code total) (aggregate-none code (λ q. dist road q yard)) ∙ combine-zero code total in
+      let f : max furthest (aggregate 1 (λ q. dist road q yard) []) ≡ furthest = omega (arith, aggregate-none 1 (λ q. dist road q yard)) in
+      rw (e, f) (sym (measured-exact ceiling total furthest o))
+  measure-from (q ∷ qs) there total furthest o =
+      go (T-split (over (budget code total ceiling) (dist road q yard)))
+      (λ u. measure-from qs (λ x k. there x (tail k)) (combine code total (dist road q yard)) (max furthest (dist road q yard)) u)
     where
-      go : T (walked (at-round k .done) v) ⊎ ((v ≡ pickNearest (at-round k) n) × (frontier n (at-round k) < far)) → d ≤ c
-      go (inl old) = i c e v d old l
-      go (inr (f, r)) =
-          let p = way k .next r in
-          let here : Least (net road) yard v (at (at-round k .ds) v) = rw f (way k .known (pickNearest (at-round k) n) (omega (arith, p)) (omega (arith, p))) in
-          omega (arith, frontier-within k t c e, least-unique l here, p, ap (at (at-round k .ds)) f)
+      whole : combine code total (aggregate code (λ x. dist road x yard) (q ∷ qs)) ≡ combine code (combine code total (dist road q yard)) (aggregate code (λ x. dist road x yard) qs)
+      whole = ap (combine code total) (aggregate-cons code (λ x. dist road x yard) q qs) ∙ sym (combine-assoc code total (dist road q yard) (aggregate code (λ x. dist road x yard) qs))
 
-  -- a step is a round, or none
-  pub step-stays : (w : WalkState) → T (decided road code crews ceiling w) → walkStep road code crews ceiling w ≡ w
-  unfolding walkStep
-  step-stays w t = choose-yes (decided road code crews ceiling w) _ _ t
+      far : max furthest (aggregate 1 (λ x. dist road x yard) (q ∷ qs)) ≡ max (max furthest (dist road q yard)) (aggregate 1 (λ x. dist road x yard) qs)
+      far =
+          omega (
+            arith,
+            aggregate-cons 1 (λ x. dist road x yard) q qs,
+            combine-max 1 (dist road q yard) (aggregate 1 (λ x. dist road x yard) qs) (λ (z : 1 ≡ 0). omega arith),
+          )
 
-  pub step-round : (k : ℕ) → T (not (decided road code crews ceiling (at-round k))) → walkStep road code crews ceiling (at-round k) ≡ at-round (suc k)
-  unfolding walkStep rounds
-  step-round k t = choose-no (decided road code crews ceiling (at-round k)) _ _ t
+      go : T (over (budget code total ceiling) (dist road q yard)) ⊎ T (not (over (budget code total ceiling) (dist road q yard)))
+          → (T (not (exceeds ceiling (combine code total (dist road q yard))))
+          → measureFrom road code ceiling yard (combine code total (dist road q yard)) (max furthest (dist road q yard)) qs
+          ≡ measuredBy ceiling (combine code (combine code total (dist road q yard)) (rest code qs)) (max (max furthest (dist road q yard)) (rest 1 qs)))
+          → onward (wayAnswer road (budget code total ceiling) q yard) Ceiling.above (λ t. measureFrom road code ceiling yard (combine code total t) (max furthest t) qs)
+          ≡ measuredBy ceiling (combine code total (aggregate code (λ x. dist road x yard) (q ∷ qs))) (max furthest (aggregate 1 (λ x. dist road x yard) (q ∷ qs)))
+      go (inl u) later =
+          let e : wayAnswer road (budget code total ceiling) q yard ≡ above = answer-is q total (there q (head refl)) ∙ ended-above (budget code total ceiling) (dist road q yard) u in
+          let low : combine code total (dist road q yard) ≤ combine code total (aggregate code (λ x. dist road x yard) (q ∷ qs)) =
+          rw (whole) (omega (arith, combine-zero code (combine code total (dist road q yard)), combine-mono code {a = combine code total (dist road q yard)} {b = combine code total (dist road q yard)} {c = 0} {e = aggregate code (λ x. dist road x yard) qs} (omega arith) (omega arith))) in
+          rw e (sym (measured-above ceiling _ _ (exceeds-more ceiling low (over-is total (dist road q yard) u))))
+      go (inr u) later =
+          let e : wayAnswer road (budget code total ceiling) q yard ≡ reached (dist road q yard) = answer-is q total (there q (head refl)) ∙ ended-reached (budget code total ceiling) (dist road q yard) u in
+          rw (e, whole, far) (later (not-over-is total (dist road q yard) u))
 
-  -- what the steps come to: some rounds, all of them but the last while it was not decided
-  pub record Come (j : ℕ) (w : WalkState) : Type 0 where
-    pub count : ℕ
-    pub few : count ≤ j
-    pub is : w ≡ at-round count
-    pub held : Inside (at-round count)
-    pub rest : T (decided road code crews ceiling (at-round count)) ⊎ (count ≡ j)
-
-  pub start-round : startWalk yard ≡ at-round 0
-  unfolding rounds
-  start-round = refl
-
-  come-on : (j : ℕ) (w : WalkState) → Come j w → Come (suc j) (walkStep road code crews ceiling w)
-  come-on j w c = go (T-split (decided road code crews ceiling (at-round (c .count))))
+  -- each of the walks is a crew's least way, by some budget of the same ceiling
+  ways-from : (qs : List ℕ) → ((q : ℕ) → Mem q qs → q < junctions road) → (total : ℕ) → (s : Stand) → Mem s (waysFrom road code ceiling yard total qs)
+      → (q : ℕ) × (q < junctions road) × (before : ℕ) × (s ≡ leastWay road (budget code before ceiling) q yard)
+  unfolding waysFrom
+  ways-from [] there total s m = absurd (not-nil m)
+  ways-from (q ∷ qs) there total s m =
+      go (cases-cons m) (λ t k. ways-from qs (λ x j. there x (tail j)) (combine code total t) s k)
     where
-      stays : T (decided road code crews ceiling (at-round (c .count))) → Come (suc j) (walkStep road code crews ceiling w)
-      stays t = record {
-        count = c .count;
-        few = omega (arith, c .few);
-        is = rw (c .is) (step-stays (at-round (c .count)) t);
-        held = c .held;
-        rest = inl t;
-      }
+      further : (e : Ended) → Mem s (onward e [] (λ t. waysFrom road code ceiling yard (combine code total t) qs))
+          → ((t : ℕ) → Mem s (waysFrom road code ceiling yard (combine code total t) qs)
+          → (q : ℕ) × (q < junctions road) × (before : ℕ) × (s ≡ leastWay road (budget code before ceiling) q yard))
+          → (q : ℕ) × (q < junctions road) × (before : ℕ) × (s ≡ leastWay road (budget code before ceiling) q yard)
+      further (reached t) k later = later t k
+      further above k later = absurd (not-nil k)
 
-      goes : T (not (decided road code crews ceiling (at-round (c .count)))) → T (decided road code crews ceiling (at-round (c .count))) ⊎ (c .count ≡ j)
-          → Come (suc j) (walkStep road code crews ceiling w)
-      goes t (inl u) = absurd (T-not (decided road code crews ceiling (at-round (c .count))) t u)
-      goes t (inr e) = record {
-        count = suc (c .count);
-        few = omega (arith, c .few);
-        is = rw (c .is) (step-round (c .count) t);
-        held = inside-round (c .count) t (c .held);
-        rest = inr (ap suc e);
-      }
-
-      go : T (decided road code crews ceiling (at-round (c .count))) ⊎ T (not (decided road code crews ceiling (at-round (c .count))))
-          → Come (suc j) (walkStep road code crews ceiling w)
-      go (inl t) = stays t
-      go (inr t) = goes t (c .rest)
-
-  come : (j : ℕ) → Come j (walkSteps road code crews ceiling yard j)
-  unfolding walkSteps
-  come zero = record { count = 0; few = omega arith; is = start-round; held = inside-start; rest = inr refl }
-  come (suc j) = come-on j (walkSteps road code crews ceiling yard j) (come j)
-
-  -- the run's end is decided
-  come-decided : (j : ℕ) (w : WalkState) (c : Come j w) → n ≤ j → T (decided road code crews ceiling (at-round (c .count)))
-  come-decided j w c h = go (c .rest) (T-split (decided road code crews ceiling (at-round (c .count))))
-    where
-      go : T (decided road code crews ceiling (at-round (c .count))) ⊎ (c .count ≡ j)
-          → T (decided road code crews ceiling (at-round (c .count))) ⊎ T (not (decided road code crews ceiling (at-round (c .count))))
-          → T (decided road code crews ceiling (at-round (c .count)))
-      go (inl t) either = t
-      go (inr e) (inl t) = t
-      go (inr e) (inr t) = absurd (omega (arith, way (c .count) .left (undecided-left (c .count) t)))
-
-  -- once it is decided it stays
-  pub steps-stay : (k j : ℕ) → k ≤ j → T (decided road code crews ceiling (walkSteps road code crews ceiling yard k))
-      → walkSteps road code crews ceiling yard j ≡ walkSteps road code crews ceiling yard k
-  unfolding walkSteps
-  steps-stay k zero h t = let e : k ≡ 0 = omega arith in rw e refl
-  steps-stay k (suc j) h t = go (ℕ-discrete k (suc j)) (λ l. steps-stay k j l t)
-    where
-      go : Dec (k ≡ suc j) → (k ≤ j → walkSteps road code crews ceiling yard j ≡ walkSteps road code crews ceiling yard k)
-          → walkStep road code crews ceiling (walkSteps road code crews ceiling yard j) ≡ walkSteps road code crews ceiling yard k
-      go (yes e) rest = rw e refl
-      go (no e) rest = ap (walkStep road code crews ceiling) (rest (omega arith)) ∙ step-stays (walkSteps road code crews ceiling yard k) t
-
-  pub measures : Measures road code crews ceiling yard (measureYard road code crews ceiling yard) (walkRun road code crews ceiling yard)
-  unfolding measureYard walkRun
-  measures = record {
-    answers = λ t m a b. rw (c .is, one code a, one 1 b) (answered (c .count) done);
-    within = λ s e v t. c .held s e v (at (end .ds) v) (rw (c .is) at t) (least v t);
-    least = least;
-  }
-    where
-      end : WalkState
-      end = walkSteps road code crews ceiling yard n
-
-      c : Come n (walkSteps road code crews ceiling yard n)
-      c = come n
-
-      done : T (decided road code crews ceiling (at-round (c .count)))
-      done = come-decided n end c (omega arith)
-
-      one : (code : ℕ) {s : ℕ} → AggregateLeast (net road) code yard crews s → s ≡ aggregate code (λ q. dist road q yard) crews
-      one code a = aggregate-one road roads code yard inside there a
-
-      least : (v : ℕ) → T (walked (walkSteps road code crews ceiling yard n .done) v) → Least (net road) yard v (at (walkSteps road code crews ceiling yard n .ds) v)
-      least v t = rw (c .is) (way (c .count) .least (c .few) v (rw (c .is) at t))
+      go : (s ≡ leastWay road (budget code total ceiling) q yard)
+          ⊎ Mem s (onward (wayAnswer road (budget code total ceiling) q yard) [] (λ t. waysFrom road code ceiling yard (combine code total t) qs))
+          → ((t : ℕ) → Mem s (waysFrom road code ceiling yard (combine code total t) qs)
+          → (q : ℕ) × (q < junctions road) × (before : ℕ) × (s ≡ leastWay road (budget code before ceiling) q yard))
+          → (q : ℕ) × (q < junctions road) × (before : ℕ) × (s ≡ leastWay road (budget code before ceiling) q yard)
+      go (inl e) later = (q, there q (head refl), total, e)
+      go (inr k) later = further (wayAnswer road (budget code total ceiling) q yard) k later
 
 pub measures-true : MeasuresTrue
-measures-true road roads code crews there ceiling yard inside = measures road roads code crews there ceiling yard inside
+unfolding measureYard yardWays rest
+measures-true road p code crews there ceiling yard at-yard = record {
+  answers = λ t m a f. answers t m (aggregate-one road p code yard at-yard there a) (aggregate-one road p 1 yard at-yard there f);
+  within = λ seconds e s k m j.
+      let (q, h, before, f) = ways-from road p code ceiling yard at-yard crews there 0 s k in
+      ways-true road p (budget code before ceiling) q yard h at-yard .within m (rw f at j) seconds e;
+  least = λ s k m j.
+      let (q, h, before, f) = ways-from road p code ceiling yard at-yard crews there 0 s k in
+      ways-true road p (budget code before ceiling) q yard h at-yard .least m (rw f at j);
+}
+  where
+    answers : (t m : ℕ) → t ≡ aggregate code (λ q. dist road q yard) crews → m ≡ aggregate 1 (λ q. dist road q yard) crews
+        → measureFrom road code ceiling yard 0 0 crews ≡ measuredBy ceiling t m
+    answers t m et em =
+        measure-from road p code ceiling yard at-yard crews there 0 0 (exceeds-zero ceiling) ∙ same
+      where
+        same : measuredBy ceiling (combine code 0 (aggregate code (λ q. dist road q yard) crews)) (max 0 (aggregate 1 (λ q. dist road q yard) crews)) ≡ measuredBy ceiling t m
+        same = rw (← et, ← em, zero-combine code t) (ap (measuredBy ceiling t) (omega arith))

@@ -1,15 +1,17 @@
 -- A yard's aggregate and its furthest crew's distance: what an answer says of them, and that rows tell them too. Assumes nothing.
 use mathlib.Core.Path.{_≡_, sym, ap, _∙_}
+use mathlib.Core.Logic.{_⊎_, inl, inr}
+use mathlib.Core.Bool.{not}
 use mathlib.Core.List.{List}
 use mathlib.Core.Option.{Option}
 use Prim.Native.Nat.{ℕ, _<_}
 use native.Mathlib.Omega.{arith}
 use lib.ListN.{length, getD}
 use lib.Dec.{T}
-use Rattle.book.proofs.Choosing.{choose-case}
+use Rattle.book.proofs.Choosing.{T-split}
 use Rattle.book.proofs.Lists.{mem-getD}
 use Rattle.adjacency.specs.Arcs.{net}
-use Rattle.road.specs.Dijkstra.{WalkState, dist}
+use Rattle.road.specs.Dijkstra.{dist}
 use Rattle.road.specs.code.Rows.{Rowed}
 use Rattle.search_rules.specs.Rule.{Asking}
 use Rattle.search_rules.specs.Instance.{Instance}
@@ -18,9 +20,11 @@ use Rattle.search_rules.specs.Bounds.{aggregate, total, furthest}
 use Rattle.search_rules.specs.Ceiling.{exceeds, Measured, exact, above, measuredBy}
 use Rattle.search_rules.specs.Walks.{AggregateLeast}
 use Rattle.search_rules.proofs.Equations.{aggregate-same, search-of}
+use Rattle.search_rules.proofs.Exceeding.{measured-above, measured-exact}
 use Rattle.search_rules.proofs.Measures.{total-is, furthest-is}
 use Rattle.search_rules.proofs.Walks.{aggregate-least}
-use Rattle.search_measure.specs.Facts.{Measures}
+use Rattle.search_measure.specs.Way.{Stand}
+use Rattle.search_measure.specs.Crews.{Measures}
 use Rattle.search_measure.specs.code.Cases.{Measurable, totalOf, furthestOf}
 
 -- they are the search's own
@@ -52,8 +56,8 @@ module _ (road road′ crews drives : List ℕ) where
 -- ---- the two answers
 
 -- what an answer says
-module _ {road adj crews : List ℕ} {code y : ℕ} {ceiling : Option ℕ} (s : Measurable road adj crews y) {answer : Measured} {end : WalkState}
-    (m : Measures road code crews ceiling y answer end) where
+module _ {road adj crews rows : List ℕ} {code y : ℕ} {ceiling : Option ℕ} (s : Measurable road adj crews rows y) {answer : Measured} {walks : List Stand}
+    (m : Measures road code crews ceiling y answer walks) where
   abbrev t : ℕ
   t = totalOf road code crews y
 
@@ -65,15 +69,19 @@ module _ {road adj crews : List ℕ} {code y : ℕ} {ceiling : Option ℕ} (s : 
   answer-is = m .answers (aggregate code (λ q. dist road q y) crews) (aggregate 1 (λ q. dist road q y) crews) (least code) (least 1)
     where
       least : (c : ℕ) → AggregateLeast (net road) c y crews (aggregate c (λ q. dist road q y) crews)
-      least c = aggregate-least road (s .roads) c y (s .junction) crews (s .there)
+      least c = aggregate-least road (s .driven .roads) c y (s .junction) crews (s .driven .there)
 
   -- the numbers of an exact one
   pub answer-exact : (n f : ℕ) → answer ≡ exact n f → (n ≡ t) × (f ≡ u)
-  unfolding measuredBy
-  answer-exact n f e = choose-case (λ (x : Measured). exact n f ≡ x → (n ≡ t) × (f ≡ u)) (exceeds ceiling t)
-      (λ o d. let z : _≡_ {A = ℕ} 0 1 = cc in absurd (omega arith)) (λ o d. (cc, cc)) (sym e ∙ answer-is)
+  answer-exact n f e = go (T-split (exceeds ceiling t))
+    where
+      go : T (exceeds ceiling t) ⊎ T (not (exceeds ceiling t)) → (n ≡ t) × (f ≡ u)
+      go (inl o) = let d : exact n f ≡ above = sym e ∙ answer-is ∙ measured-above ceiling t u o in let z : _≡_ {A = ℕ} 0 1 = cc in absurd (omega arith)
+      go (inr o) = let d : exact n f ≡ exact t u = sym e ∙ answer-is ∙ measured-exact ceiling t u o in (cc, cc)
 
   pub answer-above : answer ≡ above → T (exceeds ceiling t)
-  unfolding measuredBy
-  answer-above e = choose-case (λ (x : Measured). x ≡ above → T (exceeds ceiling t)) (exceeds ceiling t)
-      (λ o d. o) (λ o d. let z : _≡_ {A = ℕ} 0 1 = cc in absurd (omega arith)) (sym answer-is ∙ e)
+  answer-above e = go (T-split (exceeds ceiling t))
+    where
+      go : T (exceeds ceiling t) ⊎ T (not (exceeds ceiling t)) → T (exceeds ceiling t)
+      go (inl o) = o
+      go (inr o) = let d : above ≡ exact t u = sym e ∙ answer-is ∙ measured-exact ceiling t u o in let z : _≡_ {A = ℕ} 0 1 = cc in absurd (omega arith)

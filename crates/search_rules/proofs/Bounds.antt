@@ -57,6 +57,10 @@ pub combine-zero : (code a : ℕ) → combine code a 0 ≡ a
 unfolding combine
 combine-zero code a = choose-case (λ x. x ≡ a) (eqb code 0) (λ t. omega arith) (λ t. omega arith)
 
+pub zero-combine : (code a : ℕ) → combine code 0 a ≡ a
+unfolding combine
+zero-combine code a = choose-case (λ x. x ≡ a) (eqb code 0) (λ t. omega arith) (λ t. omega arith)
+
 pub combine-assoc : (code a b c : ℕ) → combine code (combine code a b) c ≡ combine code a (combine code b c)
 unfolding combine
 combine-assoc code a b c = choose-two (λ (x y : ℕ). x ≡ y) (eqb code 0)

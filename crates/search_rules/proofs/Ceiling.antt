@@ -1,19 +1,34 @@
--- A yard that is above the ceiling changes nothing in what is held. Assumes nothing.
-use mathlib.Core.Path.{_≡_, refl, ap}
-use mathlib.Core.Option.{Option}
-use mathlib.Core.List.{List, [], _∷_, List·Memᴰ as Mem, List·Memᴰ·head as head, List·Memᴰ·tail as tail}
+-- What the ceiling is, and that a yard above it changes nothing in what is held. Assumes nothing.
+use mathlib.Core.Path.{_≡_, refl, ap, _∙_}
+use mathlib.Core.Option.{Option, some}
+use mathlib.Core.List.{List, [], _∷_, _++_, List·Memᴰ as Mem, List·Memᴰ·head as head, List·Memᴰ·tail as tail}
 use Prim.Native.Nat.{ℕ, _<_}
 use native.Mathlib.Omega.{arith}
-use lib.ListN.{length, take}
+use lib.ListN.{length, length-append, take}
 use lib.Dec.{T, not-T, leb, eqb, ltb→lt, leb→le, eqb→eq}
-use Rattle.book.proofs.Choosing.{choose-case, choose-no}
+use Rattle.book.proofs.Choosing.{choose-case, choose-yes, choose-no, eq→eqb}
 use Rattle.search_rules.specs.Rule.{nearest, inDrive}
 use Rattle.search_rules.specs.Order.{Entry, yardFirst}
-use Rattle.search_rules.specs.Held.{insert, hold, greatestHeld}
+use Rattle.search_rules.specs.Held.{insert, hold, lastDistance, greatestHeld}
 use Rattle.search_rules.specs.Keeping.{keepBy}
-use Rattle.search_rules.specs.Ceiling.{exceeds, ceilingBy, AboveKept}
+use Rattle.search_rules.specs.Ceiling.{exceeds, ceilingBy, CeilingsTrue, AboveKept}
 use Rattle.search_rules.proofs.Order.{first-before, before-le}
 use Rattle.search_rules.proofs.Held.{greatestHeld-le}
+
+-- the last of some yards
+last-is : (x : ℕ) (before : List Entry) (e : Entry) → lastDistance x (before ++ (e ∷ [])) ≡ e .distance
+unfolding lastDistance
+last-is x [] e = refl
+last-is x (b ∷ before) e = last-is (b .distance) before e
+
+pub ceilings-true : CeilingsTrue
+unfolding ceilingBy greatestHeld
+ceilings-true = record {
+  full = λ before e.
+      choose-yes _ _ _ (eq→eqb (length (before ++ (e ∷ []))) _ (omega (arith, length-append before (e ∷ [])))) ∙ ap some (last-is 0 before e);
+  short = λ k held h. choose-no (eqb (length held) k) _ _ (not-T (eqb (length held) k) (λ t. omega (arith, eqb→eq (length held) k t)));
+  drive = λ seconds held. refl;
+}
 
 -- a yard further than all of a list goes after its last
 insert-past : (e : Entry) (l : List Entry) → ((h : Entry) → Mem h l → h .distance < e .distance) → take (length l) (insert e l) ≡ l

@@ -5,6 +5,7 @@ pub mod Order
 pub mod Held
 pub mod Fronts
 pub mod Ceiling
+pub mod Exceeding
 pub mod Queue
 pub mod Barren
 pub mod Stepping
@@ -40,6 +41,7 @@ pub mod Vectors
 pub mod Worked
 pub mod WorkedBounds
 pub mod WorkedTies
+pub mod WorkedCeilings
 pub mod WorkedKeys
 pub mod Example
 pub mod ExampleWays

@@ -1,10 +1,10 @@
 -- "Stop measuring a yard that has lost": how far a measured yard may be and still be kept. Assumes nothing: these are
--- definitions and a statement.
+-- definitions and statements.
 use mathlib.Core.Path.{_≡_}
 use mathlib.Core.Bool.{Bool, false}
 use mathlib.Core.Option.{Option, none, some}
-use mathlib.Core.List.{List}
-use Prim.Native.Nat.{ℕ}
+use mathlib.Core.List.{List, [], _∷_, _++_}
+use Prim.Native.Nat.{ℕ, _+_, _<_}
 use lib.ListN.{length}
 use lib.Dec.{T, ltb, eqb}
 use Rattle.book.specs.Choose.{choose}
@@ -23,6 +23,14 @@ exceeds (some seconds) n = ltb seconds n
 unfoldable pub ceilingBy : Rule → List Entry → Option ℕ
 ceilingBy (nearest k) held = choose (eqb (length held) k) (some (greatestHeld held)) none
 ceilingBy (inDrive seconds) held = some seconds
+
+-- what it is: the distance of the last of k held yards, which stand in yard order; none while fewer are held; and in a
+-- drive its seconds, whatever is held
+pub record CeilingsTrue : Type 0 where
+  pub full : (before : List Entry) (e : Entry)
+      → ceilingBy (nearest (length before + 1)) (before ++ (e ∷ [])) ≡ some (e .distance)
+  pub short : (k : ℕ) (held : List Entry) → length held < k → ceilingBy (nearest k) held ≡ none
+  pub drive : (seconds : ℕ) (held : List Entry) → ceilingBy (inDrive seconds) held ≡ some seconds
 
 -- what measuring a yard answers: both its numbers, or that its aggregate is above
 pub data Measured : Type 0 where

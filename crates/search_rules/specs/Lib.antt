@@ -16,6 +16,7 @@ pub mod Walks
 pub mod Fairness
 pub mod Examples
 pub mod TieExamples
+pub mod CeilingExamples
 pub mod KeyExamples
 pub mod BoundExamples
 pub mod WayExamples

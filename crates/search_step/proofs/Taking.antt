@@ -78,16 +78,14 @@ module _ {adj tree : List ℕ} {a : Asking} {crews drives places table : List �
       below = picked-inside (length places) (junctionCount tree) words s (some-region rd) (some-junction rd) p e
 
   -- a yard can be measured
-  pub measurable-in : (y : ℕ) → y < junctionCount tree → Measurable (prepared .road) adj crews y
+  pub measurable-in : (y : ℕ) → y < junctionCount tree → Measurable (prepared .road) adj crews drives y
   measurable-in y h = record {
-    roads = rd .passed .roads;
+    driven = record { roads = rd .passed .roads; few = rd .passed .few; there = rd .passed .there; rows = rd .driven };
     adjacent = prepared .adjacent;
-    few = rd .passed .few;
-    there = rd .passed .there;
     junction = omega (arith, same-junctions rd);
   }
 
-  pub yard-measurable : (y : ℕ) → y < junctionCount tree → IsMeasurable adj crews y
+  pub yard-measurable : (y : ℕ) → y < junctionCount tree → IsMeasurable adj crews drives y
   yard-measurable y h = record { road = prepared .road; measurable = measurable-in y h }
 
   -- what is held by its numbers is the same beside every road book that the search is ready beside

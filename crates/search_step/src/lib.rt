@@ -93,5 +93,5 @@ pub fn step(
     let yard = Junction {
         number: (p - r) as u16,
     };
-    search_yard::take(adj, crews, asked, list, measured, progress, yard)
+    search_yard::take(adj, drives, crews, asked, list, measured, progress, yard)
 }

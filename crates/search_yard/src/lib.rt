@@ -8,12 +8,10 @@ ghost use mathlib.Core.Path.{_≡_};
 ghost use mathlib.Core.List.{List, _∷_};
 ghost use Prim.Native.Nat.{ℕ, _+_, _≤_, _<_};
 ghost use lib.ListN.{length};
-ghost use Rattle.road.specs.code.Queue.{state};
 ghost use Rattle.search_rules.specs.Keeping.{keepBy};
 ghost use Rattle.search_rules.specs.Ceiling.{ceilingBy};
 ghost use Rattle.search_rules.specs.Theorems.{Sorted};
-ghost use Rattle.search_measure.specs.Measuring.{walkRun};
-ghost use Rattle.search_measure.specs.Facts.{Measures};
+ghost use Rattle.search_measure.specs.Crews.{measureYard, yardWays, Measures};
 ghost use Rattle.search_measure.specs.code.Cases.{measuredOf, Measurable, IsMeasurable};
 ghost use Rattle.search_held.specs.code.Rules.{ruleOf, heldBy, countBy, Fits};
 ghost use Rattle.search_state.specs.code.State.{newest};
@@ -25,39 +23,42 @@ pub struct Progress {
     pub measured: usize,
 }
 
-// A walk's distances and marks have a place for each of 1,024 junctions.
+// A walk's junctions have a place for each of 1,024.
 const JUNCTIONS: usize = 1024;
 
-// Measures yard y up to the search's ceiling, which goes by what is kept so far. The walk stands in row and done.
+// Measures yard y up to the search's ceiling, which goes by what is kept so far; drives has the crews' rows. The
+// junctions that the last walk has walked on from stand in walked.
 fn under_ceiling(
     adj: &[u16],
-    row: &mut [u32],
-    done: &mut [bool],
+    drives: &[u32],
     crews: &[u16],
+    walked: &mut [u16],
     asked: Asked,
     kept: Kept,
     y: Junction,
 ) -> Measured
-    requires { ⌜ IsMeasurable (now adj) (now crews) (y .number) × Fits (ruleOf (asked .rule)) kept
-        × (length (now row) ≡ 1024) × (length (now done) ≡ 1024) ⌝ }
+    requires { ⌜ IsMeasurable (now adj) (now crews) (now drives) (y .number) × Fits (ruleOf (asked .rule)) kept
+        × (length (now walked) ≡ 1024) ⌝ }
     ensures measures { λ r. ⌜ ((list : List ℕ) (road : List ℕ)
-        → Measurable road (now (adj .entry)) (now (crews .entry)) (y .number)
+        → Measurable road (now (adj .entry)) (now (crews .entry)) (now (drives .entry)) (y .number)
         → Measures road (asked .aggregate) (now (crews .entry))
         (ceilingBy (ruleOf (asked .rule)) (heldBy (ruleOf (asked .rule)) kept list)) (y .number) (measuredOf r)
-        (state (now (row .exit)) (now (done .exit)))) ⌝ }
-    ensures walk { λ _. ⌜ ((list : List ℕ) (road : List ℕ)
-        → Measurable road (now (adj .entry)) (now (crews .entry)) (y .number)
-        → state (now (row .exit)) (now (done .exit)) ≡ walkRun road (asked .aggregate) (now (crews .entry))
+        (yardWays road (asked .aggregate) (now (crews .entry))
+        (ceilingBy (ruleOf (asked .rule)) (heldBy (ruleOf (asked .rule)) kept list)) (y .number))) ⌝ }
+    ensures run { λ r. ⌜ ((list : List ℕ) (road : List ℕ)
+        → Measurable road (now (adj .entry)) (now (crews .entry)) (now (drives .entry)) (y .number)
+        → measuredOf r ≡ measureYard road (asked .aggregate) (now (crews .entry))
         (ceilingBy (ruleOf (asked .rule)) (heldBy (ruleOf (asked .rule)) kept list)) (y .number)) ⌝ }
 {
     let rule = asked.rule;
     let ceiling = search_held::ceiling(kept, rule);
-    search_measure::measure(adj, row, done, crews, asked.aggregate, ceiling, y)
+    search_measure::measure(adj, drives, crews, walked, asked.aggregate, ceiling, y)
 }
 
 // Measures yard y: it is the last of the measured yards. One that is above the ceiling is not held.
 pub fn take(
     adj: &[u16],
+    drives: &[u32],
     crews: &[u16],
     asked: Asked,
     list: &mut [u32],
@@ -65,7 +66,7 @@ pub fn take(
     progress: Progress,
     y: Junction,
 ) -> Progress
-    requires { ⌜ IsMeasurable (now adj) (now crews) (y .number)
+    requires { ⌜ IsMeasurable (now adj) (now crews) (now drives) (y .number)
         × (progress .measured < 256) × (256 ≤ length (now measured))
         × Fits (ruleOf (asked .rule)) (progress .kept)
         × (countBy (ruleOf (asked .rule)) (progress .kept) ≤ progress .measured) × (length (now list) ≡ 768)
@@ -73,7 +74,8 @@ pub fn take(
     ensures count { λ o. ⌜ o .measured ≡ progress .measured + 1 ⌝ }
     ensures measured { λ _. ⌜ newest (now (measured .exit)) (progress .measured + 1)
         ≡ y .number ∷ newest (now (measured .entry)) (progress .measured) ⌝ }
-    ensures held { λ o. ⌜ ((road : List ℕ) → Measurable road (now (adj .entry)) (now (crews .entry)) (y .number)
+    ensures held { λ o. ⌜ ((road : List ℕ)
+        → Measurable road (now (adj .entry)) (now (crews .entry)) (now (drives .entry)) (y .number)
         → heldBy (ruleOf (asked .rule)) (o .kept) (now (list .exit)) ≡ keepBy (ruleOf (asked .rule))
         (entryOn road (asked .aggregate) (now (crews .entry)) (y .number))
         (heldBy (ruleOf (asked .rule)) (progress .kept) (now (list .entry)))) ⌝ }
@@ -85,9 +87,8 @@ pub fn take(
     let so_many = count + 1;
     let rule = asked.rule;
     let so_far = progress.kept;
-    let mut row = [0u32; JUNCTIONS];
-    let mut done = [false; JUNCTIONS];
-    let answer = under_ceiling(adj, &mut row, &mut done, crews, asked, so_far, y);
+    let mut walked = [0u16; JUNCTIONS];
+    let answer = under_ceiling(adj, drives, crews, &mut walked, asked, so_far, y);
     let Measured::Exact(numbers) = answer else {
         return Progress {
             kept: so_far,

@@ -1,156 +1,128 @@
 use borrow.Author.Needs.{needs}
 use mathlib.Core.Path.{_≡_, refl, sym, _∙_}
+use mathlib.Core.List.{List}
 use Prim.Native.Nat.{ℕ, _-_}
 use native.Mathlib.Omega.{arith}
 use lib.ListN.{length}
-use Rattle.tournament.specs.code.Tournament.{queueWords}
-use Rattle.adjacency.specs.Adjacency.{countIn}
-use Rattle.adjacency.proofs.Linking.{few-junctions}
-use Rattle.road.specs.code.Queue.{WalkingIn}
-use Rattle.road.proofs.Picking.{tally}
-use Rattle.road.proofs.Stepping.{walking-sizes, walking-start}
-use Rattle.search_measure.specs.code.Cases.{ceilingOf, IsMeasurable}
-use Rattle.search_measure.proofs.Deciding.{over-yes, over-no, yard-below, adjacency-of, crews-below}
-use Rattle.search_measure.proofs.Walking.{Walks, walks-start, walks-sizes, walks-few, reckon-short, above-ends, above-measures, exact-ends, exact-measures, round-left, walks-on, tally-falls}
+use Rattle.road.proofs.Filling.{part-size}
+use Rattle.search_measure.specs.code.Cases.{ceilingOf, Measurable}
+use Rattle.search_measure.proofs.Crewing.{SoFar, so-far-start, measures-by, row-room, row-steers, so-far-end, so-far-room, so-far-above, reached-room, so-far-on, arrival-above, arrival-reached}
 use Rattle.search_measure.proofs.measure.Statement.{statement}
 use Rattle.search_measure.proofs.measure.Tie as tie
 
 abbrev Inv-loop : tie.InvT-loop
-Inv-loop adj row₀ done₀ crews code ceiling queue₀ row done queue =
-    (length queue ≡ queueWords)
-    × ((yard : ℕ) → IsMeasurable adj crews yard → WalkingIn adj yard 0 row₀ done₀ queue₀ → Walks adj crews code (ceilingOf ceiling) yard row done queue)
+Inv-loop adj rows crews walked₀ code ceiling yard total₀ furthest₀ j₀ walked total furthest j =
+    (length walked ≡ 1024)
+    × ((road : List ℕ) → Measurable road adj crews rows (yard .number) → SoFar road code crews (ceilingOf ceiling) (yard .number) total furthest j)
 
 abbrev μ-loop : tie.MeasureT-loop
-μ-loop adj row₀ done₀ crews code ceiling queue₀ row done queue = countIn adj - tally (countIn adj) done
-
-slice-aggregate-start : tie.Need-slice-aggregate-start Inv-loop μ-loop
-slice-aggregate-start c = search needs
-
-start-requires : tie.Need-start-requires Inv-loop μ-loop
-start-requires c κs =
-    let s = c .before .before .before .before .before .before .before in
-    let m = s .pre .0 .measurable in
-    (record { distances = s .pre .1; marks = s .pre .2; words = refl }, omega (arith, m .junction, m .adjacent .count, few-junctions (m .adjacent)))
+μ-loop adj rows crews walked₀ code ceiling yard total₀ furthest₀ j₀ walked total furthest j = length crews - j
 
 loop-holds : tie.Need-loop-holds Inv-loop μ-loop
-loop-holds c =
-    let s = c .before .before .before .before .before .before .before .before .before .before .before .before .before in
-    let w = walking-start (s .args .adj .now) (c .before .before .before .before .before .start .ensures) in
-    (walking-sizes _ _ _ _ _ _ (yard-below (s .pre .0)) w (adjacency-of (s .pre .0)) .words, λ yard m v. walks-start _ _ yard m _ _ _ _ _ v)
+loop-holds c = (c .before .before .before .before .pre .1, λ road ms. so-far-start road _ _ _ _)
 
-slice-aggregate-frontier : tie.Need-slice-aggregate-frontier Inv-loop μ-loop
-slice-aggregate-frontier c = search needs
+mul-at : tie.Need-mul-at Inv-loop μ-loop
+mul-at c =
+    let s = c .before .before .before .before .before .before in
+    record { fits = omega (arith, s .pre .0 .measurable .driven .few, c .loop-test .taken) }
 
-frontier-requires : tie.Need-frontier-requires Inv-loop μ-loop
-frontier-requires c κs =
-    let s = c .before .before .before .before .before .before .before .before .before .before .before .before .before .before .before in
-    let w = walking-start (s .args .adj .now) (c .before .before .before .before .before .before .before .start .ensures) in
-    let l = c .before .loop .inv .1 _ (s .pre .0) w in
-    (walks-sizes _ _ _ (s .pre .0) _ _ _ _ _ l .words, walks-few _ _ _ (s .pre .0) _ _ _ _ _ l)
+mul-t15 : tie.Need-mul-t15 Inv-loop μ-loop
+mul-t15 c = search needs
 
-reckon-requires : tie.Need-reckon-requires Inv-loop μ-loop
-reckon-requires c κs =
-    let s = c .before .before .before .before .before .before .before .before .before .before .before .before .before .before .before .before .before in
-    let w = walking-start (s .args .adj .now) (c .before .before .before .before .before .before .before .before .before .start .ensures) in
-    let l = c .before .before .before .loop .inv .1 _ (s .pre .0) w in
-    let t = c .before .frontier .ensures in
-    (walks-sizes _ _ _ (s .pre .0) _ _ _ _ _ l .distances, crews-below (s .pre .0), reckon-short _ _ _ (s .pre .0) _ _ _ _ _ l _ t)
+shared-slice-read-t18 : tie.Need-shared-slice-read-t18 Inv-loop μ-loop
+shared-slice-read-t18 c = search needs
 
-exceeds-requires : tie.Need-exceeds-requires Inv-loop μ-loop
-exceeds-requires c κs = tt
+add-way : tie.Need-add-way Inv-loop μ-loop
+add-way c =
+    let s = c .before .before .before .before .before .before .before in
+    record { fits = omega (arith, s .pre .0 .measurable .driven .few, c .before .loop-test .taken) }
+
+mul-way : tie.Need-mul-way Inv-loop μ-loop
+mul-way c = search needs
+
+sub-way : tie.Need-sub-way Inv-loop μ-loop
+sub-way c = search needs
+
+part-way-start : tie.Need-part-way-start Inv-loop μ-loop
+part-way-start c = search needs
+
+part-way-end : tie.Need-part-way-end Inv-loop μ-loop
+part-way-end c =
+    let s = c .before .before .before .before .before .before .before in
+    omega (arith, row-room (s .pre .0 .measurable) (c .before .before .loop .j) (c .before .loop-test .taken))
+
+way-requires : tie.Need-way-requires Inv-loop μ-loop
+way-requires c κs =
+    let l = c .before .before .before .before in
+    let s = l .before .before .before .before .before in
+    let m = s .pre .0 .measurable in
+    let h = c .before .before .before .loop-test .taken in (
+      record { road = s .pre .0 .road; steers = row-steers m (l .loop .j) _ h refl },
+      omega (arith, m .junction, m .adjacent .count),
+      part-size (s .args .rows .now) _ (row-room m (l .loop .j) h),
+      l .loop .inv .0,
+      so-far-room m _ _ _ _ _ (l .loop .inv .1 _ m) h,
+    )
+
+enum-known-arrival : tie.Need-enum-known-arrival Inv-loop μ-loop
+enum-known-arrival c = search needs
+
+enum-told : tie.Need-enum-told Inv-loop μ-loop
+enum-told c = search needs
 
 same-length : tie.Need-same-length Inv-loop μ-loop
 same-length c =
-    let s = c .before .before .before .before .before .before .before .before .before .before .before .before .before .before .before .before .before .before .before .before in
-    let w = walking-start (s .args .adj .now) (c .before .before .before .before .before .before .before .before .before .before .before .before .start .ensures) in
-    let l = c .before .before .before .before .before .before .loop .inv .1 _ (s .pre .0) w in
-    walks-sizes _ _ _ (s .pre .0) _ _ _ _ _ l .distances ∙ sym (s .pre .1)
-
-same-length-2 : tie.Need-same-length-2 Inv-loop μ-loop
-same-length-2 c =
-    let s = c .before .before .before .before .before .before .before .before .before .before .before .before .before .before .before .before .before .before .before .before in
-    let w = walking-start (s .args .adj .now) (c .before .before .before .before .before .before .before .before .before .before .before .before .start .ensures) in
-    let l = c .before .before .before .before .before .before .loop .inv .1 _ (s .pre .0) w in
-    walks-sizes _ _ _ (s .pre .0) _ _ _ _ _ l .marks ∙ sym (s .pre .2)
+    let l = c .before .before .before .before .before .before .before .before .before in
+    c .before .before .before .before .way .kept .1 .1 .0 ∙ l .loop .inv .0 ∙ sym (l .before .before .before .before .before .pre .1)
 
 returns : tie.Need-returns Inv-loop μ-loop
 returns c =
-    let s = c .before .before .before .before .before .before .before .before .before .before .before .before .before .before .before .before .before .before .before .before in
-    let w = walking-start (s .args .adj .now) (c .before .before .before .before .before .before .before .before .before .before .before .before .start .ensures) in
-    let l = c .before .before .before .before .before .before .loop .inv .1 _ (s .pre .0) w in
-    let t = c .before .before .before .before .frontier .ensures in
-    let r = c .before .before .reckon .ensures in
-    let x = over-yes _ _ (c .before .exceeds .ensures) (c .if1 .taken) in (
-      above-measures _ _ _ (s .pre .0) _ _ _ _ _ l _ t _ _ (r .0) (r .1) x,
-      above-ends _ _ _ (s .pre .0) _ _ _ _ _ l _ t _ _ (r .0) (r .1) x,
-    )
+    let w = c .before .before .before .before in
+    let l = w .before .before .before .before .before in
+    let h = w .before .before .before .before .loop-test .taken in
+    let e : (road : List ℕ) → _ → _ = λ road ms.
+    so-far-above ms _ _ _ _ _ (l .loop .inv .1 road ms) h
+    (arrival-above (w .way .result) _ _ (c .enum-told .given .1) (w .way .ensures .1 road (row-steers ms _ _ h refl) .0)) in
+    ((λ road ms. measures-by ms _ _ _ (e road ms)), e)
 
-same-length-3 : tie.Need-same-length-3 Inv-loop μ-loop
-same-length-3 c =
-    let s = c .before .before .before .before .before .before .before .before .before .before .before .before .before .before .before .before .before .before .before .before .before .before in
-    let w = walking-start (s .args .adj .now) (c .before .before .before .before .before .before .before .before .before .before .before .before .before .before .start .ensures) in
-    let l = c .before .before .before .before .before .before .before .before .loop .inv .1 _ (s .pre .0) w in
-    walks-sizes _ _ _ (s .pre .0) _ _ _ _ _ l .distances ∙ sym (s .pre .1)
+combine-requires : tie.Need-combine-requires Inv-loop μ-loop
+combine-requires c κs =
+    let w = c .before .before .before .before .before in
+    let l = w .before .before .before .before .before in
+    let h = w .before .before .before .before .loop-test .taken in
+    let m = l .before .before .before .before .before .pre .0 .measurable in
+    reached-room m _ _ _ _ _ (l .loop .inv .1 _ m) h _
+    (arrival-reached (w .way .result) _ _ _ (c .before .arrival .given .1) (w .way .ensures .1 _ (row-steers m _ _ h refl) .0))
 
-same-length-4 : tie.Need-same-length-4 Inv-loop μ-loop
-same-length-4 c =
-    let s = c .before .before .before .before .before .before .before .before .before .before .before .before .before .before .before .before .before .before .before .before .before .before in
-    let w = walking-start (s .args .adj .now) (c .before .before .before .before .before .before .before .before .before .before .before .before .before .before .start .ensures) in
-    let l = c .before .before .before .before .before .before .before .before .loop .inv .1 _ (s .pre .0) w in
-    walks-sizes _ _ _ (s .pre .0) _ _ _ _ _ l .marks ∙ sym (s .pre .2)
+greater-requires : tie.Need-greater-requires Inv-loop μ-loop
+greater-requires c κs = tt
 
-returns-2 : tie.Need-returns-2 Inv-loop μ-loop
-returns-2 c =
-    let s = c .before .before .before .before .before .before .before .before .before .before .before .before .before .before .before .before .before .before .before .before .before .before in
-    let w = walking-start (s .args .adj .now) (c .before .before .before .before .before .before .before .before .before .before .before .before .before .before .start .ensures) in
-    let l = c .before .before .before .before .before .before .before .before .loop .inv .1 _ (s .pre .0) w in
-    let t = c .before .before .before .before .before .before .frontier .ensures in
-    let r = c .before .before .before .before .reckon .ensures in
-    let x = over-no _ _ (c .before .before .before .exceeds .ensures) (c .before .before .if1 .left) in (
-      exact-measures _ _ _ (s .pre .0) _ _ _ _ _ l _ t _ _ (r .0) (r .1) x (omega (arith, c .if2 .taken)),
-      exact-ends _ _ _ (s .pre .0) _ _ _ _ _ l _ t _ _ (r .0) (r .1) x (omega (arith, c .if2 .taken)),
-    )
-
-slice-aggregate-round : tie.Need-slice-aggregate-round Inv-loop μ-loop
-slice-aggregate-round c = search needs
-
-round-requires : tie.Need-round-requires Inv-loop μ-loop
-round-requires c κs =
-    let s = c .before .before .before .before .before .before .before .before .before .before .before .before .before .before .before .before .before .before .before .before .before .before .before .before .before in
-    let w = walking-start (s .args .adj .now) (c .before .before .before .before .before .before .before .before .before .before .before .before .before .before .before .before .before .start .ensures) in
-    let l = c .before .before .before .before .before .before .before .before .before .before .before .loop .inv .1 _ (s .pre .0) w in
-    let t = c .before .before .before .before .before .before .before .before .before .frontier .ensures in
-    let r = c .before .before .before .before .before .before .before .reckon .ensures in
-    let x = over-no _ _ (c .before .before .before .before .before .before .exceeds .ensures) (c .before .before .before .before .before .if1 .left) in
-    let m = s .pre .0 in
-    (adjacency-of m, round-left _ _ _ m _ _ _ _ _ l _ t _ _ (r .0) (r .1) x (omega (arith, c .before .before .before .if2 .left)))
+add-j : tie.Need-add-j Inv-loop μ-loop
+add-j c = search needs
 
 loop-less : tie.Need-loop-less Inv-loop μ-loop
-loop-less c =
-    let s = c .before .before .before .before .before .before .before .before .before .before .before .before .before .before .before .before .before .before .before .before .before .before .before .before .before .before .before .before .before .before .before in
-    let w = walking-start (s .args .adj .now) (c .before .before .before .before .before .before .before .before .before .before .before .before .before .before .before .before .before .before .before .before .before .before .before .start .ensures) in
-    let l = c .before .before .before .before .before .before .before .before .before .before .before .before .before .before .before .before .before .loop .inv .1 _ (s .pre .0) w in
-    let t = c .before .before .before .before .before .before .before .before .before .before .before .before .before .before .before .frontier .ensures in
-    let r = c .before .before .before .before .before .before .before .before .before .before .before .before .before .reckon .ensures in
-    let x = over-no _ _ (c .before .before .before .before .before .before .before .before .before .before .before .before .exceeds .ensures) (c .before .before .before .before .before .before .before .before .before .before .before .if1 .left) in
-    let m = s .pre .0 in
-    tally-falls _ _ _ m _ _ _ _ _ l _ t _ _ (r .0) (r .1) x (omega (arith, c .before .before .before .before .before .before .before .before .before .if2 .left)) _ _ _ (c .before .before .before .before .before .round .ensures _ _ (yard-below m) (l .walking))
+loop-less c = search needs
 
 loop-again : tie.Need-loop-again Inv-loop μ-loop
 loop-again c =
-    let s = c .before .before .before .before .before .before .before .before .before .before .before .before .before .before .before .before .before .before .before .before .before .before .before .before .before .before .before .before .before .before .before in
-    let w = walking-start (s .args .adj .now) (c .before .before .before .before .before .before .before .before .before .before .before .before .before .before .before .before .before .before .before .before .before .before .before .start .ensures) in
-    let l = c .before .before .before .before .before .before .before .before .before .before .before .before .before .before .before .before .before .loop .inv .1 _ (s .pre .0) w in
-    let t = c .before .before .before .before .before .before .before .before .before .before .before .before .before .before .before .frontier .ensures in
-    let r = c .before .before .before .before .before .before .before .before .before .before .before .before .before .reckon .ensures in
-    let x = over-no _ _ (c .before .before .before .before .before .before .before .before .before .before .before .before .exceeds .ensures) (c .before .before .before .before .before .before .before .before .before .before .before .if1 .left) in
-    let on = c .before .before .before .before .before .round .ensures in
-    let z = walks-on _ _ _ (s .pre .0) _ _ _ _ _ l _ t _ _ (r .0) (r .1) x (omega (arith, c .before .before .before .before .before .before .before .before .before .if2 .left)) _ _ _ (on _ _ (yard-below (s .pre .0)) (l .walking)) in (
-      walks-sizes _ _ _ (s .pre .0) _ _ _ _ _ z .words,
-      λ yard m v.
-          let k = c .before .before .before .before .before .before .before .before .before .before .before .before .before .before .before .before .before .loop .inv .1 yard m v in
-          walks-on _ _ yard m _ _ _ _ _ k _ t _ _ (r .0) (r .1) x (omega (arith, c .before .before .before .before .before .before .before .before .before .if2 .left)) _ _ _ (on _ _ (yard-below m) (k .walking)),
+    let w = c .before .before .before .before .before .before .before in
+    let l = w .before .before .before .before .before in
+    let h = w .before .before .before .before .loop-test .taken in (
+      w .way .kept .1 .1 .0 ∙ l .loop .inv .0,
+      λ road ms.
+          so-far-on ms _ _ _ _ _ (l .loop .inv .1 road ms) h _
+          (arrival-reached (w .way .result) _ _ _ (c .before .before .before .arrival .given .1) (w .way .ensures .1 road (row-steers ms _ _ h refl) .0)) _ _
+          (omega (arith, c .before .combine .ensures)) (omega (arith, c .greater .ensures)),
     )
+
+same-length-2 : tie.Need-same-length-2 Inv-loop μ-loop
+same-length-2 c = c .before .loop .inv .0 ∙ sym (c .before .before .before .before .before .before .pre .1)
+
+returns-2 : tie.Need-returns-2 Inv-loop μ-loop
+returns-2 c =
+    let l = c .before in
+    let e : (road : List ℕ) → _ → _ = λ road ms. so-far-end ms _ _ _ _ _ (l .loop .inv .1 road ms) (c .loop-test .left) in
+    ((λ road ms. measures-by ms _ _ _ (e road ms)), e)
 
 pub measure-spec : {M : Type 1} → statement M
 measure-spec =
@@ -158,20 +130,24 @@ measure-spec =
     (tie.spec
     Inv-loop
     μ-loop
-    slice-aggregate-start
-    start-requires
     loop-holds
-    slice-aggregate-frontier
-    frontier-requires
-    reckon-requires
-    exceeds-requires
+    mul-at
+    mul-t15
+    shared-slice-read-t18
+    add-way
+    mul-way
+    sub-way
+    part-way-start
+    part-way-end
+    way-requires
+    enum-known-arrival
+    enum-told
     same-length
-    same-length-2
     returns
-    same-length-3
-    same-length-4
-    returns-2
-    slice-aggregate-round
-    round-requires
+    combine-requires
+    greater-requires
+    add-j
     loop-less
-    loop-again)
+    loop-again
+    same-length-2
+    returns-2)

@@ -15,16 +15,13 @@ slice-write-measured : tie.Need-slice-write-measured
 slice-write-measured c = search needs
 
 add-so-many : tie.Need-add-so-many
-add-so-many c = omega (arith, c .before .before .before .before .pre .1)
+add-so-many c = omega (arith, c .before .before .before .before .before .pre .1)
 
 slice-aggregate-under-ceiling : tie.Need-slice-aggregate-under-ceiling
 slice-aggregate-under-ceiling c = search needs
 
-slice-aggregate-under-ceiling-2 : tie.Need-slice-aggregate-under-ceiling-2
-slice-aggregate-under-ceiling-2 c = search needs
-
 under-ceiling-requires : tie.Need-under-ceiling-requires
-under-ceiling-requires c κs = let p = c .before .before .before .before .before .before .before .pre in (p .0, p .3, refl, refl)
+under-ceiling-requires c κs = let p = c .before .before .before .before .before .before .before .pre in (p .0, p .3, refl)
 
 enum-known-answer : tie.Need-enum-known-answer
 enum-known-answer c = search needs
@@ -37,23 +34,23 @@ same-length c = search needs
 
 returns : tie.Need-returns
 returns c =
-    let s = c .before .before .before .before .before .before .before .before .before .before .before .before in
+    let s = c .before .before .before .before .before .before .before .before .before .before .before in
     let above = ap measuredOf (c .enum-told .given .1) in (
       refl,
       (
         newest-put (s .args .measured .now) (s .args .progress .measured) (s .args .y .number) (omega (arith, s .pre .1, s .pre .2)),
         (
-          λ road k. held-above _ _ _ _ _ _ (s .pre .6) (answer-above k (c .before .before .before .before .under-ceiling .ensures .0 (s .args .list .now) road k) above),
+          λ road k. held-above _ _ _ _ _ _ (s .pre .6) (answer-above k (c .before .before .before .under-ceiling .ensures .0 (s .args .list .now) road k) above),
           (s .pre .3, omega (arith, s .pre .4)),
         ),
       ),
     )
 
-cast-t24 : tie.Need-cast-t24
-cast-t24 c = search needs
+cast-t22 : tie.Need-cast-t22
+cast-t22 c = search needs
 
 keep-requires : tie.Need-keep-requires
-keep-requires c κs = let p = c .before .before .before .before .before .before .before .before .before .before .before .before .before .before .before .pre in (p .3, omega (arith, p .4, p .1), p .5)
+keep-requires c κs = let p = c .before .before .before .before .before .before .before .before .before .before .before .before .before .before .pre in (p .3, omega (arith, p .4, p .1), p .5)
 
 same-length-2 : tie.Need-same-length-2
 same-length-2 c = search needs
@@ -63,9 +60,9 @@ same-length-3 c = search needs
 
 returns-2 : tie.Need-returns-2
 returns-2 c =
-    let s = c .before .before .before .before .before .before .before .before .before .before .before .before .before .before .before .before .before .before in
+    let s = c .before .before .before .before .before .before .before .before .before .before .before .before .before .before .before .before .before in
     let k = c .before .before .keep .ensures in
-    let m = c .before .before .before .before .before .before .before .before .before .before .under-ceiling .ensures .0 (s .args .list .now) in
+    let m = c .before .before .before .before .before .before .before .before .before .under-ceiling .ensures .0 (s .args .list .now) in
     let exact = ap measuredOf (c .before .before .before .before .before .before .answer .given .1) in (
       refl,
       (
@@ -82,13 +79,12 @@ take-spec =
     slice-write-measured
     add-so-many
     slice-aggregate-under-ceiling
-    slice-aggregate-under-ceiling-2
     under-ceiling-requires
     enum-known-answer
     enum-told
     same-length
     returns
-    cast-t24
+    cast-t22
     keep-requires
     same-length-2
     same-length-3

@@ -11,13 +11,10 @@ measure-requires c κs = search needs
 same-length : tie.Need-same-length
 same-length c = search needs
 
-same-length-2 : tie.Need-same-length-2
-same-length-2 c = search needs
-
 returns : tie.Need-returns
 returns c =
-    let e = c .before .before .before .before .before .before .before .ceiling .ensures in
-    let m = c .before .before .before .before .measure .ensures in
+    let e = c .before .before .before .before .ceiling .ensures in
+    let m = c .before .before .measure .ensures in
     (λ list road k. rw (← e list) (m .0 road k), λ list road k. rw (← e list) (m .1 road k))
 
 pub under-ceiling-spec : {M : Type 1} → statement M
@@ -27,5 +24,4 @@ under-ceiling-spec =
     ceiling-requires
     measure-requires
     same-length
-    same-length-2
     returns)
