@@ -16,7 +16,7 @@ const VERSION: u8 = 1;
 pub const NO_WALK: u32 = u32::MAX;
 
 /// The junctions that a walk has reached, the nearest first; one that was reached nearer later stands in it again.
-pub type Reached = BinaryHeap<Reverse<(u32, u16)>>;
+type Reached = BinaryHeap<Reverse<(u32, u16)>>;
 
 /// "per road: low end u16, high end u16, seconds u16".
 #[derive(Clone, Copy, Debug, PartialEq, Eq)]
@@ -118,15 +118,26 @@ impl RoadBook {
         distance
     }
 
+    /// The last of a junction's roads by which a least walk comes to it, as the row of distances from the walk's start
+    /// tells: the junction at its other end, and its seconds.
+    pub fn came_by(&self, row: &[u32], junction: u16) -> (u16, u16) {
+        let here = row[usize::from(junction)];
+        let comes = |(other, seconds): &&(u16, u16)| {
+            row[usize::from(*other)] + u32::from(*seconds) == here
+        };
+        let mut roads = self.neighbours[usize::from(junction)].iter().rev();
+        *roads.find(comes).expect("a least walk comes by a road")
+    }
+
     /// A walk's start: the distances so far, and only its first junction reached.
-    pub fn start(&self, from: u16) -> (Vec<u32>, Reached) {
+    fn start(&self, from: u16) -> (Vec<u32>, Reached) {
         let mut distance = vec![NO_WALK; usize::from(self.junctions)];
         distance[usize::from(from)] = 0;
         (distance, Reached::from([Reverse((0, from))]))
     }
 
     /// Walks on from a junction: each neighbour that is nearer through it is reached.
-    pub fn walk_on(&self, junction: u16, distance: &mut [u32], reached: &mut Reached) {
+    fn walk_on(&self, junction: u16, distance: &mut [u32], reached: &mut Reached) {
         let here = distance[usize::from(junction)];
         for &(next, seconds) in &self.neighbours[usize::from(junction)] {
             let through = here + u32::from(seconds);

@@ -1,4 +1,4 @@
-//! Measuring a yard under a ceiling: walks worked out by hand, and against all distances.
+//! Measuring a yard under a ceiling: ways worked out by hand, and against all distances.
 
 use compare::brute;
 use compare::generate::district::{district, query_book};
@@ -6,7 +6,7 @@ use compare::generate::Numbers;
 use compare::query::{self, Aggregate, Query};
 use compare::road::{self, Road, RoadBook};
 use compare::search::measure::Measured::{self, Above, Exact};
-use compare::search::measure::{measure, Drive, Walk};
+use compare::search::measure::{measure, Drive, Way};
 
 const AGGREGATES: [Aggregate; 2] = [Aggregate::Sum, Aggregate::Maximum];
 
@@ -44,22 +44,29 @@ fn query_for(aggregate: Aggregate, crews: &[u16]) -> Query {
     }
 }
 
-/// The answer, and the junctions walked on from, in turn.
+/// The crews' rows of distances.
+fn rows(road: &RoadBook, query: &Query) -> Vec<Vec<u32>> {
+    let row = |&crew: &u16| road.least_distances(crew);
+    query.crews.iter().map(row).collect()
+}
+
+/// The answer, and of each way the junctions walked on from, in turn.
 fn measured(
     road: &RoadBook,
     query: &Query,
     ceiling: Option<u32>,
     yard: u16,
-) -> (Measured, Vec<u16>) {
-    let (measured, walk) = measure(road, query, ceiling, yard);
-    (measured, walk.walked_on)
+) -> (Measured, Vec<Vec<u16>>) {
+    let (measured, ways) = measure(road, &rows(road, query), query, ceiling, yard);
+    let junctions = |way: &Way| way.walked_on.iter().map(|walked| walked.0).collect();
+    (measured, ways.iter().map(junctions).collect())
 }
 
-/// Yard 0, crews at 2 and 10 seconds. Rounds at 0, 2, 5, 9 and 10 seconds reckon 0, 2 + 2, 2 + 5, 2 + 9 and 2 + 10.
+/// Yard 0, crews at 2 and 10 seconds. The second way stands at 0, 2, 5, 9 and 10 seconds, with the first at 2 more.
 #[test]
-fn a_sum_stops_before_the_ceilings_radius() {
+fn a_sum_stops_above_the_ceiling() {
     let (road, query) = (net_n(), query_for(Aggregate::Sum, &[1, 4]));
-    for (ceiling, answer, walked_on) in [
+    for (ceiling, answer, second) in [
         (None, exact(12, 10), &[0, 1, 2, 3][..]),
         (Some(13), exact(12, 10), &[0, 1, 2, 3]),
         (Some(12), exact(12, 10), &[0, 1, 2, 3]),
@@ -69,18 +76,22 @@ fn a_sum_stops_before_the_ceilings_radius() {
         (Some(6), Above, &[0, 1]),
         (Some(4), Above, &[0, 1]),
         (Some(3), Above, &[0]),
-        (Some(0), Above, &[0]),
+        (Some(2), Above, &[0]),
     ] {
-        let expected = (answer, walked_on.to_vec());
+        let expected = (answer, vec![vec![0], second.to_vec()]);
         assert_eq!(measured(&road, &query, ceiling, 0), expected, "{ceiling:?}");
+    }
+    for ceiling in [1, 0] {
+        let expected = (Above, vec![vec![0]]);
+        assert_eq!(measured(&road, &query, Some(ceiling), 0), expected);
     }
 }
 
-/// The same yard and crews: the rounds reckon 0, 2, 5, 9 and 10.
+/// The same yard and crews: the second way stands at 2, 2, 5, 9 and 10.
 #[test]
-fn a_maximum_stops_at_the_ceilings_radius() {
+fn a_maximum_stops_above_the_ceiling() {
     let (road, query) = (net_n(), query_for(Aggregate::Maximum, &[1, 4]));
-    for (ceiling, answer, walked_on) in [
+    for (ceiling, answer, second) in [
         (None, exact(10, 10), &[0, 1, 2, 3][..]),
         (Some(11), exact(10, 10), &[0, 1, 2, 3]),
         (Some(10), exact(10, 10), &[0, 1, 2, 3]),
@@ -89,126 +100,140 @@ fn a_maximum_stops_at_the_ceilings_radius() {
         (Some(5), Above, &[0, 1, 2]),
         (Some(4), Above, &[0, 1]),
         (Some(2), Above, &[0, 1]),
-        (Some(1), Above, &[0]),
-        (Some(0), Above, &[0]),
     ] {
-        let expected = (answer, walked_on.to_vec());
+        let expected = (answer, vec![vec![0], second.to_vec()]);
         assert_eq!(measured(&road, &query, ceiling, 0), expected, "{ceiling:?}");
+    }
+    for ceiling in [1, 0] {
+        let expected = (Above, vec![vec![0]]);
+        assert_eq!(measured(&road, &query, Some(ceiling), 0), expected);
     }
 }
 
-/// Of 1,024 junctions in a chain, with the yard at its start: a ceiling of 100 is exceeded by 51 + 51 and 10 + 91, and
-/// by a maximum of 101.
+/// Of 1,024 junctions in a chain, with the yard at its start: a ceiling of 100 is exceeded by 101, 10 + 91 and a
+/// maximum of 101.
 #[test]
 fn a_far_yard_is_a_short_walk() {
     let road = long_chain();
-    for (crews, aggregate, rounds) in [
-        ([1_000, 1_023], Aggregate::Sum, 51),
-        ([10, 1_023], Aggregate::Sum, 91),
-        ([10, 1_023], Aggregate::Maximum, 101),
+    for (crews, aggregate, under, whole) in [
+        ([1_000, 1_023], Aggregate::Sum, &[101][..], [1_000, 1_023]),
+        ([10, 1_023], Aggregate::Sum, &[10, 91], [10, 1_023]),
+        ([10, 1_023], Aggregate::Maximum, &[10, 101], [10, 1_023]),
     ] {
         let query = query_for(aggregate, &crews);
-        let (answer, walked_on) = measured(&road, &query, Some(100), 0);
-        assert_eq!((answer, walked_on.len()), (Above, rounds));
-        let (_, walked_on) = measured(&road, &query, None, 0);
-        assert_eq!(walked_on.len(), 1_023);
+        let steps = |ways: Vec<Vec<u16>>| ways.iter().map(Vec::len).collect::<Vec<_>>();
+        let (answer, ways) = measured(&road, &query, Some(100), 0);
+        assert_eq!((answer, &steps(ways)[..]), (Above, under));
+        let (_, ways) = measured(&road, &query, None, 0);
+        assert_eq!(steps(ways), whole);
     }
 }
 
-/// Two crews 10 seconds away: the rounds at 5, 9 and 10 seconds reckon 10, 18 and 20.
+/// Two crews 10 seconds away: the second way stands at 10, 12, 15, 19 and 20 seconds.
 #[test]
 fn two_crews_at_one_junction_are_two() {
     let (road, sum) = (net_n(), query_for(Aggregate::Sum, &[4, 4]));
-    assert_eq!(
-        measured(&road, &sum, None, 0),
-        (exact(20, 10), vec![0, 1, 2, 3])
-    );
-    assert_eq!(measured(&road, &sum, Some(20), 0).0, exact(20, 10));
-    assert_eq!(
-        measured(&road, &sum, Some(19), 0),
-        (Above, vec![0, 1, 2, 3])
-    );
-    assert_eq!(measured(&road, &sum, Some(17), 0), (Above, vec![0, 1, 2]));
-    assert_eq!(measured(&road, &sum, Some(9), 0), (Above, vec![0, 1]));
+    let whole = vec![0, 1, 2, 3];
+    for (ceiling, answer, ways) in [
+        (None, exact(20, 10), vec![whole.clone(), whole.clone()]),
+        (Some(20), exact(20, 10), vec![whole.clone(), whole.clone()]),
+        (Some(19), Above, vec![whole.clone(), whole.clone()]),
+        (Some(17), Above, vec![whole.clone(), vec![0, 1, 2]]),
+        (Some(9), Above, vec![whole.clone()]),
+    ] {
+        assert_eq!(measured(&road, &sum, ceiling, 0), (answer, ways));
+    }
     let maximum = query_for(Aggregate::Maximum, &[4, 4]);
     assert_eq!(measured(&road, &maximum, Some(10), 0).0, exact(10, 10));
     assert_eq!(measured(&road, &maximum, Some(9), 0).0, Above);
 }
 
-/// Yard 2: junctions 1, 3, 0 and 4 are at 3, 4, 5 and 5 seconds. Its own crew counts 0.
+/// Yard 2: junctions 3 and 4 are at 4 and 5 seconds. Its own crew counts 0, by a way of no step.
 #[test]
 fn a_crew_at_the_yard() {
     for aggregate in AGGREGATES {
         let (road, query) = (net_n(), query_for(aggregate, &[2, 4]));
-        assert_eq!(
-            measured(&road, &query, None, 2),
-            (exact(5, 5), vec![2, 1, 3])
-        );
-        assert_eq!(measured(&road, &query, Some(5), 2).0, exact(5, 5));
-        assert_eq!(measured(&road, &query, Some(4), 2), (Above, vec![2, 1, 3]));
-        assert_eq!(measured(&road, &query, Some(3), 2), (Above, vec![2, 1]));
+        for (ceiling, answer, second) in [
+            (None, exact(5, 5), vec![2, 3]),
+            (Some(5), exact(5, 5), vec![2, 3]),
+            (Some(4), Above, vec![2, 3]),
+            (Some(3), Above, vec![2]),
+        ] {
+            let expected = (answer, vec![vec![], second]);
+            assert_eq!(measured(&road, &query, ceiling, 2), expected);
+        }
     }
 }
 
-/// No round is needed, and no ceiling is exceeded.
+/// No step is needed, and no ceiling is exceeded.
 #[test]
 fn all_crews_at_the_yard() {
     for aggregate in AGGREGATES {
         let (road, query) = (net_n(), query_for(aggregate, &[3, 3, 3]));
         for ceiling in [None, Some(0), Some(1)] {
-            assert_eq!(measured(&road, &query, ceiling, 3), (exact(0, 0), vec![]));
+            let expected = (exact(0, 0), vec![vec![]; 3]);
+            assert_eq!(measured(&road, &query, ceiling, 3), expected);
         }
     }
 }
 
-/// Junction 1 is first reached at 10 seconds and then, through junction 2, at 2: after it comes junction 3, at 22.
+/// The road from junction 0 to 1 takes 10 seconds, the way through junction 2 takes 2: then comes junction 3, at 22.
 #[test]
-fn a_junction_reached_nearer_later() {
+fn a_longer_road_is_passed_over() {
     let road = district_of(&[(0, 1, 10), (0, 2, 1), (1, 2, 1), (1, 3, 20)]);
     for aggregate in AGGREGATES {
         let query = query_for(aggregate, &[3]);
         for (ceiling, answer) in [(15, Above), (21, Above), (22, exact(22, 22))] {
-            let expected = (answer, vec![0, 2, 1]);
+            let expected = (answer, vec![vec![0, 2, 1]]);
             assert_eq!(measured(&road, &query, Some(ceiling), 0), expected);
         }
     }
 }
 
-/// How many rounds are walked, by a yard's distances to all junctions: as many as are nearer than the first of them, t,
-/// at which every crew is reached, or the aggregate with no crew taken for further than t exceeds the ceiling.
-fn rounds(distances: &[u64], query: &Query, ceiling: Option<u32>) -> usize {
-    let mut nearest = distances.to_vec();
-    nearest.sort_unstable();
-    let to_crews = query.crews.iter().map(|&crew| distances[usize::from(crew)]);
-    let to_crews: Vec<u64> = to_crews.collect();
-    let decided = |&t: &u64| {
-        let reckoned = to_crews.iter().map(|&distance| distance.min(t));
-        let above = match query.aggregate {
-            Aggregate::Sum => reckoned.sum::<u64>(),
-            Aggregate::Maximum => reckoned.max().unwrap(),
-        };
-        ceiling.is_some_and(|ceiling| above > ceiling.into()) || to_crews.iter().all(|&d| d <= t)
-    };
-    nearest.iter().position(decided).unwrap()
+/// Of two roads by which a least walk comes, the last in the book is taken.
+#[test]
+fn the_last_road_is_taken() {
+    let road = district_of(&[(0, 1, 1), (0, 2, 1), (1, 3, 1), (2, 3, 1)]);
+    let query = query_for(Aggregate::Sum, &[0]);
+    let expected = (exact(2, 2), vec![vec![3, 2]]);
+    assert_eq!(measured(&road, &query, None, 3), expected);
 }
 
-/// "none of them is further than the ceiling along that walk", and all are at their least distances, each once.
-fn assert_walk(walk: &Walk, distances: &[u64], ceiling: Option<u32>) {
-    for &junction in &walk.walked_on {
-        let distance = walk.distances[usize::from(junction)];
-        assert_eq!(u64::from(distance), distances[usize::from(junction)]);
-        assert!(ceiling.is_none_or(|ceiling| distance <= ceiling));
+/// Each way is a least one, "none of them is further than the ceiling along that walk" nor is the aggregate with the crews
+/// before; it ends at its crew or, the last one, above the ceiling, and no crew is left out but after that.
+fn assert_ways(
+    ways: &[Way],
+    all: &[Vec<u64>],
+    query: &Query,
+    ceiling: Option<u32>,
+    yard: u16,
+) -> bool {
+    let above = |total: u64| ceiling.is_some_and(|ceiling| total > ceiling.into());
+    let mut before = 0;
+    for (way, &crew) in ways.iter().zip(&query.crews) {
+        assert!(!above(before));
+        let row = &all[usize::from(crew)];
+        let least = row[usize::from(yard)];
+        let with = |seconds: u32| query.aggregate.over([before, seconds.into()].into_iter());
+        for &(junction, seconds) in &way.walked_on {
+            let to_yard = all[usize::from(junction)][usize::from(yard)];
+            assert_eq!((to_yard, junction == crew), (seconds.into(), false));
+            assert_eq!(row[usize::from(junction)] + to_yard, least);
+            assert!(!above(with(seconds)) && ceiling.is_none_or(|ceiling| seconds <= ceiling));
+        }
+        assert!(way.walked_on.windows(2).all(|pair| pair[0].1 < pair[1].1));
+        assert!(way.place == crew || above(with(way.seconds)));
+        before = with(way.seconds);
     }
-    let mut once = walk.walked_on.clone();
-    once.sort_unstable();
-    once.dedup();
-    assert_eq!(once.len(), walk.walked_on.len());
+    assert!(above(before) || ways.len() == query.crews.len());
+    above(before)
 }
 
 /// "answers either the true aggregate or "above", which it gives exactly when the aggregate exceeds the ceiling"; with
 /// the aggregate the furthest crew's distance.
 fn assert_measured(
     road: &RoadBook,
+    rows: &[Vec<u32>],
     all: &[Vec<u64>],
     query: &Query,
     ceiling: Option<u32>,
@@ -220,11 +245,10 @@ fn assert_measured(
         Some(ceiling) if aggregate > ceiling => Above,
         _ => exact(aggregate, furthest),
     };
-    let (answer, walk) = measure(road, query, ceiling, yard);
+    let (answer, ways) = measure(road, rows, query, ceiling, yard);
     assert_eq!(answer, expected);
-    let distances = &all[usize::from(yard)];
-    assert_walk(&walk, distances, ceiling);
-    assert_eq!(walk.walked_on.len(), rounds(distances, query, ceiling));
+    let above = assert_ways(&ways, all, query, ceiling, yard);
+    assert_eq!(above, answer == Above);
     answer
 }
 
@@ -252,11 +276,12 @@ fn measured_by_brute_force() {
         let book = query_book(&mut numbers, d.junctions);
         let crews = query::read(&book, d.junctions).unwrap().crews;
         let queries = AGGREGATES.map(|aggregate| query_for(aggregate, &crews));
+        let rows = rows(&road, &queries[0]);
         for yard in d.yards {
             for query in &queries {
                 let aggregate = brute::ranked(&all, &[yard], query)[0].0 as u32;
                 for ceiling in ceilings(&mut numbers, aggregate) {
-                    match assert_measured(&road, &all, query, ceiling, yard) {
+                    match assert_measured(&road, &rows, &all, query, ceiling, yard) {
                         Exact(_) => exact += 1,
                         Above => above += 1,
                     }

@@ -49,8 +49,9 @@ fn worked_by_hand() {
             measured,
         };
         for way in [
-            Measuring::Walks,
-            Measuring::WalksWithoutCeiling,
+            Measuring::Ways,
+            Measuring::WaysWithoutCeiling,
+            Measuring::WholeWalks,
             Measuring::Rows,
         ] {
             let expected = (settled, tie.results(128));
@@ -66,12 +67,12 @@ fn at_a_step_limit() {
         let tree = built(&tie, 1, 256);
         let [taken, _] = tie.steps;
         for limit in 0..taken {
-            let (found, results) = answer(&tie, Measuring::Walks, &tree, limit);
+            let (found, results) = answer(&tie, Measuring::Ways, &tree, limit);
             let counts = [found.settled, found.listed, found.taken];
             assert_eq!(counts, [0, 0, limit], "{tie:?}");
             assert_eq!(results, [7; 128], "{tie:?}");
         }
-        let (found, results) = answer(&tie, Measuring::Walks, &tree, taken);
+        let (found, results) = answer(&tie, Measuring::Ways, &tree, taken);
         assert_eq!((found.settled, results), (1, tie.results(128)), "{tie:?}");
     }
 }
@@ -82,7 +83,7 @@ fn on_every_tree() {
     for tie in ties() {
         for (m, leaf_limit) in [(1, 1), (1, 2), (2, 1), (3, 2), (4, 3), (4, 256)] {
             let tree = built(&tie, m, leaf_limit);
-            let (_, results) = answer(&tie, Measuring::Walks, &tree, u32::MAX);
+            let (_, results) = answer(&tie, Measuring::Ways, &tree, u32::MAX);
             assert_eq!(results, tie.results(128), "{tie:?}");
         }
         let road = road::read(&tie.road()).unwrap();

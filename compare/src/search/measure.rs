@@ -1,9 +1,7 @@
-//! Measuring a yard: a walk from it, until every crew is reached or the aggregate is sure to exceed the ceiling.
-
-use std::cmp::Reverse;
+//! Measuring a yard: a least way from it to each crew in turn, until all are reached or the aggregate exceeds the ceiling.
 
 use crate::query::{Aggregate, Query};
-use crate::road::{Reached, RoadBook, NO_WALK};
+use crate::road::RoadBook;
 
 /// What yard order goes by before the junction number: the aggregate, then how far the furthest crew is.
 #[derive(Clone, Copy, Debug, PartialEq, Eq, PartialOrd, Ord)]
@@ -30,87 +28,64 @@ pub enum Measured {
     Above,
 }
 
-/// A walk's state: the distances so far, "the junctions it has walked on from", in turn, and those reached and not yet
-/// walked on from, the nearest of them first.
-pub struct Walk<'a> {
-    road: &'a RoadBook,
-    pub distances: Vec<u32>,
-    pub walked_on: Vec<u16>,
-    reached: Reached,
+/// A walk's state: where it stands, after how many seconds, and "the junctions it has walked on from", in turn, each with
+/// the seconds that led to it.
+pub struct Way {
+    pub place: u16,
+    pub seconds: u32,
+    pub walked_on: Vec<(u16, u32)>,
 }
 
-/// "measuring finds distances by walks of its own, also takes a ceiling": a yard's answer, and its walk at the end.
-pub fn measure<'a>(
-    road: &'a RoadBook,
+/// "measuring finds distances by walks of its own, also takes a ceiling": a yard's answer, and its walks at their ends,
+/// each led by its crew's row of distances.
+pub fn measure(
+    road: &RoadBook,
+    rows: &[Vec<u32>],
     query: &Query,
     ceiling: Option<u32>,
     yard: u16,
-) -> (Measured, Walk<'a>) {
-    let mut walk = Walk::start(road, yard);
-    let measured = walk.run(query, ceiling);
-    (measured, walk)
+) -> (Measured, Vec<Way>) {
+    let (mut distance, mut furthest) = (0, 0);
+    let mut ways = Vec::new();
+    for (&crew, row) in query.crews.iter().zip(rows) {
+        let with = |seconds: u32| query.aggregate.over([distance, seconds].into_iter());
+        let above = |seconds: u32| ceiling.is_some_and(|ceiling| with(seconds) > ceiling);
+        let way = Way::walked(road, row, [crew, yard], above);
+        let seconds = way.seconds;
+        ways.push(way);
+        if above(seconds) {
+            return (Measured::Above, ways);
+        }
+        distance = with(seconds);
+        furthest = furthest.max(seconds);
+    }
+    (Measured::Exact(Drive { distance, furthest }), ways)
 }
 
-impl<'a> Walk<'a> {
-    /// The yard is reached, and no junction is walked on from.
-    pub fn start(road: &'a RoadBook, yard: u16) -> Self {
-        let (distances, reached) = road.start(yard);
-        Walk {
-            road,
-            distances,
+impl Way {
+    /// From a yard back to a crew, by the crew's row, until it stands there or is above.
+    fn walked(
+        road: &RoadBook,
+        row: &[u32],
+        [crew, yard]: [u16; 2],
+        above: impl Fn(u32) -> bool,
+    ) -> Self {
+        let mut way = Way {
+            place: yard,
+            seconds: 0,
             walked_on: Vec::new(),
-            reached,
+        };
+        while !above(way.seconds) && way.place != crew {
+            way.step(road, row);
         }
+        way
     }
 
-    /// Rounds until the answer is decided.
-    pub fn run(&mut self, query: &Query, ceiling: Option<u32>) -> Measured {
-        loop {
-            match self.decided(query, ceiling) {
-                Some(measured) => return measured,
-                None => self.step(),
-            }
-        }
-    }
-
-    /// One round: walks on from the nearest junction reached and not yet walked on from.
-    pub fn step(&mut self) {
-        if let Some(Reverse((_, junction))) = self.reached.pop() {
-            self.walked_on.push(junction);
-            self.road
-                .walk_on(junction, &mut self.distances, &mut self.reached);
-        }
-        self.skip_stale();
-    }
-
-    /// Takes off junctions that were reached nearer since, so that the first is at its distance so far.
-    fn skip_stale(&mut self) {
-        let distances = &self.distances;
-        let stale = |Reverse((far, junction)): &_| *far > distances[usize::from(*junction)];
-        while self.reached.peek().is_some_and(stale) {
-            self.reached.pop();
-        }
-    }
-
-    /// The distance of the nearest junction reached and not yet walked on from, u32::MAX if there is none.
-    fn nearest(&self) -> u32 {
-        self.reached
-            .peek()
-            .map_or(NO_WALK, |Reverse((nearest, _))| *nearest)
-    }
-
-    /// The answer, if it is sure. Each crew is reckoned at the lesser of its distance so far and the nearest's: it is
-    /// no nearer, so the aggregate exceeds any ceiling that the reckoning does, and is the reckoning if no crew is out.
-    fn decided(&self, query: &Query, ceiling: Option<u32>) -> Option<Measured> {
-        let nearest = self.nearest();
-        let crews = query.crews.iter();
-        let so_far = crews.map(|&crew| self.distances[usize::from(crew)]);
-        let reckoned = so_far.clone().map(|far| far.min(nearest));
-        let reckoning = query.aggregate.over(reckoned);
-        if ceiling.is_some_and(|ceiling| reckoning > ceiling) {
-            return Some(Measured::Above);
-        }
-        let none_out = so_far.clone().all(|far| far <= nearest);
-        none_out.then(|| Measured::Exact(Drive::over(query.aggregate, so_far)))
+    /// Walks on, back along the road by which a least walk from the row's crew comes to where it stands.
+    fn step(&mut self, road: &RoadBook, row: &[u32]) {
+        self.walked_on.push((self.place, self.seconds));
+        let (other, seconds) = road.came_by(row, self.place);
+        self.place = other;
+        self.seconds += u32::from(seconds);
     }
 }

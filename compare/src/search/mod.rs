@@ -37,11 +37,13 @@ pub enum Asked {
 /// How a search measures yards; lists and counts are the same.
 #[derive(Clone, Copy, Debug, PartialEq, Eq)]
 pub enum Measuring {
-    /// By a walk from the yard under the search's ceiling.
-    Walks,
-    /// By a walk from the yard until every crew is reached.
-    WalksWithoutCeiling,
-    /// By the crews' rows, as the finder did before it walked from yards.
+    /// By a least way to each crew under the search's ceiling.
+    Ways,
+    /// By a least way to each crew, to its end.
+    WaysWithoutCeiling,
+    /// By a whole walk from the yard.
+    WholeWalks,
+    /// By the crews' rows alone.
     Rows,
 }
 
@@ -112,7 +114,7 @@ pub fn ask(
     work: &mut [u32],
     results: &mut [u32],
 ) -> Found {
-    ask_by(Measuring::Walks, asked, wanted, books, work, results)
+    ask_by(Measuring::Ways, asked, wanted, books, work, results)
 }
 
 /// The same, with yards measured in this way.
@@ -170,7 +172,7 @@ pub fn tested_books(
         query,
         asked,
         wanted,
-        measuring: Measuring::Walks,
+        measuring: Measuring::Ways,
         sheet,
         crew_distances,
     })

@@ -31,7 +31,7 @@ impl Held {
 
 /// "One step is a function of its own: from a search's state, which keeps the queue, the held yards and the
 /// measured yards". The leaves already taken are kept too, with what they still have, and how many junctions the
-/// measured yards' walks have walked on from.
+/// measured yards' ways have walked on from.
 pub struct State {
     pub queue: BTreeSet<(u64, Item)>,
     pub held: Vec<Held>,
@@ -160,12 +160,14 @@ fn take_yard(search: &Search, state: &mut State, yard: u16) {
 /// A yard's answer in the search's way of measuring.
 fn measured(search: &Search, state: &mut State, yard: u16) -> Measured {
     let ceiling = match search.measuring {
-        Measuring::Walks => state.ceiling(search),
-        Measuring::WalksWithoutCeiling => None,
+        Measuring::Ways => state.ceiling(search),
+        Measuring::WaysWithoutCeiling => None,
+        Measuring::WholeWalks => return Measured::Exact(walked_drive(search, yard)),
         Measuring::Rows => return Measured::Exact(true_drive(search, yard)),
     };
-    let (measured, walk) = measure(&search.road, &search.query, ceiling, yard);
-    state.walked_on += walk.walked_on.len();
+    let rows = &search.crew_distances;
+    let (measured, ways) = measure(&search.road, rows, &search.query, ceiling, yard);
+    state.walked_on += ways.iter().map(|way| way.walked_on.len()).sum::<usize>();
     measured
 }
 
@@ -176,6 +178,14 @@ fn kept(search: &Search, yards: &[Held]) -> usize {
         Asked::FirstK => search.query.k,
         Asked::Within(seconds) => yards.partition_point(|held| held.distance() <= seconds),
     }
+}
+
+/// A yard's drive by a whole walk from it.
+fn walked_drive(search: &Search, yard: u16) -> Drive {
+    let from_yard = search.road.least_distances(yard);
+    let to_crews = search.query.crews.iter();
+    let distances = to_crews.map(|&crew| from_yard[usize::from(crew)]);
+    Drive::over(search.query.aggregate, distances)
 }
 
 /// A yard's drive by the crews' rows.

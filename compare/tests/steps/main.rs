@@ -209,9 +209,9 @@ fn a_yard_measured_and_not_held() {
 }
 
 /// A chain of seven, one second from each to the next, crew 0, the landmark in the middle: yards 0 and 6 have bound 0
-/// and are measured before yard 3. Yard 0 needs no round, yard 6 six if no ceiling ends its walk, yard 3 five.
+/// and are measured before yard 3. Yard 0 needs no step, yard 6 six if no ceiling ends its way, yard 3 three.
 #[test]
-fn walks_end_at_the_ceiling() {
+fn ways_end_at_the_ceiling() {
     let tree = one_leaf(7, 3, &[(0, 3), (3, 0), (3, 6)]);
     let queues = "
         0 R0
@@ -224,17 +224,17 @@ fn walks_end_at_the_ceiling() {
     let (two, three) = (lines(queues, 5), lines(queues, 7));
     for (asked, k, queues, walked_on, whole) in [
         (FirstK, 1, &two, 1, 6),
-        (FirstK, 2, &three, 6 + 5, 6 + 5),
+        (FirstK, 2, &three, 6 + 3, 6 + 3),
         (Within(0), 1, &two, 1, 6),
         (Within(2), 1, &two, 3, 6),
-        (Within(3), 1, &three, 4 + 5, 6 + 5),
-        (Within(6), 1, &three, 6 + 5, 6 + 5),
+        (Within(3), 1, &three, 4 + 3, 6 + 3),
+        (Within(6), 1, &three, 6 + 3, 6 + 3),
     ] {
         let query = query::write(0, k, 100, &[0]);
         let books: [&[u8]; 3] = [&chain(&[1; 6]), &tree, &query];
         let search = tested(asked, ALL, books, WORK_WORDS, 6).unwrap();
         assert_eq!(follow(&search, queues).walked_on, walked_on, "{asked:?}");
-        let search = search.by(Measuring::WalksWithoutCeiling);
+        let search = search.by(Measuring::WaysWithoutCeiling);
         assert_eq!(follow(&search, queues).walked_on, whole, "{asked:?}");
     }
 }

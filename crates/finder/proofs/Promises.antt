@@ -40,6 +40,7 @@ use Rattle.search_rules.specs.Instance.{Instance}
 use Rattle.search_rules.proofs.Equations.{search-of}
 use Rattle.search_rules.proofs.Ceiling.{ceilings-true, above-kept}
 use Rattle.search_rules.proofs.Fairness.{ties-fair}
+use Rattle.search_measure.proofs.Theorems.{ways-true}
 use Rattle.search_measure.proofs.Measuring.{measures-true}
 use Rattle.search_call.specs.Call.{Want, mostYards, Call, Areas, treeRefusalIn, foundOn}
 use Rattle.search_call.proofs.Refusing.{counts-agree, long-enough, by-areas}
@@ -286,4 +287,4 @@ pub yards-ordered : YardsOrdered
 yards-ordered = ties-fair
 
 pub yards-measured : YardsMeasured
-yards-measured = (measures-true, ceilings-true, above-kept)
+yards-measured = (ways-true, measures-true, ceilings-true, above-kept)

@@ -41,6 +41,7 @@ use Rattle.search_rules.specs.Rule.{Asking}
 use Rattle.search_rules.specs.Books.{searchOf}
 use Rattle.search_rules.specs.Ceiling.{CeilingsTrue, AboveKept}
 use Rattle.search_rules.specs.Fairness.{TiesFair}
+use Rattle.search_measure.specs.Facts.{WaysTrue}
 use Rattle.search_measure.specs.Crews.{MeasuresTrue}
 use Rattle.search_call.specs.Call.{Want, mostYards, Call, Found, foundOn, callOn, Areas as Lent, refused as refusedWith}
 use Rattle.search_call.specs.Demand.{Promised, OfBytes, AnyTree, KeysTrue, WorkUnread, SearchesAgree, VersionsAgree}
@@ -335,12 +336,13 @@ YardsOrdered = TiesFair
 -- "above", which it gives exactly when the aggregate exceeds the ceiling. .. Each of its walks keeps in its state the
 -- junctions it has walked on from, and none of them is further than the ceiling along that walk.": `Measures`
 -- (crates/search_measure/specs/Crews.antt) has these sentences, by the walks' own least totals: a walk for each crew,
--- back from the yard along a least way; with the aggregate stands the distance of the furthest crew, since a yard whose
--- aggregate equals the ceiling still competes. "Search uses the k-th held distance, or no ceiling until k are held; the
--- drive search its seconds.": that is what `ceilingBy` is (`CeilingsTrue`), and a yard that is above it changes nothing
--- in what is held: so "Lists and counts come out as they did", by the same steps.
+-- back from the yard along a least way (`WaysTrue`, of Facts.antt, has what one of them promises); with the aggregate
+-- stands the distance of the furthest crew, since a yard whose aggregate equals the ceiling still competes. "Search uses
+-- the k-th held distance, or no ceiling until k are held; the drive search its seconds.": that is what `ceilingBy` is
+-- (`CeilingsTrue`), and a yard that is above it changes nothing in what is held: so "Lists and counts come out as they
+-- did", by the same steps.
 abbrev pub YardsMeasured : Type 0
-YardsMeasured = MeasuresTrue × CeilingsTrue × AboveKept
+YardsMeasured = WaysTrue × MeasuresTrue × CeilingsTrue × AboveKept
 
 -- ---- version 1
 --

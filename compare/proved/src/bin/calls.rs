@@ -323,8 +323,8 @@ fn search_row(district: &District, tree: &[u8], row: &Row, peer: Option<&str>) {
         measured = found.measured as usize;
         settled(found)
     };
-    let theirs: Call = &mut |work| settled(by(Measuring::Walks, work, other));
-    let whole: Call = &mut |work| settled(by(Measuring::WalksWithoutCeiling, work, third));
+    let theirs: Call = &mut |work| settled(by(Measuring::Ways, work, other));
+    let whole: Call = &mut |work| settled(by(Measuring::WaysWithoutCeiling, work, third));
     let brute: Call = &mut |_| brute_force(asked, without_tree, fourth);
     let keyed: Call = &mut |_| all_keys(asked, wanted, books);
     let [best, plain, whole, brute, keyed] =
@@ -375,9 +375,9 @@ fn worth(asked: Asked, wanted: u8, books: [&[u8]; 3], list: &[u32]) -> usize {
     worth_measuring(&keys(&search), greatest_worth(&search, &pairs)).len()
 }
 
-/// How many junctions each measured yard's walk walks on from, on average, with the ceiling and without.
+/// How many junctions each measured yard's ways walk on from, on average, with the ceiling and without.
 fn walks(asked: Asked, wanted: u8, books: [&[u8]; 3]) -> [String; 2] {
-    [Measuring::Walks, Measuring::WalksWithoutCeiling].map(|measuring| {
+    [Measuring::Ways, Measuring::WaysWithoutCeiling].map(|measuring| {
         let search = tested_books(asked, wanted, books).expect("sound books");
         let State {
             walked_on,
