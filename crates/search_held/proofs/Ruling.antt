@@ -48,8 +48,8 @@ module _ (rule : Rule) (kept : Kept) (ws : List ℕ) where
       → some g ≡ ceilingBy (ruleOf rule) (heldBy (ruleOf rule) kept ws)
   ceiling-full k g e h f = rw (e, nearest-ceiling, pairs-length, eq-eqb (kept .held .count) k h, f) (sym (choose-yes true (some (greatestHeld (heldOf (kept .held)))) none tt))
 
-  pub ceiling-drive : (s : ℕ) → rule ≡ InDrive s → some s ≡ ceilingBy (ruleOf rule) (heldBy (ruleOf rule) kept ws)
-  ceiling-drive s e = rw (e, drive-ceiling) refl
+  pub ceiling-drive : (s g : ℕ) → rule ≡ InDrive s → g ≡ s → some g ≡ ceilingBy (ruleOf rule) (heldBy (ruleOf rule) kept ws)
+  ceiling-drive s g e f = rw (e, drive-ceiling, f) refl
 
 -- ---- what is kept
 
