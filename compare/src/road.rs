@@ -122,9 +122,8 @@ impl RoadBook {
     /// tells: the junction at its other end, and its seconds.
     pub fn came_by(&self, row: &[u32], junction: u16) -> (u16, u16) {
         let here = row[usize::from(junction)];
-        let comes = |(other, seconds): &&(u16, u16)| {
-            row[usize::from(*other)] + u32::from(*seconds) == here
-        };
+        let comes =
+            |(other, seconds): &&(u16, u16)| row[usize::from(*other)] + u32::from(*seconds) == here;
         let mut roads = self.neighbours[usize::from(junction)].iter().rev();
         *roads.find(comes).expect("a least walk comes by a road")
     }
