@@ -46,7 +46,7 @@ pub fn build(books: [&[u8]; 2], [m, leaf_limit]: [u32; 2], work: &[u32], area: &
 }
 
 /// The plain finders that search, by how they measure yards.
-const PLAIN: [Measuring; 2] = [Measuring::Ways, Measuring::Rows];
+const PLAIN: [Measuring; 3] = [Measuring::Ways, Measuring::WholeWalks, Measuring::Rows];
 
 /// The work and the result area of searches, as the proved finder and each plain one has left them.
 pub struct Areas {
