@@ -36,6 +36,7 @@ each_arc P (r ∷ rs) h a (Memᴰ.tail (Memᴰ.tail m)) = each_arc P rs (λ q k.
 -- the arc back is an arc of the same roads
 pub back-mem : (rs : List Road) (a : Arc) → Memᴰ a (arcs rs) → Memᴰ (arc a.to a.from a.seconds) (arcs rs)
 unfolding arcs back along
+back-mem [] a x' = elim x' [ ]
 back-mem (r ∷ rs) a (Memᴰ.head e) = Memᴰ.tail (Memᴰ.head (ap back e))
 back-mem (r ∷ rs) a (Memᴰ.tail (Memᴰ.head e)) = Memᴰ.head (ap back e)
 back-mem (r ∷ rs) a (Memᴰ.tail (Memᴰ.tail m)) = Memᴰ.tail (Memᴰ.tail (back-mem rs a m))

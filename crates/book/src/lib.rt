@@ -5,7 +5,7 @@ ghost use Rattle.book.specs.Bytes.{u8_at, u16_at, u32_at, put_u16, put_u32};
 ghost use Rattle.book.specs.Open.{version, open_refusal, opened, opened_number};
 
 // A junction's number: a vertex of the road graph, counted from 0. Never a tree region's number.
-#[derive(Drop)]
+#[derive(Clone, Copy)]
 pub struct Junction {
     pub number: u16,
 }
@@ -65,7 +65,7 @@ pub fn put_u32(d: &mut [u8], i: usize, x: u32)
 }
 
 // What opening a book finds: its body, or the number of the test that turns it back.
-#[derive(Drop)]
+#[derive(Clone, Copy)]
 pub enum Opened {
     Body,
     Refused(u8),

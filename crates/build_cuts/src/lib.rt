@@ -14,14 +14,14 @@ ghost use Rattle.build_cuts.specs.code.Cutting.{Range, Room, regions_of, parts_o
 use build_records::Part;
 
 // What building is asked for: how many landmarks a region has, and how many yards a leaf has at most.
-#[derive(Drop)]
+#[derive(Clone, Copy)]
 pub struct Plan {
     pub landmarks: usize,
     pub limit: usize,
 }
 
 // The place after what was written, and how many regions were.
-#[derive(Drop)]
+#[derive(Clone, Copy)]
 pub struct Put {
     pub at: usize,
     pub regions: usize,

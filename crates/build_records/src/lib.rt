@@ -23,7 +23,7 @@ use book::Junction;
 use tree_layout::Fields;
 
 // A range: its first junction, how many junctions it has, and the numbers of its yards, `from` up to `end`.
-#[derive(Drop)]
+#[derive(Clone, Copy)]
 pub struct Part {
     pub start: Junction,
     pub size: usize,

@@ -34,7 +34,7 @@ const COUNT_SIZE: usize = 4;
 
 // What a build returns: the number of the test that turns it back, or 0 and the tree's length.
 #[repr(C)]
-#[derive(Drop)]
+#[derive(Clone, Copy)]
 pub struct Built {
     pub refusal: u32,
     pub length: u32,

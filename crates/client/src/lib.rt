@@ -14,7 +14,7 @@ use search_tree::Found;
 
 // What is asked for: the landmarks of each region and the leaf limit of the tree, the kinds that both searches want,
 // and the seconds of the second.
-#[derive(Drop)]
+#[derive(Clone, Copy)]
 pub struct Asked {
     pub m: u32,
     pub limit: u32,
@@ -23,7 +23,7 @@ pub struct Asked {
 }
 
 // What two searches answer.
-#[derive(Drop)]
+#[derive(Clone, Copy)]
 pub struct Both {
     pub first: Found,
     pub second: Found,

@@ -80,6 +80,7 @@ from_first f x (y ∷ ys) j h = from_first f (bit_or x (f y)) ys j (omega (arith
 -- and so is a yard's
 pub from-every : (f : ℕ → ℕ) (x : ℕ) (ys : List ℕ) (j y : ℕ) → Mem y ys → HasBit j (f y) → HasBit j (together_from f x ys)
 unfolding together_from
+from-every f x [] j y x4 h = elim x4 [ ]
 from-every f x (z ∷ ys) j y (head e) h = from_first f (bit_or x (f z)) ys j (omega (arith, or_bit x (f z) j, here, one))
   where
     here : f z / 2 ^ j % 2 ≡ 1

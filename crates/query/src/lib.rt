@@ -8,7 +8,7 @@ ghost use Rattle.query.specs.Query.{value_refusal, query_refusal, query_of, quer
 use book::{Junction, Opened};
 
 // What a query asks: the aggregate's code, k (how many yards), the limit of steps, and how many crews there are.
-#[derive(Drop)]
+#[derive(Clone, Copy)]
 pub struct Query {
     pub aggregate: u8,
     pub k: u8,
@@ -17,7 +17,7 @@ pub struct Query {
 }
 
 // What reading a query book finds: what it asks, or the number of the test that turns it back.
-#[derive(Drop)]
+#[derive(Clone, Copy)]
 pub enum QueryBook {
     Asked(Query),
     Refused(u8),

@@ -7,7 +7,7 @@ ghost use Rattle.road_layout.specs.Layout.{road_ok, roads_ok, road_layout_refusa
 use book::{Junction, Opened};
 
 // What reading a road book finds: its counts, or the number of the test that turns it back.
-#[derive(Drop)]
+#[derive(Clone, Copy)]
 pub enum RoadBook {
     Sound { junctions: u16, roads: u16 },
     Refused(u8),
@@ -27,7 +27,7 @@ pub fn number(o: RoadBook) -> u8
 }
 
 // A road: its low end, its high end and its seconds.
-#[derive(Drop)]
+#[derive(Clone, Copy)]
 pub struct Road {
     pub low: Junction,
     pub high: Junction,

@@ -14,14 +14,14 @@ use search_measure::Ceiling;
 use search_order::Entry;
 
 // What a search keeps of the yards that it measures: the first so many, or those within so many seconds.
-#[derive(Drop)]
+#[derive(Clone, Copy)]
 pub enum Rule {
     Nearest(u8),
     InDrive(u32),
 }
 
 // What a search is asked: the aggregate's code, the limit of its steps, its rule, and the wanted kinds.
-#[derive(Drop)]
+#[derive(Clone, Copy)]
 pub struct Asked {
     pub aggregate: u8,
     pub limit: u32,

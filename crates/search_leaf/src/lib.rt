@@ -18,14 +18,14 @@ use search_held::Asked;
 use tree_layout::{Region, landmarks, records};
 
 // The place of the element that leaves next, and its f, or UNQUEUED if none remains.
-#[derive(Drop)]
+#[derive(Clone, Copy)]
 pub struct Next {
     pub place: usize,
     pub f: u64,
 }
 
 // The form of a leaf's list: the version of its book, and how many yards it has.
-#[derive(Drop)]
+#[derive(Clone, Copy)]
 pub struct Form {
     pub version: u8,
     pub yards: usize,

@@ -18,14 +18,14 @@ use book::Junction;
 use search_bounds::numbers;
 
 // What an aggregate is held against.
-#[derive(Drop)]
+#[derive(Clone, Copy)]
 pub enum Ceiling {
     None,
     Seconds(u32),
 }
 
 // The arc by which a least walk comes to a junction: the junction at its other end, and its seconds.
-#[derive(Drop)]
+#[derive(Clone, Copy)]
 pub struct Last {
     pub from: u16,
     pub seconds: u16,
@@ -33,21 +33,21 @@ pub struct Last {
 
 // What a walk comes to: the crew, after so many seconds, or above the ceiling; and how many junctions it has walked on
 // from.
-#[derive(Drop)]
+#[derive(Clone, Copy)]
 pub enum Arrival {
     Reached { seconds: u32, count: usize },
     Above { count: usize },
 }
 
 // What a yard's drives come to: their aggregate over the crews, and the furthest crew's.
-#[derive(Drop)]
+#[derive(Clone, Copy)]
 pub struct Numbers {
     pub total: u32,
     pub furthest: u32,
 }
 
 // What measuring answers: both true numbers, or that the aggregate exceeds the ceiling.
-#[derive(Drop)]
+#[derive(Clone, Copy)]
 pub enum Measured {
     Exact(Numbers),
     Above,

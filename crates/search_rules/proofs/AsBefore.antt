@@ -112,6 +112,8 @@ front-near d x (suc j) (g ∷ l) s h (tail k) = front-near d x j l s.1 (omega ar
 
 -- an element is in the first places, or no nearer than what stands after these
 front-or : (d x : Entry) (j : ℕ) (l : List Entry) → Level l → Mem x l → Mem x (take j l) ⊎ ((get_or l j d).distance ≤ x.distance)
+front-or d x zero [] s k = elim k [ ]
+front-or d x (suc j) [] s k = elim k [ ]
 front-or d x zero (g ∷ l) s (head p) = inr (rw p (omega arith))
 front-or d x zero (g ∷ l) s (tail k) = inr (s.0 x k)
 front-or d x (suc j) (g ∷ l) s (head p) = inl (head p)

@@ -29,6 +29,7 @@ greatest_of-le h x (m ∷ ms) k = omega (arith, k m (head refl), greatest_of-le 
 
 greatest_of_up : (h : Mark → ℕ) (ms : List Mark) (m : Mark) → Mem m ms → h m ≤ greatest_of h ms
 unfolding greatest_of
+greatest_of_up h [] n x' = elim x' [ ]
 greatest_of_up h (m ∷ ms) n (head e) = omega (arith, ap h e)
 greatest_of_up h (m ∷ ms) n (tail k) = omega (arith, greatest_of_up h ms n k)
 

@@ -59,6 +59,7 @@ module _ (p q : ℕ → Bool) (sub : (x : ℕ) → T (q x) → T (p x)) where
 
   tally_less : (u : ℕ) (l : List ℕ) → Mem u l → T (p u) → T (not (q u)) → tally q l < tally p l
   unfolding tally
+  tally_less u [] x3 s t = elim x3 [ ]
   tally_less u (x ∷ l) (head e) s t = omega (arith, choose_no {A = ℕ} (q x) 1 0 (rw e at t), choose_yes {A = ℕ} (p x) 1 0 (rw e at s), tally_le l)
   tally_less u (x ∷ l) (tail k) s t = omega (arith, one-le x, tally_less u l k s t)
 

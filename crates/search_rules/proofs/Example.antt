@@ -187,6 +187,7 @@ unfolding kinds_true kind_true holds_wanted keep_if five all numbers yards_below
 five_kinds = tt
 
 crews-there : (q : ℕ) → Mem q (0 ∷ 2 ∷ []) → q < 5
+crews-there q (tail (tail x8)) = elim x8 [ ]
 crews-there q (head e) = rw e (omega arith)
 crews-there q (tail (head e)) = rw e (omega arith)
 

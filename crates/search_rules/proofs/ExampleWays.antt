@@ -170,6 +170,7 @@ inwards-there = by_number (λ r m. m.place < 6) (λ r h m e. ltb→lt m.place 6
     (all-mem (λ (x : Mark). ltb x.place 6) (around.towards r) (all-mem (inwards_there around) (numbers 3 0) tt r (numbers-mem 3 0 r (omega arith) (omega arith))) m e))
 
 crews-there : (q : ℕ) → Mem q (1 ∷ []) → q < 6
+crews-there q (mathlib.Core.List.Memᴰ.tail x4) = elim x4 [ ]
 crews-there q (head e) = rw e (omega arith)
 
 three : length around.tree.regions ≡ 3

@@ -5,6 +5,7 @@ use Prim.Native.Nat.{ℕ, zero, suc, min, ◌≤◌}
 use Rattle.tree_layout.specs.Values.{Element, Mark}
 use native.Mathlib.Omega.{arith}
 use lib.ListN.{length, length-take}
+use Rattle.book.specs.Choose.{choose}
 use Rattle.book.proofs.Choosing.{choose_case}
 use Rattle.search_rules.specs.Order.{Entry}
 use Rattle.search_rules.specs.Rule.{Rule, nearest}
@@ -31,7 +32,7 @@ module _ (i : Instance) (k : ℕ) (asked : i.rule ≡ nearest k) where
   wanted-few : (st : SearchState) (first : ℕ) (m : Mark) (es : List Element) → Few st → Few (queue_wanted i st first m es)
   unfolding Few queue_wanted queue_yard
   wanted-few st first m [] h = h
-  wanted-few st first m (e ∷ es) h = wanted-few _ first m es (choose_case Few (i.wants e.yard) (λ t. h) (λ t. h))
+  wanted-few st first m (e ∷ es) h = wanted-few (choose (i.wants e.yard) (queue_yard i st first m e) st) first m es (choose_case Few (i.wants e.yard) (λ t. h) (λ t. h))
 
   region_few : (st : SearchState) (r a : ℕ) → Few st → Few (take_region i st r a)
   unfolding Few take_region take_leaf open_whole open_leaf open_inner queue_next close_leaf

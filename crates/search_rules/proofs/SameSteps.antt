@@ -189,7 +189,7 @@ module _ (i : Instance) where
   wanted-same : (st : SearchState) (first : ℕ) (m : Mark) (es : List Element) → Same st → Same (queue_wanted i st first m es)
   unfolding Same queue_wanted queue_yard
   wanted-same st first m [] h = h
-  wanted-same st first m (e ∷ es) h = wanted-same _ first m es (choose_case Same (i.wants e.yard) (λ t. h) (λ t. h))
+  wanted-same st first m (e ∷ es) h = wanted-same (choose (i.wants e.yard) (queue_yard i st first m e) st) first m es (choose_case Same (i.wants e.yard) (λ t. h) (λ t. h))
 
   region_same : (st : SearchState) (r a : ℕ) → Same st → Same (take_region i st r a)
   unfolding Same take_region open_leaf open_inner queue_next close_leaf take_leaf open_whole queue_wanted queue_yard
@@ -217,7 +217,8 @@ module _ (i : Instance) where
       → with_before i (queue_wanted i s first m es) ≡ with_before i (queue_wanted i t first m es)
   unfolding with_before queue_wanted queue_yard
   wanted_before s t first m [] h = h
-  wanted_before s t first m (e ∷ es) h = wanted_before _ _ first m es (choose-two (λ (x y : SearchState). with_before i x ≡ with_before i y) (i.wants e.yard) (λ w. one) (λ w. h))
+  wanted_before s t first m (e ∷ es) h =
+      wanted_before (choose (i.wants e.yard) (queue_yard i s first m e) s) (choose (i.wants e.yard) (queue_yard i t first m e) t) first m es (choose-two (λ (x y : SearchState). with_before i x ≡ with_before i y) (i.wants e.yard) (λ w. one) (λ w. h))
     where
       one : with_before i (queue_yard i s first m e) ≡ with_before i (queue_yard i t first m e)
       one = ap (λ (x : SearchState). with_before i (queue_yard i x first m e)) h

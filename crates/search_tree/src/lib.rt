@@ -12,14 +12,14 @@ ghost use Rattle.search_tree.specs.Found.{found_of, want_of};
 use tree_layout::records;
 
 // What a search is for: the first k yards of its query, or those within so many seconds.
-#[derive(Drop)]
+#[derive(Clone, Copy)]
 pub enum Goal {
     Nearest,
     InDrive(u32),
 }
 
 // What a call wants beside its books: yards of which kinds, and which of them.
-#[derive(Drop)]
+#[derive(Clone, Copy)]
 pub struct Want {
     pub kinds: u8,
     pub goal: Goal,
@@ -27,7 +27,7 @@ pub struct Want {
 
 // What a search returns; settled is 1 or 0.
 #[repr(C)]
-#[derive(Drop)]
+#[derive(Clone, Copy)]
 pub struct Found {
     pub refusal: u32,
     pub settled: u32,

@@ -16,7 +16,7 @@ pub const ROOM: usize = 1048577;
 const TRIES: usize = 1000000;
 
 // What reading brings: so many bytes, none at the end of the input, or an error.
-#[derive(Drop)]
+#[derive(Clone, Copy)]
 pub enum Read {
     Bytes(usize),
     Failed,

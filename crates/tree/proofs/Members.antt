@@ -17,6 +17,7 @@ use Rattle.tree.specs.Yards.{starts, children_of, gather, own_yards, leaf_yards_
 
 pub gather-mem : (f : ℕ → List ℕ) (cs : List ℕ) (c y : ℕ) → Mem c cs → Mem y (f c) → Mem y (gather f cs)
 unfolding gather
+gather-mem f [] c y x'' k = elim x'' [ ]
 gather-mem f (x ∷ cs) c y (head e) k = append_left (gather f cs) (rw e at k)
 gather-mem f (x ∷ cs) c y (tail j) k = append_right (f x) (gather-mem f cs c y j k)
 

@@ -24,6 +24,7 @@ use Rattle.tree.proofs.Theorems.{tree-facts, accepted-whole}
 
 -- a member's list has some length
 some_member : {c : ℕ} (cs : List ℕ) → Mem c cs → 0 < length cs
+some_member {c = c} [] k = elim k [ ]
 some_member (x ∷ cs) k = omega arith
 
 module _ (rs : List Region) where

@@ -15,7 +15,7 @@ use tree_layout::{Header, TreeBook, records};
 pub const REGIONS: usize = 511;
 
 // What reading a tree book finds: its header, or the number of the test that turns it back.
-#[derive(Drop)]
+#[derive(Clone, Copy)]
 pub enum Tree {
     Shaped(Header),
     Refused(u8),

@@ -8,7 +8,7 @@ use crate::regions;
 use tree_layout::{Fields, Region, records};
 
 // What the descent of a subtree finds: the region after it, or that a rule of the shape doesn't hold.
-#[derive(Drop)]
+#[derive(Clone, Copy)]
 pub enum End {
     At(Region),
     Broken,

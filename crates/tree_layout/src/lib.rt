@@ -21,13 +21,13 @@ use book::{Junction, Opened};
 pub const LATEST: u8 = 2;
 
 // A tree region's number: a node of the tree, counted from 0 in preorder. Never a junction's number.
-#[derive(Drop)]
+#[derive(Clone, Copy)]
 pub struct Region {
     pub number: u16,
 }
 
 // A tree book's version, and what its header counts.
-#[derive(Drop)]
+#[derive(Clone, Copy)]
 pub struct Header {
     pub version: u8,
     pub junctions: u16,
@@ -38,7 +38,7 @@ pub struct Header {
 
 // A region's fields, and the place of its record in the book. A range may end at the junction count, so that `after` is
 // a bound and no junction.
-#[derive(Drop)]
+#[derive(Clone, Copy)]
 pub struct Fields {
     pub at: usize,
     pub first: Junction,
@@ -49,14 +49,14 @@ pub struct Fields {
 }
 
 // The least and the greatest distance from a landmark to its region's yards.
-#[derive(Drop)]
+#[derive(Clone, Copy)]
 pub struct Span {
     pub least: u32,
     pub greatest: u32,
 }
 
 // An element of a leaf's list: a yard, its distance from the landmark, and its kinds.
-#[derive(Drop)]
+#[derive(Clone, Copy)]
 pub struct Listed {
     pub distance: u32,
     pub yard: Junction,
@@ -64,7 +64,7 @@ pub struct Listed {
 }
 
 // A region's landmark: its junction, and the least and the greatest distance from it to the region's yards.
-#[derive(Drop)]
+#[derive(Clone, Copy)]
 pub struct Landmark {
     pub place: Junction,
     pub least: u32,
@@ -72,7 +72,7 @@ pub struct Landmark {
 }
 
 // What reading a tree book's layout finds: its header, or the number of the test that turns it back.
-#[derive(Drop)]
+#[derive(Clone, Copy)]
 pub enum TreeBook {
     Laid(Header),
     Refused(u8),

@@ -4,7 +4,7 @@ ghost use Rattle.within.specs.Input.{line_length, number_of, seconds_in};
 ghost use Rattle.within.specs.code.Given.{given_by};
 
 // The seconds, if there are any.
-#[derive(Drop)]
+#[derive(Clone, Copy)]
 pub enum Seconds {
     Given(u32),
     None,

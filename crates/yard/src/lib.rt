@@ -11,7 +11,7 @@ use book::{Junction, Opened};
 pub const LATEST: u8 = 2;
 
 // What reading a yard book finds: how many yards it has, or the number of the test that turns it back.
-#[derive(Drop)]
+#[derive(Clone, Copy)]
 pub enum YardBook {
     Yards(u16),
     Refused(u8),

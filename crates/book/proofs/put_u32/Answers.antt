@@ -1,0 +1,7 @@
+use Rattle.book.specs.Bytes.{put_u32}
+use borrow.Author.Rules.{rules}
+use Rattle.book.proofs.put_u32.Goals as goal
+
+pub returns : goal.returns
+unfolding put_u32
+returns c = cc

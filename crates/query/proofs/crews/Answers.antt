@@ -1,0 +1,28 @@
+use borrow.Author.Rules.{rules}
+use mathlib.Core.Path.{◌≡◌, refl}
+use Prim.Native.Nat.{ℕ, ◌-◌, ◌≤◌, ◌<◌}
+use native.Mathlib.Omega.{arith}
+use lib.ListN.{length, get_or, length-set}
+use Rattle.query.specs.Query.{crew_count, crew_at}
+use Rattle.query.proofs.CrewList.{copied_next, copied_all}
+use Rattle.query.proofs.Reading.{its_crews}
+use Rattle.query.proofs.crews.Goals as goal
+
+pub loop-i-init : goal.loop-i-init
+loop-i-init c = (omega arith, its_crews _ _ c.header-q.ensures, refl, λ j h. absurd (omega arith))
+
+pub loop-i-preserved : goal.loop-i-preserved
+loop-i-preserved c =
+    let l = c.loop-i in
+    (omega arith, l.invariant.1, simp length-set l.invariant.2, copied_next _ l.out l.i _ (omega arith) c.crew_at-c.ensures l.invariant.3)
+
+pub shape_of-out : goal.shape_of-out
+shape_of-out c = c.loop-i.invariant.2
+
+pub returns : goal.returns
+returns c =
+    let l = c.loop-i in
+    record {
+      count = l.invariant.1;
+      crews = copied_all _ _ _ _ l.invariant.1 (omega arith) l.invariant.3 (omega (arith, c.loop-i-test.false));
+    }

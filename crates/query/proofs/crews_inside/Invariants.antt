@@ -1,0 +1,13 @@
+use borrow.Author.Rules.{rules}
+use mathlib.Core.Path.{◌≡◌, sym, ◌∙◌}
+use Prim.Native.Nat.{◌-◌, ◌≤◌}
+use native.Mathlib.Omega.{arith}
+use Rattle.query.specs.Query.{crews_from, crews_of, inside}
+use Rattle.query.proofs.CrewList.{starts, goes_on, stops, ends}
+use Rattle.query.proofs.crews_inside.Given as goal
+
+abbrev pub invariant-loop-i : goal.invariant-loop-i
+invariant-loop-i l = (l.i ≤ l.count) × (inside l.n (crews_from l.b (l.count - l.i) l.i) ≡ inside l.n (crews_of l.b))
+
+abbrev pub decreases-loop-i : goal.decreases-loop-i
+decreases-loop-i l = l.count - l.i

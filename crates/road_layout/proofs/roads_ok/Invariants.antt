@@ -1,0 +1,15 @@
+use borrow.Author.Tests.{not-true, not-false}
+use Rattle.road_layout.proofs.Rising.{goes_on, stops, ends}
+use borrow.Author.Rules.{rules}
+use mathlib.Core.Path.{◌≡◌, sym, ◌∙◌}
+use Prim.Native.Nat.{◌-◌, ◌≤◌}
+use native.Mathlib.Nat.{sub-zero}
+use native.Mathlib.Omega.{arith}
+use Rattle.road_layout.specs.Layout.{roads_ok}
+use Rattle.road_layout.proofs.roads_ok.Given as goal
+
+abbrev pub invariant-loop-k : goal.invariant-loop-k
+invariant-loop-k l = (l.k ≤ l.count) × (roads_ok l.b l.n (l.count - l.k) l.k l.l l.h ≡ roads_ok l.b l.n l.count 0 0 0)
+
+abbrev pub decreases-loop-k : goal.decreases-loop-k
+decreases-loop-k l = l.count - l.k

@@ -1,0 +1,15 @@
+use borrow.Author.Rules.{rules}
+use mathlib.Core.Path.{◌≡◌, refl, sym, ◌∙◌}
+use Prim.Native.Nat.{◌+◌, ◌-◌, ◌/◌, ◌≤◌, ◌<◌}
+use native.Mathlib.Omega.{arith}
+use lib.ListN.{length, get_or, length-set}
+use lib.Seq.{get_or-set_same}
+use Rattle.tournament.specs.code.Tournament.{queue_words, lesser_of, repair, put_leaf}
+use Rattle.tournament.proofs.Mending.{mended, all_mended, beside}
+use Rattle.tournament.proofs.put.Given as goal
+
+abbrev pub invariant-loop-k : goal.invariant-loop-k
+invariant-loop-k l = (l.k ≤ 5) × (l.i < queue_words) × (length l.tree ≡ queue_words) × (l.word ≡ get_or l.tree l.i 0) × (repair (5 - l.k) l.tree l.i ≡ repair 5 l.initial.tree l.initial.i)
+
+abbrev pub decreases-loop-k : goal.decreases-loop-k
+decreases-loop-k l = 5 - l.k

@@ -1,0 +1,18 @@
+use mathlib.Core.Path.{◌≡◌, sym, ◌∙◌}
+use native.Mathlib.Omega.{arith}
+use Prim.Native.Nat.{◌-◌, ◌≤◌}
+use borrow.Author.Tests.{not-true, not-false}
+use Rattle.tree_layout.specs.Sizes.{list_size}
+use Rattle.tree_layout.specs.Decode.{read_list}
+use Rattle.tree_layout.specs.Refusal.{list_ok}
+use Rattle.tree_layout.proofs.Sizes.{list-room}
+use Rattle.tree_layout.proofs.Accessing.{listed-is}
+use Rattle.tree_layout.proofs.Turns.{list_rest, list_bad, list_start, list-limit, list-order, list-next, list-end}
+use borrow.Author.Rules.{rules}
+use Rattle.tree_layout.proofs.list_ok.Given as goal
+
+abbrev pub invariant-loop-k : goal.invariant-loop-k
+invariant-loop-k l = (l.k ≤ l.n) × (list_rest l.d l.y.number (read_list l.v l.p (l.n - l.k) (list_size l.v l.k)) ≡ list_ok (read_list l.v l.p l.n 0))
+
+abbrev pub decreases-loop-k : goal.decreases-loop-k
+decreases-loop-k l = l.n - l.k

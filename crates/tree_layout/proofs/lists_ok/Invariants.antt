@@ -1,0 +1,21 @@
+use mathlib.Core.Path.{◌≡◌, sym, ap, ◌∙◌}
+use native.Mathlib.Omega.{arith}
+use Prim.Native.Nat.{ℕ, ◌+◌, ◌*◌, ◌-◌, ◌≤◌}
+use native.Mathlib.Nat.{sub-zero}
+use borrow.Author.Tests.{not-true, not-false}
+use lib.ListN.{length}
+use Rattle.book.specs.Open.{version}
+use Rattle.tree_layout.specs.Sizes.{leaf_mark_size}
+use Rattle.tree_layout.specs.Decode.{read_lists}
+use Rattle.tree_layout.specs.Refusal.{all, mark_ok}
+use Rattle.tree_layout.specs.Reading.{bounded}
+use Rattle.tree_layout.proofs.Turns.{room, lists-next, lists_stop, lists-end}
+use borrow.Author.Rules.{rules}
+use Rattle.tree_layout.proofs.lists_ok.Given as goal
+
+abbrev pub invariant-loop-k : goal.invariant-loop-k
+invariant-loop-k l = (l.k ≤ l.m) × (l.at + (l.m - l.k) * leaf_mark_size (version l.b) l.yards ≤ length l.b)
+    × (all (mark_ok (bounded l.first l.end 0)) (read_lists l.b l.yards (l.m - l.k) l.at) ≡ all (mark_ok (bounded l.first l.end 0)) (read_lists l.b l.yards l.m l.start))
+
+abbrev pub decreases-loop-k : goal.decreases-loop-k
+decreases-loop-k l = l.m - l.k

@@ -1,0 +1,14 @@
+use borrow.Author.Rules.{rules}
+use mathlib.Core.Path.{◌≡◌}
+use Prim.Native.Nat.{◌-◌, ◌≤◌}
+use native.Mathlib.Omega.{arith}
+use lib.ListN.{length, length-set}
+use Rattle.book.proofs.Filling.{filled, filled_none, filled_more}
+use Rattle.work_area.proofs.Zeroing.{filled-zeroed}
+use Rattle.work_area.proofs.zero_words.Given as goal
+
+abbrev pub invariant-loop-i : goal.invariant-loop-i
+invariant-loop-i l = (l.i ≤ 16384) × (16384 ≤ length l.initial.work) × (length l.work ≡ length l.initial.work) × (l.work ≡ filled l.i 0 l.initial.work)
+
+abbrev pub decreases-loop-i : goal.decreases-loop-i
+decreases-loop-i l = 16384 - l.i

@@ -1,0 +1,15 @@
+use borrow.Author.Rules.{rules}
+use mathlib.Core.Path.{◌≡◌, sym, ap, ◌∙◌}
+use Prim.Native.Nat.{ℕ, ◌-◌, ◌≤◌, ◌<◌}
+use native.Mathlib.Omega.{arith}
+use lib.ListN.{length, length-set, length-replicate}
+use Rattle.yard.specs.Yards.{yard_count, yard_refusal, kinds_from, kind_table}
+use Rattle.yard.proofs.YardLayout.{layout, yards-at}
+use Rattle.yard.proofs.Tables.{begins, one_more, table_end}
+use Rattle.yard.proofs.kind_table.Given as goal
+
+abbrev pub invariant-loop-i : goal.invariant-loop-i
+invariant-loop-i l = (l.n ≡ yard_count l.b) × (yard_refusal l.b ≡ 0) × (l.i ≤ l.n) × (length l.table ≡ 1024) × (kinds_from l.b (l.n - l.i) l.i l.table ≡ kind_table l.b)
+
+abbrev pub decreases-loop-i : goal.decreases-loop-i
+decreases-loop-i l = l.n - l.i

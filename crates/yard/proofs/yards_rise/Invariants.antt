@@ -1,0 +1,16 @@
+use borrow.Author.Rules.{rules}
+use mathlib.Core.Path.{◌≡◌, sym, ◌∙◌}
+use Prim.Native.Nat.{◌-◌, ◌≤◌}
+use native.Mathlib.Nat.{sub-zero}
+use native.Mathlib.Omega.{arith}
+use Rattle.yard.specs.Yards.{yards_from, yards_rise}
+use Rattle.yard.proofs.Places.{place-room}
+use Rattle.yard.proofs.Rising.{goes_on, falls, high, ends}
+use Rattle.yard.proofs.YardLayout.{read_yard-at}
+use Rattle.yard.proofs.yards_rise.Given as goal
+
+abbrev pub invariant-loop-i : goal.invariant-loop-i
+invariant-loop-i l = (l.i ≤ l.count) × (yards_rise l.low (yards_from l.b (l.count - l.i) l.i) ≡ yards_rise 0 (yards_from l.b l.count 0))
+
+abbrev pub decreases-loop-i : goal.decreases-loop-i
+decreases-loop-i l = l.count - l.i
