@@ -71,7 +71,7 @@ module _ (i : Instance) (root : T (i.admits 0)) (enter : (r c : ℕ) → Mem c (
       → queue_wanted i st first m es ≡ queue_wanted all st first m es
   unfolding queue_wanted queue_yard yard_bound two_way_yard_bound one_way_yard_bound list_abs_diff over lower lower_to table_at marks
   same-wanted st first m [] h = refl
-  same-wanted st first m (e ∷ es) h = rw (T_true (i.wants e.yard) (h e (head refl))) (same-wanted (queue_yard i st first m e) first m es (λ g k. h g (tail k)))
+  same-wanted st first m (e ∷ es) h = rw (T_true (i.wants e.yard) (h e (head refl))) (same-wanted (choose true (queue_yard i st first m e) st) first m es (λ g k. h g (tail k)))
 
   same_whole : (st : SearchState) (r : ℕ) → T (leaf i r) → open_whole i st r ≡ open_whole all st r
   unfolding open_whole close_leaf chosen picked best_of best weight lower table_at marks

@@ -1,0 +1,14 @@
+use borrow.Author.Rules.{rules}
+use Prim.Native.Nat.{◌-◌, ◌≤◌}
+use native.Mathlib.Omega.{arith}
+use lib.ListN.{length}
+use Rattle.tree_layout.specs.Decode.{decode}
+use Rattle.tree.specs.Yards.{end_of}
+use Rattle.tree.proofs.Ending.{Filled, hops-inside, ends-step, ends-done}
+use Rattle.tree.proofs.arrays.fill_ends.Given as goal
+
+abbrev pub invariant-loop-i : goal.invariant-loop-i
+invariant-loop-i l = (l.i ≤ length l.places) × Filled (end_of (decode l.b).regions) l.i (length l.places) l.initial.ends l.ends
+
+abbrev pub decreases-loop-i : goal.decreases-loop-i
+decreases-loop-i l = l.i
