@@ -1,0 +1,16 @@
+use mathlib.Core.Path.{◌≡◌, sym, ◌∙◌}
+use Prim.Native.Nat.{◌-◌, ◌≤◌}
+use native.Mathlib.Omega.{arith}
+use borrow.Author.Rules.{rules}
+use Rattle.tree_layout.specs.Sizes.{list_size}
+use Rattle.tree_layout.specs.Decode.{read_list}
+use Rattle.check_rules.proofs.Elements.{element-inside}
+use Rattle.check_distances.specs.code.Row.{list_in}
+use Rattle.check_distances.proofs.Listing.{list-first, list_stop, list-next, list-end}
+use Rattle.check_distances.proofs.lists.list_true.Given as goal
+
+abbrev pub invariant-loop-k : goal.invariant-loop-k
+invariant-loop-k l = (l.k ≤ l.n) × (list_in l.ds (read_list l.v l.p (l.n - l.k) (list_size l.v l.k)) ≡ list_in l.ds (read_list l.v l.p l.n 0))
+
+abbrev pub decreases-loop-k : goal.decreases-loop-k
+decreases-loop-k l = l.n - l.k

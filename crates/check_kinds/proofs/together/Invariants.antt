@@ -1,0 +1,18 @@
+use mathlib.Core.Path.{◌≡◌, sym, ◌∙◌}
+use Prim.Native.Nat.{◌-◌, ◌≤◌, ◌<◌}
+use native.Mathlib.Omega.{arith}
+use borrow.Author.Rules.{rules}
+use lib.ListN.{drop}
+use Rattle.kinds.specs.Kinds.{together_from, together}
+use Rattle.yard.specs.Yards.{yard_count, yards_of, kind_of}
+use Rattle.check_rules.specs.Truth.{within}
+use Rattle.check_kinds.proofs.Joining.{join_first, join_turn, join_end}
+use Rattle.check_kinds.proofs.together.Given as goal
+
+abbrev pub invariant-loop-i : goal.invariant-loop-i
+invariant-loop-i l = (l.i ≤ l.n)
+    × (together_from (kind_of l.yard) l.x (within l.f.first.number l.f.after (drop l.i (yards_of l.yard)))
+    ≡ together (kind_of l.yard) (within l.f.first.number l.f.after (yards_of l.yard)))
+
+abbrev pub decreases-loop-i : goal.decreases-loop-i
+decreases-loop-i l = l.n - l.i

@@ -1,0 +1,18 @@
+use mathlib.Core.Path.{◌≡◌, sym, ◌∙◌}
+use Prim.Native.Nat.{◌-◌, ◌≤◌}
+use native.Mathlib.Omega.{arith}
+use borrow.Author.Rules.{rules}
+use borrow.Author.Tests.{not-true, not-false}
+use Rattle.yard.specs.Yards.{yards_of}
+use Rattle.tree_layout.specs.Sizes.{list_size}
+use Rattle.tree_layout.specs.Decode.{read_list}
+use Rattle.check_rules.proofs.Elements.{element-inside}
+use Rattle.check_tree.specs.code.Known.{known_list}
+use Rattle.check_tree.proofs.Knowing.{list-first, list_unknown, list_known_lem, list_done}
+use Rattle.check_tree.proofs.yards.list_known.Given as goal
+
+abbrev pub invariant-loop-k : goal.invariant-loop-k
+invariant-loop-k l = (l.k ≤ l.n) × (known_list (yards_of l.yard) (read_list l.v l.p (l.n - l.k) (list_size l.v l.k)) ≡ known_list (yards_of l.yard) (read_list l.v l.p l.n 0))
+
+abbrev pub decreases-loop-k : goal.decreases-loop-k
+decreases-loop-k l = l.n - l.k

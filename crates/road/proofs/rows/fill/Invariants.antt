@@ -1,0 +1,16 @@
+use borrow.Author.Rules.{rules}
+use mathlib.Core.Path.{◌≡◌, refl, ◌∙◌}
+use mathlib.Core.List.{List}
+use Prim.Native.Nat.{ℕ, ◌+◌, ◌-◌, ◌*◌, ◌≤◌}
+use native.Mathlib.Omega.{arith}
+use lib.ListN.{length}
+use Rattle.book.proofs.Lists.{get_d_mem}
+use Rattle.adjacency.specs.Adjacency.{Adjacency}
+use Rattle.road.proofs.Filling.{row_inside, part-size, put_size, RowedTo, rowed_none, rowed_more, rowed_all}
+use Rattle.road.proofs.rows.fill.Given as goal
+
+abbrev pub invariant-loop-r : goal.invariant-loop-r
+invariant-loop-r l = (l.r ≤ length l.sources) × (length l.rows ≡ length l.initial.rows) × ((road : List ℕ) → Adjacency road l.adj → RowedTo l.r road l.sources l.rows)
+
+abbrev pub decreases-loop-r : goal.decreases-loop-r
+decreases-loop-r l = length l.sources - l.r
