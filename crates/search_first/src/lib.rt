@@ -10,7 +10,7 @@ ghost use Rattle.search_first.specs.code.Held.{held_of};
 use search_order::Entry;
 
 // Yards in yard order, with their aggregates and their furthest crews' distances, and their number.
-#[derive(Drop)]
+#[derive(Clone, Copy)]
 pub struct Held {
     pub yards: [u32; 64],
     pub distances: [u32; 64],

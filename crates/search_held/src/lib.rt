@@ -30,7 +30,7 @@ pub struct Asked {
 }
 
 // What is kept: the first k yards; or how many are within the drive, whose words stand in a lent array.
-#[derive(Drop)]
+#[derive(Clone, Copy)]
 pub struct Kept {
     pub held: Held,
     pub listed: usize,

@@ -31,7 +31,7 @@ const VALUES: usize = 2048;
 const MOST_YARDS: usize = 256;
 
 // What a search comes to: what it keeps, the number of the measured yards, the steps taken, and whether it is settled.
-#[derive(Drop)]
+#[derive(Clone, Copy)]
 pub struct Outcome {
     pub kept: Kept,
     pub measured: usize,

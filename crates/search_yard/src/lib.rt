@@ -16,7 +16,7 @@ use search_measure::Measured;
 use search_order::Entry;
 
 // What a search has come to beside its words: what it keeps, and the number of the measured yards.
-#[derive(Drop)]
+#[derive(Clone, Copy)]
 pub struct Progress {
     pub kept: Kept,
     pub measured: usize,

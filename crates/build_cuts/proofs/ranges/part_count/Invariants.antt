@@ -1,0 +1,11 @@
+use borrow.Author.Rules.{rules}
+use Prim.Native.Nat.{◌-◌}
+use native.Mathlib.Omega.{arith}
+use Rattle.build_cuts.proofs.Counting.{Parted, parted_start, parted_with, parted_without, parted_end}
+use Rattle.build_cuts.proofs.ranges.part_count.Given as goal
+
+abbrev pub invariant-loop-i : goal.invariant-loop-i
+invariant-loop-i l = Parted l.yb l.first l.s l.count l.low l.i
+
+abbrev pub decreases-loop-i : goal.decreases-loop-i
+decreases-loop-i l = 4 - l.i

@@ -1,0 +1,68 @@
+use borrow.Author.Rules.{rules}
+use mathlib.Core.Path.{refl, sym}
+use Prim.Native.Nat.{◌≤◌}
+use native.Mathlib.Omega.{arith}
+use lib.Seq.{length-take-le}
+use Rattle.adjacency.proofs.Linking.{few-junctions}
+use Rattle.yard.proofs.YardLayout.{five}
+use Rattle.build_records.proofs.Numbered.{yards-few}
+use Rattle.build_records.proofs.Records.{part-few, fields_room, room, ends, record_written}
+use Rattle.build_records.proofs.put_record.Goals as goal
+
+pub border_list-c-requires : goal.border_list-c-requires
+border_list-c-requires c = let p = c.requires in (p.0.adjacency, omega (arith, p.0.inside, few-junctions p.0.adjacency.adjacent), refl)
+
+pub version-v-requires : goal.version-v-requires
+version-v-requires c = five _ c.requires.0.yards.passes
+
+pub overflow_add-p : goal.overflow_add-p
+overflow_add-p c = omega (arith, c.requires.0.inside, few-junctions c.requires.0.adjacency.adjacent)
+
+pub overflow_cast-p-2 : goal.overflow_cast-p-2
+overflow_cast-p-2 c = omega (arith, c.requires.0.inside, few-junctions c.requires.0.adjacency.adjacent)
+
+pub overflow_cast-p-3 : goal.overflow_cast-p-3
+overflow_cast-p-3 c = omega (arith, yards-few _ _ _ c.requires.0.yards)
+
+pub kinds_of-requires : goal.kinds_of-requires
+kinds_of-requires c = c.requires.0.yards
+
+pub put_fields-requires : goal.put_fields-requires
+put_fields-requires c = fields_room _ _ _ _ _ _ 0 c.version-v.ensures _ c.requires.3
+
+pub marks_at-start-requires : goal.marks_at-start-requires
+marks_at-start-requires c = omega (arith, fields_room _ _ _ _ _ _ 0 c.version-v.ensures _ c.requires.3, c.well_formed, c.ranges)
+
+pub slice_bounds-list-end : goal.slice_bounds-list-end
+slice_bounds-list-end c =
+    let p = c.requires in
+    let l = c.border_list-c in
+    omega (arith, l.ensures.count, l.auto, p.0.inside, few-junctions p.0.adjacency.adjacent)
+
+pub slice_bounds-put_marks-end : goal.slice_bounds-put_marks-end
+slice_bounds-put_marks-end c =
+    let p = c.requires in
+    let l = c.border_list-c in
+    sym (length-take-le _ _ (omega (arith, l.ensures.count, l.auto, p.0.inside, few-junctions p.0.adjacency.adjacent)))
+
+pub put_marks-requires : goal.put_marks-requires
+put_marks-requires c =
+    let p = c.requires in
+    let l = c.border_list-c in
+    let few : l.result ≤ 1024 = omega (arith, l.ensures.count, p.0.inside, few-junctions p.0.adjacency.adjacent) in (
+      p.0,
+      l.ensures.list,
+      part-few _ _ few (omega (arith, few, l.auto)),
+      p.1,
+      p.2,
+      room _ _ _ _ _ _ _ c.version-v.ensures _ _ c.marks_at-start.ensures p.3 (omega (arith, c.put_fields.auto)),
+    )
+
+pub returns : goal.returns
+returns c =
+    let w = c.put_marks in
+    let v = c.version-v.ensures in
+    let s = c.marks_at-start.ensures in record {
+      place = ends _ _ _ _ _ _ _ v _ s w.ensures.place;
+      tree = λ road limit b. record_written _ _ _ _ _ _ _ _ _ _ _ _ _ _ _ _ v s c.kinds_of.ensures c.put_fields.ensures (w.ensures.tree road limit b);
+    }

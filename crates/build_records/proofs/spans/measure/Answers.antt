@@ -1,0 +1,60 @@
+use borrow.Author.Rules.{rules}
+use mathlib.Core.Path.{refl}
+use Prim.Native.Nat.{◌-◌}
+use native.Mathlib.Omega.{arith}
+use Rattle.build_records.proofs.Numbered.{yard_read, yard-fits, yards-few}
+use Rattle.build_records.proofs.Measuring.{Measuring, measuring_start, measuring_turn, measuring_end}
+use Rattle.build_records.proofs.spans.measure.Goals as goal
+
+pub yard_at-first-requires : goal.yard_at-first-requires
+yard_at-first-requires c = let p = c.requires in (p.0.passes, omega (arith, p.0.most, p.1))
+
+pub bounds-row-first : goal.bounds-row-first
+bounds-row-first c =
+    omega (
+      arith,
+      yard-fits _ _ _ c.requires.0 _ _ c.requires.1 c.yard_at-first.ensures,
+      c.requires.2,
+    )
+
+pub overflow_add-k : goal.overflow_add-k
+overflow_add-k c = omega (arith, c.requires.1, yards-few _ _ _ c.requires.0)
+
+pub loop-k-init : goal.loop-k-init
+loop-k-init c =
+    measuring_start _ _ _ _ _ _ c.requires.1 (yard_read _ _ _ c.requires.0 _ _ c.requires.1
+    c.yard_at-first.ensures) refl
+
+pub yard_at-y-requires : goal.yard_at-y-requires
+yard_at-y-requires c = let u = c.requires.0 in (u.passes, omega (arith, c.loop-k-test.true, u.most))
+
+pub bounds-row-y : goal.bounds-row-y
+bounds-row-y c =
+    omega (
+      arith,
+      yard-fits _ _ _ c.requires.0 _ _
+          c.loop-k-test.true c.yard_at-y.ensures,
+      c.requires.2,
+    )
+
+pub overflow_add-k-in-loop-k : goal.overflow_add-k-in-loop-k
+overflow_add-k-in-loop-k c =
+    omega (
+      arith,
+      c.loop-k-test.true,
+      yards-few _ _ _
+          c.requires.0,
+    )
+
+pub loop-k-smaller : goal.loop-k-smaller
+loop-k-smaller c = omega (arith, c.loop-k-test.true)
+
+pub loop-k-preserved : goal.loop-k-preserved
+loop-k-preserved c =
+    let h = c.loop-k-test.true in
+    measuring_turn _ _ _ _ _ _ _ _ _ _ _ c.loop-k.invariant h (yard_read _ _ _
+    c.requires.0 _ _ h
+    c.yard_at-y.ensures) refl c.lesser-low.ensures c.greater-high.ensures
+
+pub returns : goal.returns
+returns c = measuring_end _ _ _ _ _ _ _ c.loop-k.invariant c.loop-k-test.false

@@ -1,0 +1,14 @@
+use Prim.Native.Nat.{◌-◌}
+use native.Mathlib.Omega.{arith}
+use Rattle.tree_layout.specs.code.Marks.{marks_at}
+use Rattle.search_bounds.specs.code.Bounds.{mark_weight}
+use Rattle.search_bounds.proofs.Picking.{Picked, picked_first, picked-turn, picked_all}
+use Rattle.search_bounds.proofs.Bounding.{count_read, count-marks, chosen_made}
+use borrow.Author.Rules.{rules}
+use Rattle.search_bounds.proofs.picks.pick_at.Given as goal
+
+abbrev pub invariant-loop-j : goal.invariant-loop-j
+invariant-loop-j l = Picked (mark_weight l.table l.rows l.crews (marks_at l.tree l.at)) l.m l.j l.p l.best
+
+abbrev pub decreases-loop-j : goal.decreases-loop-j
+decreases-loop-j l = l.m - l.j

@@ -1,0 +1,16 @@
+use mathlib.Core.Path.{◌≡◌, sym}
+use Prim.Native.Nat.{◌-◌, ◌≤◌}
+use native.Mathlib.Omega.{arith}
+use Rattle.search_bounds.specs.code.Rows.{rows_lower}
+use Rattle.search_bounds.proofs.Cells.{lower-none, lower-turn, lower-end}
+use borrow.Author.Rules.{rules}
+use Rattle.search_bounds.proofs.rows.lower.Goals as goal
+
+pub loop-r-init : goal.loop-r-init
+loop-r-init c = (omega arith, sym (lower-none _ _ _))
+
+pub loop-r-preserved : goal.loop-r-preserved
+loop-r-preserved c = (omega arith, lower-turn _ _ _ _ _ _ _ c.loop-r.invariant.1 c.row_abs_diff.ensures c.greater-x.ensures)
+
+pub returns : goal.returns
+returns c = lower-end _ _ _ _ _ _ c.loop-r.invariant.0 c.loop-r-test.false c.loop-r.invariant.1

@@ -1,0 +1,6 @@
+use borrow.Author.Rules.{rules}
+use Rattle.search_drive.proofs.InWords.{words-at}
+use Rattle.search_drive.proofs.entry_at.Goals as goal
+
+pub returns : goal.returns
+returns c = words-at _ _

@@ -1,0 +1,6 @@
+use Rattle.search_inner.proofs.Queueing.{key_of_lem}
+use borrow.Author.Rules.{rules}
+use Rattle.search_inner.proofs.key.Goals as goal
+
+pub returns : goal.returns
+returns c = key_of_lem _ _ _ _ _ _ _ _ _ c.region_bound-x.ensures c.greater64.ensures

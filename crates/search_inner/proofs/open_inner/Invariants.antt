@@ -1,0 +1,20 @@
+use borrow.Author.Rules.{rules}
+use mathlib.Core.Path.{refl, sym, ◌∙◌}
+use mathlib.Core.Logic.{⊎_elim}
+use Prim.Native.Nat.{◌+◌, ◌-◌}
+use native.Mathlib.Omega.{arith}
+use lib.ListN.{length, length-set}
+use Rattle.book.proofs.Choosing.{true_T, false_T}
+use Rattle.tree_layout.specs.Decode.{junction_count, landmark_count}
+use Rattle.tree.proofs.Fielding.{laid-header, laid-few}
+use Rattle.tree.proofs.Recursing.{children-is}
+use Rattle.search_inner.specs.code.Children.{wanted_in, key_of}
+use Rattle.search_inner.proofs.Queueing.{Counted, counted, Queueing, queueing_none, queueing_on, queueing_over, queueing_all, Next, next_slot, key_rows}
+use Rattle.search_inner.proofs.open_inner.Given as goal
+
+abbrev pub invariant-loop-k : goal.invariant-loop-k
+invariant-loop-k l = Counted l.tree l.places l.rows l.firsts
+    × Queueing (wanted_in l.tree l.asked.wanted) (key_of l.tree l.table (landmark_count l.tree) l.asked.aggregate l.crews l.a) l.tree (length l.places) (junction_count l.tree) l.i l.n l.k l.c l.initial.words l.words
+
+abbrev pub decreases-loop-k : goal.decreases-loop-k
+decreases-loop-k l = l.n - l.k

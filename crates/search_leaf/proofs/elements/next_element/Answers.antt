@@ -1,0 +1,42 @@
+use mathlib.Core.Logic.{⊎_elim}
+use Prim.Native.Nat.{◌-◌, ◌≤◌}
+use native.Mathlib.Omega.{arith}
+use Rattle.tree_layout.specs.Decode.{read_list}
+use Rattle.search_state.specs.code.State.{fs_in, gone_in}
+use Rattle.search_leaf.specs.code.Leaves.{words_of}
+use Rattle.search_leaf.proofs.Scanning.{words_by, Scanned, scanned_first, scanned_on, scanned_still, scanned_all}
+use Rattle.search_leaf.proofs.Numbering.{element-fits}
+use Rattle.search_leaf.proofs.Filling.{yard-near}
+use borrow.Author.Rules.{rules}
+use Rattle.search_leaf.proofs.elements.next_element.Goals.{then-w-f, else-w-f}
+use Rattle.search_leaf.proofs.elements.next_element.Goals as goal
+
+pub element-requires : goal.element-requires
+element-requires c = element-fits _ c.args.list.now _ 0 c.requires.0 c.requires.1 c.requires.2
+
+pub word_of-f-requires : goal.word_of-f-requires
+word_of-f-requires c =
+    (yard-near _ _ _ 0 _ _ c.requires.0 c.element.ensures c.requires.3, c.requires.4, c.requires.5, c.requires.6)
+
+pub loop-k-init : goal.loop-k-init
+loop-k-init c =
+    (c.requires.0, scanned_first _ _ (words_by _ _ _ _ _ 0 _ _ c.requires.0 c.element.ensures c.word_of-f.ensures))
+
+pub element-requires-in-loop-k : goal.element-requires-in-loop-k
+element-requires-in-loop-k c =
+    element-fits _ c.args.list.now _ _ c.loop-k-test.true c.requires.1 c.requires.2
+
+pub word_of-w-requires : goal.word_of-w-requires
+word_of-w-requires c =
+    (yard-near _ _ _ _ _ _ c.loop-k-test.true c.element-in-loop-k.ensures c.requires.3, c.requires.4, c.requires.5, c.requires.6)
+
+pub loop-k-preserved : goal.loop-k-preserved
+loop-k-preserved c =
+    let l = c.loop-k in
+    let e = words_by _ _ _ _ _ l.k _ _ c.loop-k-test.true c.element-in-loop-k.ensures c.word_of-w.ensures in (
+      omega arith,
+      elim c.if-w-f.branch [ then-w-f w ↦ scanned_on l.invariant.1 _ e _ _ w.place-is w.f-is (omega (arith, w.if-w-f.true)) | else-w-f w ↦ scanned_still l.invariant.1 _ e _ _ w.place-is w.f-is (omega (arith, w.if-w-f.false)) ],
+    )
+
+pub returns : goal.returns
+returns c = scanned_all _ _ _ _ _ c.loop-k.invariant.1 c.loop-k.invariant.0 c.loop-k-test.false

@@ -1,0 +1,6 @@
+use Rattle.search_queue.proofs.Eights.{eight_is}
+use borrow.Author.Rules.{rules}
+use Rattle.search_queue.proofs.least_of_eight.Goals as goal
+
+pub returns : goal.returns
+returns c = eight_is _ _ _ _ _ c.least_of_four.ensures c.least_of_four-2.ensures c.lesser.ensures

@@ -1,0 +1,10 @@
+use borrow.Author.Rules.{rules}
+use Rattle.search_yard.proofs.under_ceiling.Goals as goal
+
+pub returns : goal.returns
+returns c =
+    let e = c.ceiling-ceiling.ensures in
+    let m = c.measure.ensures in record {
+      measures = λ list road k. rw (← e list) (m.measures road k);
+      run = λ list road k. rw (← e list) (m.run road k);
+    }
