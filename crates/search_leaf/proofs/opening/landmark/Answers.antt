@@ -24,6 +24,4 @@ pub open-requires : goal.open-requires
 open-requires c = (c.requires.0, c.requires.1)
 
 pub returns : goal.returns
-returns c =
-    let h = c.open.ensures in
-    record { same = h.0; «open» = h.1 }
+returns c = c.open.ensures
