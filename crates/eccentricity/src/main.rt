@@ -98,12 +98,12 @@ fn report(b: &[u8], out: &mut [u8]) -> usize
     rows(out, &adj)
 }
 
-fn main() {
+fn main(rt: HostRuntime) {
     let mut input = streams::buffer();
-    let Read::Bytes(n) = streams::read_input(&mut input) else {
+    let Read::Bytes(n) = streams::read_input(&rt, &mut rt.stdin(), &mut input) else {
         return;
     };
-    let mut out = io::large_buffer();
+    let mut out = [0u8; 65536];
     let end = report(&input[..n], &mut out);
-    streams::write_output(&out[..end]);
+    streams::write_output(&rt, &mut rt.stdout(), &out[..end]);
 }

@@ -169,8 +169,8 @@ fn put_crews(out: &mut [u8], at: usize, n: u8) -> usize
     line(out, at, b"crews ", n as u16, b": ", crews(n))
 }
 
-fn main() {
-    let mut out = io::buffer();
+fn main(rt: HostRuntime) {
+    let mut out = [0u8; 4096];
     let mut end = put_seconds(&mut out, 0, 0);
     end = put_seconds(&mut out, end, 65535);
     end = put_junctions(&mut out, end, 1024);
@@ -179,5 +179,5 @@ fn main() {
     end = put_no_road(&mut out, end, 2);
     end = put_crews(&mut out, end, 16);
     end = put_crews(&mut out, end, 17);
-    streams::write_output(&out[..end]);
+    streams::write_output(&rt, &mut rt.stdout(), &out[..end]);
 }

@@ -1,28 +1,17 @@
--- The part of some bytes from a place on, that is read into or written. Assumes nothing.
-use mathlib.Core.Path.{◌≡◌, ap}
-use mathlib.Core.List.{List, ◌++◌}
-use Prim.Native.Nat.{ℕ, ◌+◌, ◌-◌, ◌≤◌}
-use native.Mathlib.Omega.{arith}
-use lib.ListN.{length, take, drop, length-append, length-take, length-drop}
-use Rattle.streams.specs.declared.Read.{Read}
-use Rattle.streams.specs.declared.Read.TheVariants.{Bytes}
-use Rattle.streams.specs.Moved.{bytes_in}
+-- A part of a buffer that is read into. Assumes nothing.
+use Rattle.std.proofs.Common.{◌≡◌, ℕ, ◌+◌, ◌-◌, ◌≤◌, List, ◌++◌, length, take, drop, sym, ap, ◌∙◌, le_refl, drop_at, length-take-le}
+use Rattle.std.proofs.lemmas.Slice.{take-put_mid_below}
+use borrow.Rule.Slice.PartMut.{put_mid, post_of}
+use lib.Seq.{take-add, take-append-le}
 
--- the part, as code takes it
-abbrev pub from : List ℕ → ℕ → List ℕ
-from s n = take (length s - n) (drop n s)
-
-pub part-size : (s : List ℕ) (n : ℕ) → length (from s n) ≡ length s - n
-part-size s n = simp (length-take, length-drop) (omega arith)
-
--- what was taken of the part fits behind what was taken before
-pub taken-fits : (s : List ℕ) (done n : ℕ) → done ≤ length s → n ≤ length (from s done) → done + n ≤ length s
-taken-fits s done n h k = omega (arith, part-size s done)
-
-module _ (s new : List ℕ) (done : ℕ) (h : done ≤ length s) (kept : length new ≡ length (from s done)) where
-  -- a part that comes back leaves the whole as long as it was
-  pub back-size : length (take done s ++ (new ++ drop (length s - done) (drop done s))) ≡ length s
-  back-size = simp (length-append, length-take, length-drop) (omega (arith, part-size s done))
-
-  pub read_fits : (o : Read) (n : ℕ) → o ≡ Bytes n → bytes_in o ≤ length new → done + n ≤ length s
-  read_fits o n e k = omega (arith, part-size s done, ap bytes_in e)
+-- what stood before the part, and what was read into it, stand at the start of the buffer
+pub read_after : (done n : ℕ) (buf part : List ℕ) → done ≤ length buf → n ≤ length part
+    → take done buf ++ take n part ≡ take (done + n) (put_mid done (length buf - done) buf part)
+read_after done n buf part within fits =
+    let room = length buf - done in
+    let new = put_mid done room buf part in
+    let after = post_of done room buf in
+    let front : take done new ≡ take done buf = take-put_mid_below _ _ _ _ _ (le_refl _) within in
+    let back : take n (drop done new) ≡ take n part =
+    ap (take n) (drop_at (take done buf) (part ++ after) done (length-take-le done buf within)) ∙ take-append-le n part after fits in
+    sym (take-add done n new ∙ ap (λ l. l ++ take n (drop done new)) front ∙ ap (λ l. take done buf ++ l) back)

@@ -1,5 +1,6 @@
--- How many bytes a read has brought, and how many an input may have. Assumes nothing: these are definitions.
-use Rattle.std.specs.Prelude.{ℕ}
+-- How many bytes a read has brought, whether they are all, and how many an input may have. Assumes nothing: these are
+-- definitions.
+use Rattle.std.specs.Prelude.{◌≡◌, ℕ, List, take, Option, IfSome, ⊤}
 use Rattle.streams.specs.declared.Read.{Read}
 use Rattle.streams.specs.declared.Read.TheVariants.{Bytes, Failed}
 
@@ -15,3 +16,8 @@ most_input = 1048576
 -- room for one more, which is filled exactly if there are more
 abbrev pub input_room : ℕ
 input_room = 1048577
+
+-- what was read, at the start of an array, is the whole input, where its bytes are known
+abbrev pub IsWhole : Read → Option (List ℕ) → List ℕ → Type 0
+IsWhole (Bytes n) known array = IfSome known (λ input. take n array ≡ input)
+IsWhole Failed known array = ⊤

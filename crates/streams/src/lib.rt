@@ -1,10 +1,13 @@
 #![tactic(auto)]
-// Standard input read whole and standard output written whole, or a line on standard error that says why not.
-ghost use Rattle.std.specs.Prelude.{◌≡◌, ◌≤◌, length};
-ghost use Rattle.io.specs.Counts.{IsPrefixLen};
-ghost use Rattle.streams.specs.Moved.{bytes_in, most_input, input_room};
+// Standard input read whole and standard output written whole, or a line on standard error that says why not. The
+// functions take any reader and any writer, so that their contracts can name its bytes.
+ghost use Rattle.std.specs.Prelude.{◌≡◌, ◌<◌, ◌≤◌, length, take, IfOk, OnOk, OnErr};
+ghost use Rattle.std.specs.Io.{ReadsAtMost};
+ghost use Rattle.std.specs.Io.KnownBytes.{Appends, Consumes, IsAtEnd, Keeps};
+ghost use Rattle.streams.specs.Moved.{bytes_in, most_input, input_room, IsWhole};
 
-use libc::{EINTR, STDERR_FILENO, STDIN_FILENO, STDOUT_FILENO};
+use std::io;
+use std::io::ErrorKind;
 
 // The most bytes that an input may have, 1 MiB, and an array with room for one more, which tells that there is more.
 pub const MOST: usize = 1048576;
@@ -23,38 +26,35 @@ pub enum Read {
 }
 
 // One read, begun again if a signal interrupts it.
-fn read_some(part: &mut [u8]) -> Read
-    ensures { bytes_in result ≤ length part.new }
+fn read_some<S: io::Read>(input: &mut S, part: &mut [u8]) -> io::Result<usize>
+    ensures bound { ReadsAtMost result part.new }
+    ensures bytes { IfOk result (λ n. Consumes (S.remaining input.old) (S.remaining input.new) (take n part.new)) }
+    ensures end { IfOk result (λ n. n ≡ 0 → 0 < length part.new → IsAtEnd (S.remaining input.new)) }
 {
-    let mut tries: usize = 0;
-    while tries < TRIES {
-        let got = libc::read(STDIN_FILENO, part);
-        if got >= 0 {
-            return Read::Bytes(io::count(got, part));
+    for _ in 0..TRIES {
+        match input.read(part) {
+            Err(e) if e.kind() == ErrorKind::Interrupted => {}
+            got => return got,
         }
-        if os::errno() != EINTR {
-            return Read::Failed;
-        }
-        tries += 1;
     }
-    Read::Failed
+    Err(ErrorKind::Interrupted.into())
 }
 
 // Reads until the buffer is full or the input ends.
-fn read_all(buf: &mut [u8]) -> Read
-    ensures { bytes_in result ≤ length buf.new }
+fn read_all<S: io::Read>(input: &mut S, buf: &mut [u8]) -> io::Result<usize>
+    ensures bound { IfOk result (λ n. n ≤ length buf.new) }
+    ensures bytes { IfOk result (λ n. Consumes (S.remaining input.old) (S.remaining input.new) (take n buf.new)) }
+    ensures end { IfOk result (λ n. n < length buf.new → IsAtEnd (S.remaining input.new)) }
 {
     let mut done: usize = 0;
     while done < buf.len() {
-        let Read::Bytes(n) = read_some(&mut buf[done..]) else {
-            return Read::Failed;
-        };
+        let n = read_some(input, &mut buf[done..])?;
         if n == 0 {
-            return Read::Bytes(done);
+            return Ok(done);
         }
         done += n;
     }
-    Read::Bytes(done)
+    Ok(done)
 }
 
 // Zeros, to read an input into.
@@ -66,65 +66,68 @@ pub fn buffer() -> [u8; ROOM]
 
 // Reads standard input until it ends. If a read fails, or the buffer is full and so the input is longer than it may be,
 // standard error says so.
-pub fn read_input(buf: &mut [u8]) -> Read
+pub fn read_input<S: io::Read>(rt: &impl Eprint, input: &mut S, buf: &mut [u8]) -> Read
     requires { input_room ≡ length buf.old }
-    ensures { bytes_in result ≤ most_input }
+    ensures most { bytes_in result ≤ most_input }
+    ensures whole { IsWhole result (S.remaining input.old) buf.new }
 {
-    let Read::Bytes(n) = read_all(buf) else {
-        os::fail(b"standard input");
-        return Read::Failed;
+    let read = read_all(input, buf);
+    let n = match read {
+        Ok(n) => n,
+        Err(e) => {
+            let _ = eprintln!(rt; "standard input: {e}");
+            return Read::Failed;
+        }
     };
     if MOST < n {
-        io::write_all(
-            STDERR_FILENO,
-            b"standard input: longer than 1048576 bytes\n",
-        );
+        let _ = eprintln!(rt; "standard input: longer than 1048576 bytes");
         return Read::Failed;
     }
     Read::Bytes(n)
 }
 
-// One write, begun again if a signal interrupts it: how many bytes were taken, 0 if it fails.
-fn write_some(part: &[u8]) -> usize
-    ensures { IsPrefixLen result part.now }
+// One write, begun again if a signal interrupts it: how many bytes were taken.
+fn write_some<W: io::Write>(out: &mut W, part: &[u8]) -> io::Result<usize>
+    ensures bound { ReadsAtMost result part.now }
+    ensures bytes { IfOk result (λ n. Appends (W.contents out.old) (W.contents out.new) (take n part.now)) }
+    ensures err { OnErr result (Keeps (W.contents out.old) (W.contents out.new)) }
 {
-    let mut tries: usize = 0;
-    while tries < TRIES {
-        let put = libc::write(STDOUT_FILENO, part);
-        if put >= 0 {
-            return io::count(put, part);
+    for _ in 0..TRIES {
+        match out.write(part) {
+            Err(e) if e.kind() == ErrorKind::Interrupted => {}
+            put => return put,
         }
-        if os::errno() != EINTR {
-            return 0;
-        }
-        tries += 1;
     }
-    0
+    Err(ErrorKind::Interrupted.into())
 }
 
-// Writes some bytes in as few writes as take them, and stops at the first that fails: how many were written.
-fn write_all(bytes: &[u8]) -> usize
-    ensures { result ≤ length bytes.now }
+// Writes some bytes in as few writes as take them, and stops at the first that fails: how many were written, and
+// whether a write failed.
+fn write_all<W: io::Write>(out: &mut W, bytes: &[u8]) -> (usize, io::Result<()>)
+    ensures bound { result.0 ≤ length bytes.now }
+    ensures bytes { Appends (W.contents out.old) (W.contents out.new) (take result.0 bytes.now) }
+    ensures ok { OnOk result.1 (result.0 ≡ length bytes.now) }
 {
     let mut done: usize = 0;
     while done < bytes.len() {
-        let n = write_some(&bytes[done..]);
-        if n == 0 {
-            return done;
+        match write_some(out, &bytes[done..]) {
+            Ok(0) => return (done, Err(ErrorKind::WriteZero.into())),
+            Ok(n) => done += n,
+            Err(e) => return (done, Err(e)),
         }
-        done += n;
     }
-    done
+    (done, Ok(()))
 }
 
 // Writes a program's whole output, and answers how many bytes were written. If a write fails nothing more is written,
 // and standard error says so.
-pub fn write_output(bytes: &[u8]) -> usize
-    ensures { result ≤ length bytes.now }
+pub fn write_output<W: io::Write>(rt: &impl Eprint, out: &mut W, bytes: &[u8]) -> usize
+    ensures most { result ≤ length bytes.now }
+    ensures bytes { Appends (W.contents out.old) (W.contents out.new) (take result bytes.now) }
 {
-    let done = write_all(bytes);
-    if done < bytes.len() {
-        os::fail(b"standard output");
+    let (done, written) = write_all(out, bytes);
+    if let Err(e) = written {
+        let _ = eprintln!(rt; "standard output: {e}");
     }
     done
 }
