@@ -123,9 +123,8 @@ pub loop-asked-preserved : goal.loop-asked-preserved
 loop-asked-preserved c =
     let l = c.loop-asked.invariant in
     let e = least_of_lem _ _ _ _ _ l.0 l.1.size c.pick-p.ensures in
-    let t = c.step-progress in
-    let lengths = t.auto.words in (
+    let t = c.step-progress in (
       l.0,
       steps_on l.1 _ e _ (c.settled.ensures _) c.if-settled.false (omega (arith, l.1.within, c.if-taken-asked.false)) _ _ _ _ _
-          lengths.0 lengths.1.0 lengths.1.1.0 lengths.1.1.1.0 t.ensures.cached t.ensures.state t.ensures.room,
+          t.auto.words t.auto.values t.auto.list t.auto.measured t.ensures.cached t.ensures.state t.ensures.room,
     )

@@ -1,0 +1,8 @@
+use mathlib.Core.Path.{sym}
+use Rattle.search_call.proofs.Calls.{refused-is}
+use Rattle.search_tree.specs.Found.{found_of}
+use Rattle.search_tree.proofs.refused.Goals as goal
+
+pub returns : goal.returns
+unfolding found_of
+returns c = sym (refused-is _)
