@@ -1,0 +1,21 @@
+use borrow.Author.Rules.{rules}
+use mathlib.Core.Path.{◌≡◌, refl, ◌∙◌}
+use mathlib.Core.List.{List}
+use Prim.Native.Nat.{ℕ, ◌+◌, ◌*◌, ◌-◌, ◌≤◌}
+use native.Mathlib.Omega.{arith}
+use lib.ListN.{length}
+use Rattle.road_layout.specs.Road.{junctions}
+use Rattle.adjacency.specs.Adjacency.{Adjacency}
+use Rattle.adjacency.proofs.Linking.{few-junctions}
+use Rattle.text.specs.Text.{in_turn, Appended}
+use Rattle.text.proofs.Appending.{turns_none, turns_more}
+use Rattle.eccentricity.specs.Output.{row_text}
+use Rattle.eccentricity.proofs.Printing.{table_held}
+use Rattle.eccentricity.proofs.rows.Given as goal
+
+abbrev pub invariant-loop-u : goal.invariant-loop-u
+invariant-loop-u l = (l.u ≤ l.n) × (length l.out ≡ length l.initial.out) × (l.end ≤ l.initial.end + 63 * l.u)
+    × ((b : List ℕ) → Adjacency b l.adj → Appended l.initial.out l.initial.end (in_turn (row_text b) l.u) l.out l.end)
+
+abbrev pub decreases-loop-u : goal.decreases-loop-u
+decreases-loop-u l = l.n - l.u
