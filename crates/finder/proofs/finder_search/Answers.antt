@@ -1,0 +1,11 @@
+-- `finder::finder_search` hands on, and a lent book is of bytes. Assumes nothing.
+use native.Mathlib.Omega.{arith}
+use Rattle.book.proofs.Writing.{lent-bytes}
+use Rattle.finder.proofs.finder_search.Goals as goal
+
+pub returns-clause-bytes : goal.returns-clause-bytes
+returns-clause-bytes c = (
+  lent-bytes _ (λ i. omega (arith, c.type_inv.road i)),
+  lent-bytes _ (λ i. omega (arith, c.type_inv.tree i)),
+  lent-bytes _ (λ i. omega (arith, c.type_inv.query i)),
+)
