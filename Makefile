@@ -26,15 +26,14 @@ library: $(LIBRARY)
 
 programs: $(PROGRAMS:%=target/bin/%)
 
-# rt decides what has changed: it leaves the program, or the stamp, of a crate that has not.
-$(PROGRAMS:%=target/bin/%): target/bin/%: FORCE
+# rt decides what has changed, and a file that is the same is left as it is.
+$(PROGRAMS:%=target/bin/%) target/bin/examples: target/bin/%: FORCE
 	@tools/prove $*
 
-target/stamp/finder: FORCE
-	@tools/prove finder
-
-$(LIBRARY): target/stamp/finder
-	rt staticlib finder > target/staticlib.log 2>&1 || { tail -n 20 target/staticlib.log >&2; exit 1; }
+$(LIBRARY): FORCE
+	@tools/prove finder_c
+	@mkdir -p $(@D)
+	@cmp -s crates/finder_c/out/libfinder_c.a $@ || cp crates/finder_c/out/libfinder_c.a $@
 
 # What is made, into DESTDIR (for packages) and there into PREFIX, both as they were typed; tools/install says which it
 # takes, before anything is proved.
@@ -53,7 +52,7 @@ commands: dispatch
 	cd compare && cargo build --release --offline --quiet --package compare
 
 clean:
-	rm -rf target compare/target
+	rm -rf target compare/target crates/*/out
 
 # The proved programs and calls beside the plain ones, on the same books; beside LEMON's Dijkstra in C++ too, where
 # liblemon-dev is installed.

@@ -11,7 +11,7 @@ fn main() {
     println!("cargo::rerun-if-changed={}", library.display());
     if !library.is_file() {
         println!(
-            "cargo::error=the proved calls are not there: no {}; run `rt staticlib finder` first",
+            "cargo::error=the proved calls are not there: no {}; run `make library` first",
             library.display()
         );
         return;

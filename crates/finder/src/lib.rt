@@ -1,6 +1,5 @@
 #![tactic(auto)]
-// The calls of the planner, which is in C. A slice is a pointer and a count there; include/finder.h declares them and
-// says what is lent.
+// The calls of the planner, as functions; `finder_c` exports them to C under the same names, with the same clauses.
 ghost use Rattle.std.specs.Prelude.{◌≡◌, length};
 ghost use Rattle.book.specs.Bytes.{Bytes};
 ghost use Rattle.work_area.specs.Work.{work_after};
@@ -15,11 +14,10 @@ use search_tree::{Found, Goal, Want};
 
 // Checks a tree book beside a road book and a yard book: 0, or the number of the first test that fails. An accepted
 // call zeroes the first 16,384 work words.
-#[unsafe(no_mangle)]
-pub extern "C" fn finder_check(road: &[u8], yard: &[u8], tree: &[u8], work: &mut [u32]) -> u32
+pub fn finder_check(road: &[u8], yard: &[u8], tree: &[u8], work: &mut [u32]) -> u32
     ensures answer { result ≡ check_answer road.now yard.now tree.now (length work.old) }
     ensures work { work.new
-        ≡ work_after (check_answer road.now yard.now tree.now (length work.entry.now)) work.old }
+        ≡ work_after (check_answer road.now yard.now tree.now (length work.old)) work.old }
     ensures bytes { Bytes road.now × Bytes yard.now × Bytes tree.now }
 {
     check_tree::check(road, yard, tree, work) as u32
@@ -28,8 +26,7 @@ pub extern "C" fn finder_check(road: &[u8], yard: &[u8], tree: &[u8], work: &mut
 // Builds the tree of a road book and a yard book, with m landmarks for each region, into a lent area: 0 and the tree's
 // length, or the number of the first test that fails. An accepted call zeroes the first 16,384 work words and leaves
 // the bytes after the tree.
-#[unsafe(no_mangle)]
-pub extern "C" fn finder_build(
+pub fn finder_build(
     road: &[u8],
     yard: &[u8],
     m: u32,
@@ -53,8 +50,7 @@ pub extern "C" fn finder_build(
 // Searches a tree book beside a road book for what a query book asks, by steps up to its limit: settled, with the list
 // written over the start of the result area, or spent; or the number of the first test that fails. An accepted call
 // zeroes the first 16,384 work words.
-#[unsafe(no_mangle)]
-pub extern "C" fn finder_search(
+pub fn finder_search(
     road: &[u8],
     tree: &[u8],
     query: &[u8],
@@ -82,8 +78,7 @@ pub extern "C" fn finder_search(
 // Searches a tree book beside a road book for every yard whose aggregate is at most so many seconds, by the query's
 // aggregate, crews and limit of steps; its k is tested and not used. What it returns and writes is as in a search, and
 // the result area holds two words for each yard of the tree.
-#[unsafe(no_mangle)]
-pub extern "C" fn finder_within(
+pub fn finder_within(
     road: &[u8],
     tree: &[u8],
     query: &[u8],
@@ -110,8 +105,7 @@ pub extern "C" fn finder_within(
 }
 
 // The version of these calls as a number, which the header has too.
-#[unsafe(no_mangle)]
-pub extern "C" fn finder_version() -> u32
+pub fn finder_version() -> u32
     ensures { result ≡ version_number }
 {
     20200
