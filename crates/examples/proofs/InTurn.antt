@@ -72,6 +72,7 @@ unfolding Bytes four on_n on_three tree_n tree_three all
 bytes c (head e) = rw e (λ v. below_all 256 tree_n (omega arith) tt v)
 bytes c (tail (head e)) = rw e (λ v. below_all 256 tree_n (omega arith) tt v)
 bytes c (tail (tail (head e))) = rw e (λ v. below_all 256 tree_n (omega arith) tt v)
+bytes c (tail (tail (tail (tail m)))) = elim m [ ]
 bytes c (tail (tail (tail (head e)))) = rw e (λ v. below_all 256 tree_three (omega arith) tt v)
 
 pub in_turn_lem : InTurn
