@@ -74,7 +74,7 @@ cut-parts-rest-requires t c =
     r.numbers.after _ c.stays.ensures
     c.if-stays.false in
     let w = c.put_own-first in (
-      omega (arith, left),
+      falls-cut c.args.levels t left (omega arith),
       (
         r,
         omega arith,
@@ -139,7 +139,7 @@ pub parts-parts-requires : goal.parts-parts-requires
 parts-parts-requires t c =
     let p = c.requires in
     let k = p.3 in (
-      omega (arith, p.1, c.if-i-eq-PARTS.false),
+      falls-next c.args.levels c.args.i t p.1 c.if-i-eq-PARTS.false (omega arith),
       (
         p.0,
         omega (arith, p.1, c.if-i-eq-PARTS.false),
@@ -171,7 +171,7 @@ parts-cut-first-requires t c =
     let p = c.requires in
     let k = p.3 in
     let q = c.part-q.ensures in (
-      omega arith,
+      falls-part c.args.levels c.args.i t (omega arith),
       (
         record {
           passes = p.0.passes;
@@ -200,7 +200,7 @@ parts-parts-rest-requires t c =
     let p = c.requires in
     let k = p.3 in
     let w = c.cut-first in (
-      omega (arith, p.1, c.if-i-eq-PARTS.false),
+      falls-next c.args.levels c.args.i t p.1 c.if-i-eq-PARTS.false (omega arith),
       (
         p.0,
         omega (arith, p.1, c.if-i-eq-PARTS.false),
