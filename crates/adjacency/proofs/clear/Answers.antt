@@ -1,7 +1,5 @@
-use borrow.Author.Rules.{rules}
-use Prim.Native.Nat.{◌-◌, ◌≤◌}
 use native.Mathlib.Omega.{arith}
-use Rattle.adjacency.proofs.Clearing.{Cleared, cleared_none, cleared_more, cleared_all}
+use Rattle.adjacency.proofs.Clearing.{cleared_none, cleared_more, cleared_all}
 use Rattle.adjacency.proofs.clear.Goals as goal
 
 pub loop-u-init : goal.loop-u-init

@@ -1,7 +1,5 @@
-use borrow.Author.Rules.{rules}
 use Prim.Native.Nat.{◌-◌, ◌≤◌}
-use native.Mathlib.Omega.{arith}
-use Rattle.adjacency.proofs.Clearing.{Cleared, cleared_none, cleared_more, cleared_all}
+use Rattle.adjacency.proofs.Clearing.{Cleared}
 use Rattle.adjacency.proofs.clear.Given as goal
 
 abbrev pub invariant-loop-u : goal.invariant-loop-u

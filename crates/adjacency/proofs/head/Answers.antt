@@ -1,4 +1,3 @@
-use borrow.Author.Rules.{rules}
 use mathlib.Core.Path.{refl}
 use Rattle.adjacency.specs.Adjacency.{head_at}
 use Rattle.adjacency.proofs.head.Goals as goal

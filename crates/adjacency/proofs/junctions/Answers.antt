@@ -1,4 +1,3 @@
-use borrow.Author.Rules.{rules}
 use mathlib.Core.Path.{refl}
 use Rattle.adjacency.specs.Adjacency.{count_in}
 use Rattle.adjacency.proofs.junctions.Goals as goal

@@ -1,4 +1,3 @@
-use borrow.Author.Rules.{rules}
 use mathlib.Core.Path.{refl}
 use Rattle.adjacency.specs.Adjacency.{next_at}
 use Rattle.adjacency.proofs.next.Goals as goal

@@ -1,5 +1,4 @@
 use Rattle.book.specs.Bytes.{put_u32}
-use borrow.Author.Rules.{rules}
 use Rattle.book.proofs.put_u32.Goals as goal
 
 pub returns : goal.returns

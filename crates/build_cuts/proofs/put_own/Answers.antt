@@ -1,4 +1,3 @@
-use borrow.Author.Rules.{rules}
 use native.Mathlib.Omega.{arith}
 use Rattle.yard.proofs.Listing.{from-length}
 use Rattle.build_cuts.proofs.Records.{own_kept, own_written}

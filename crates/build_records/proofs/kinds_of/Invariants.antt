@@ -1,8 +1,5 @@
-use borrow.Author.Rules.{rules}
 use Prim.Native.Nat.{◌-◌}
-use native.Mathlib.Omega.{arith}
-use Rattle.build_records.proofs.Gathering.{Gathering, gathering_start, gathering_turn, gathering_end}
-use Rattle.build_records.proofs.Numbered.{yards-few}
+use Rattle.build_records.proofs.Gathering.{Gathering}
 use Rattle.build_records.proofs.kinds_of.Given as goal
 
 abbrev pub invariant-loop-k : goal.invariant-loop-k

@@ -1,14 +1,10 @@
-use borrow.Author.Rules.{rules}
 use mathlib.Core.Path.{◌≡◌, refl, sym, ◌∙◌}
-use mathlib.Core.List.{List}
-use Prim.Native.Nat.{ℕ, ◌+◌, ◌-◌, ◌≤◌, ◌<◌}
+use Prim.Native.Nat.{◌+◌, ◌-◌, ◌≤◌}
 use native.Mathlib.Omega.{arith}
 use lib.ListN.{length}
 use Rattle.book.specs.Open.{version}
 use Rattle.road_layout.specs.Road.{roads}
-use Rattle.adjacency.specs.Adjacency.{count_in, Adjacency}
 use Rattle.adjacency.proofs.Linking.{few-junctions}
-use Rattle.road.specs.code.Rows.{RowFrom}
 use Rattle.tree_layout.specs.Decode.{mark_size}
 use Rattle.yard.proofs.YardLayout.{five}
 use Rattle.build_rules.specs.Cut.{borders}

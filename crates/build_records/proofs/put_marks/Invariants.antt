@@ -1,22 +1,14 @@
-use borrow.Author.Rules.{rules}
-use mathlib.Core.Path.{◌≡◌, refl, sym, ◌∙◌}
+use mathlib.Core.Path.{◌≡◌}
 use mathlib.Core.List.{List}
-use Prim.Native.Nat.{ℕ, ◌+◌, ◌-◌, ◌≤◌, ◌<◌}
-use native.Mathlib.Omega.{arith}
+use Prim.Native.Nat.{ℕ, ◌-◌, ◌<◌}
 use lib.ListN.{length}
-use Rattle.book.specs.Open.{version}
 use Rattle.road_layout.specs.Road.{roads}
 use Rattle.adjacency.specs.Adjacency.{count_in, Adjacency}
-use Rattle.adjacency.proofs.Linking.{few-junctions}
 use Rattle.road.specs.code.Rows.{RowFrom}
-use Rattle.tree_layout.specs.Decode.{mark_size}
-use Rattle.yard.proofs.YardLayout.{five}
 use Rattle.build_rules.specs.Cut.{borders}
 use Rattle.build_records.specs.Given.{given}
 use Rattle.build_records.specs.code.Marks.{mark_bytes}
-use Rattle.build_records.proofs.Numbered.{yards-few}
-use Rattle.build_records.proofs.Writing.{given_mark_length, mark_size_read}
-use Rattle.build_records.proofs.Turns.{Marking, marking_start, marking_room, marking_turn, marking_end, marking_place, landmark-same, landmark-low}
+use Rattle.build_records.proofs.Turns.{Marking}
 use Rattle.build_records.proofs.put_marks.Given as goal
 
 abbrev pub invariant-loop-j : goal.invariant-loop-j

@@ -1,4 +1,3 @@
-use borrow.Author.Rules.{rules}
 use native.Mathlib.Omega.{arith}
 use Rattle.build_tree.proofs.Limits.{short-most}
 use Rattle.build_tree.proofs.Answering.{turned_length, turned_work, turned_tree, taken-answer, taken-facts, taken-length, taken-work, taken-tree}

@@ -1,4 +1,3 @@
-use borrow.Author.Rules.{rules}
 use native.Mathlib.Omega.{arith}
 use Rattle.yard.proofs.YardLayout.{five}
 use Rattle.build_tree.proofs.Limits.{yards-alone}

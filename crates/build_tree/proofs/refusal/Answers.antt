@@ -1,4 +1,3 @@
-use borrow.Author.Rules.{rules}
 use native.Mathlib.Omega.{arith}
 use Rattle.build_tree.proofs.Answering.{build_road, build_yard, build_range, build_work, yard_five, build_room, build_passes}
 use Rattle.build_tree.proofs.refusal.Goals as goal

@@ -1,5 +1,4 @@
 use native.Mathlib.Omega.{arith}
-use borrow.Author.Rules.{rules}
 use Rattle.check_kinds.proofs.Joining.{join_low, join_high, join_in}
 use Rattle.check_kinds.proofs.joined.Goals as goal
 

@@ -1,13 +1,10 @@
-use mathlib.Core.Path.{◌≡◌, sym, ◌∙◌}
+use mathlib.Core.Path.{◌≡◌}
 use Prim.Native.Nat.{◌-◌, ◌≤◌}
-use native.Mathlib.Omega.{arith}
-use borrow.Author.Rules.{rules}
 use Rattle.tree_layout.specs.Sizes.{list_size}
 use Rattle.tree_layout.specs.Decode.{read_list}
 use Rattle.tree_layout.specs.Refusal.{all}
 use Rattle.check_rules.specs.Truth.{kinds_element}
-use Rattle.check_rules.proofs.Elements.{element-inside, elements_first, elements_done}
-use Rattle.check_kinds.proofs.Listing.{by, list_stop, list-next}
+use Rattle.check_kinds.proofs.Listing.{by}
 use Rattle.check_kinds.proofs.list_true.Given as goal
 
 abbrev pub invariant-loop-k : goal.invariant-loop-k

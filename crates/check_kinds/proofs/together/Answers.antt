@@ -1,11 +1,8 @@
-use mathlib.Core.Path.{◌≡◌, sym, ◌∙◌}
-use Prim.Native.Nat.{◌-◌, ◌≤◌, ◌<◌}
+use mathlib.Core.Path.{sym, ◌∙◌}
+use Prim.Native.Nat.{◌≤◌, ◌<◌}
 use native.Mathlib.Omega.{arith}
-use borrow.Author.Rules.{rules}
-use lib.ListN.{drop}
-use Rattle.kinds.specs.Kinds.{together_from, together}
-use Rattle.yard.specs.Yards.{yard_count, yards_of, kind_of}
-use Rattle.check_rules.specs.Truth.{within}
+use Rattle.kinds.specs.Kinds.{together}
+use Rattle.yard.specs.Yards.{yard_count}
 use Rattle.check_kinds.proofs.Joining.{join_first, join_turn, join_end}
 use Rattle.check_kinds.proofs.together.Goals.{After-loop-i, In-loop-i}
 use Rattle.check_kinds.proofs.together.Goals as goal

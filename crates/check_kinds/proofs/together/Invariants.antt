@@ -1,12 +1,9 @@
-use mathlib.Core.Path.{◌≡◌, sym, ◌∙◌}
-use Prim.Native.Nat.{◌-◌, ◌≤◌, ◌<◌}
-use native.Mathlib.Omega.{arith}
-use borrow.Author.Rules.{rules}
+use mathlib.Core.Path.{◌≡◌}
+use Prim.Native.Nat.{◌-◌, ◌≤◌}
 use lib.ListN.{drop}
 use Rattle.kinds.specs.Kinds.{together_from, together}
-use Rattle.yard.specs.Yards.{yard_count, yards_of, kind_of}
+use Rattle.yard.specs.Yards.{yards_of, kind_of}
 use Rattle.check_rules.specs.Truth.{within}
-use Rattle.check_kinds.proofs.Joining.{join_first, join_turn, join_end}
 use Rattle.check_kinds.proofs.together.Given as goal
 
 abbrev pub invariant-loop-i : goal.invariant-loop-i

@@ -1,5 +1,4 @@
 use Rattle.check_tree.proofs.Answering.{work-kept, work-enough_for, answer-none, work-zeroed}
-use borrow.Author.Rules.{rules}
 use Rattle.check_tree.proofs.check.Goals as goal
 
 pub returns-then-why-ne0 : goal.returns-then-why-ne0

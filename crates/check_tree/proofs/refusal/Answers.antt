@@ -1,4 +1,3 @@
-use borrow.Author.Rules.{rules}
 use Rattle.check_tree.proofs.Answering.{check_road, check_yard, road-kept, road-adjacent, yard_sound, check_tree_lem, check_short, check_passes}
 use Rattle.check_tree.proofs.refusal.Goals as goal
 

@@ -1,4 +1,3 @@
-use borrow.Author.Rules.{rules}
 use native.Mathlib.Omega.{arith}
 use borrow.Author.Tests.{not-true, not-false}
 use Rattle.check_tree.proofs.Answering.{tree_own, step-junctions, step_counts, step_needs, step-yards, step-beside, step_untrue, step_untrue_kinds, step_true}

@@ -1,4 +1,3 @@
-use borrow.Author.Rules.{rules}
 use Rattle.client.proofs.Built.{book-is, book-length, book-room}
 use Rattle.client.proofs.Calls.{in_turn_as}
 use Rattle.client.proofs.build_and_search.Goals as goal

@@ -1,4 +1,3 @@
-use borrow.Author.Rules.{rules}
 use mathlib.Core.Path.{◌∙◌}
 use Rattle.client.proofs.Built.{kept_again, book-length, book-room, check_is, work-is}
 use Rattle.client.proofs.build_checked.Goals as goal

@@ -1,4 +1,3 @@
-use borrow.Author.Rules.{rules}
 use Rattle.client.proofs.Calls.{answered, in_turn_lem}
 use Rattle.client.proofs.search_twice.Goals as goal
 

@@ -1,9 +1,6 @@
-use borrow.Author.Rules.{rules}
-use mathlib.Core.Path.{◌≡◌, ap, ◌∙◌}
+use mathlib.Core.Path.{◌≡◌}
 use Prim.Native.Nat.{◌-◌, ◌≤◌}
-use native.Mathlib.Omega.{arith}
 use Rattle.eccentricity.specs.Rows.{furthest_of}
-use Rattle.eccentricity.proofs.Adding.{none-far, further}
 use Rattle.eccentricity.proofs.furthest.Given as goal
 
 abbrev pub invariant-loop-v : goal.invariant-loop-v

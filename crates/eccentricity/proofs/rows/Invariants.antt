@@ -1,16 +1,10 @@
-use borrow.Author.Rules.{rules}
-use mathlib.Core.Path.{◌≡◌, refl, ◌∙◌}
+use mathlib.Core.Path.{◌≡◌}
 use mathlib.Core.List.{List}
 use Prim.Native.Nat.{ℕ, ◌+◌, ◌*◌, ◌-◌, ◌≤◌}
-use native.Mathlib.Omega.{arith}
 use lib.ListN.{length}
-use Rattle.road_layout.specs.Road.{junctions}
 use Rattle.adjacency.specs.Adjacency.{Adjacency}
-use Rattle.adjacency.proofs.Linking.{few-junctions}
 use Rattle.text.specs.Text.{in_turn, Appended}
-use Rattle.text.proofs.Appending.{turns_none, turns_more}
 use Rattle.eccentricity.specs.Output.{row_text}
-use Rattle.eccentricity.proofs.Printing.{table_held}
 use Rattle.eccentricity.proofs.rows.Given as goal
 
 abbrev pub invariant-loop-u : goal.invariant-loop-u

@@ -1,9 +1,6 @@
-use borrow.Author.Rules.{rules}
-use mathlib.Core.Path.{◌≡◌, ap, ◌∙◌}
+use mathlib.Core.Path.{◌≡◌}
 use Prim.Native.Nat.{◌*◌, ◌-◌, ◌≤◌}
-use native.Mathlib.Omega.{arith}
 use Rattle.eccentricity.specs.Rows.{row_total}
-use Rattle.eccentricity.proofs.Adding.{none-sum, more}
 use Rattle.eccentricity.proofs.total.Given as goal
 
 abbrev pub invariant-loop-v : goal.invariant-loop-v

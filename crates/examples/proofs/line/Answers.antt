@@ -1,4 +1,3 @@
-use borrow.Author.Rules.{rules}
 use native.Mathlib.Omega.{arith}
 use Rattle.text.proofs.Appending.{append_as, append_then}
 use Rattle.examples.proofs.Printing.{accepted_line, refused_line}

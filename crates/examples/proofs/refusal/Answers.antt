@@ -1,4 +1,3 @@
-use borrow.Author.Rules.{rules}
 use mathlib.Core.Path.{sym, ap, ◌∙◌}
 use Rattle.search_call.specs.Call.{Found}
 use Rattle.search_call.proofs.Calls.{found_number}

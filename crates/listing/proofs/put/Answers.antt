@@ -1,4 +1,3 @@
-use borrow.Author.Rules.{rules}
 use mathlib.Core.Path.{◌∙◌}
 use Rattle.listing.proofs.Printing.{printed}
 use Rattle.listing.proofs.put.Goals as goal

@@ -1,7 +1,6 @@
 use native.Mathlib.Omega.{arith}
 use Rattle.text.proofs.Appending.{append_as}
 use Rattle.outline.proofs.Outlining.{columns_plain, columns-kinds}
-use borrow.Author.Rules.{rules}
 use Rattle.outline.proofs.columns.Goals as goal
 
 pub returns-then-version-eq1 : goal.returns-then-version-eq1

@@ -2,7 +2,6 @@ use mathlib.Core.Path.{◌∙◌}
 use native.Mathlib.Omega.{arith}
 use Rattle.text.proofs.Appending.{append_then}
 use Rattle.outline.specs.Output.{header_text}
-use borrow.Author.Rules.{rules}
 use Rattle.outline.proofs.header.Goals as goal
 
 pub put_number-fifth-requires : goal.put_number-fifth-requires

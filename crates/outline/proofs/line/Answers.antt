@@ -2,7 +2,6 @@ use mathlib.Core.Path.{◌∙◌}
 use native.Mathlib.Omega.{arith}
 use Rattle.text.proofs.Appending.{append_then}
 use Rattle.outline.specs.Output.{line_of}
-use borrow.Author.Rules.{rules}
 use Rattle.outline.proofs.line.Goals as goal
 
 pub line_end-requires : goal.line_end-requires

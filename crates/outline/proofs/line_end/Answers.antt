@@ -1,7 +1,6 @@
 use native.Mathlib.Omega.{arith}
 use Rattle.text.proofs.Appending.{append_then, append_as}
 use Rattle.outline.proofs.Outlining.{end_plain, end-kinds}
-use borrow.Author.Rules.{rules}
 use Rattle.outline.proofs.line_end.Goals as goal
 
 pub returns-then-version-eq1 : goal.returns-then-version-eq1

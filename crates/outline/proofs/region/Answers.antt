@@ -1,6 +1,5 @@
 use Rattle.text.proofs.Appending.{append_as}
 use Rattle.outline.proofs.Outlining.{region_is, five}
-use borrow.Author.Rules.{rules}
 use Rattle.outline.proofs.region.Goals as goal
 
 pub version-requires : goal.version-requires

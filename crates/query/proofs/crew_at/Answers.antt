@@ -1,4 +1,3 @@
-use borrow.Author.Rules.{rules}
 use Rattle.query.proofs.CrewList.{read_crew}
 use Rattle.query.proofs.crew_at.Goals as goal
 

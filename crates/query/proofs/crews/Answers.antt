@@ -1,9 +1,6 @@
-use borrow.Author.Rules.{rules}
-use mathlib.Core.Path.{◌≡◌, refl}
-use Prim.Native.Nat.{ℕ, ◌-◌, ◌≤◌, ◌<◌}
+use mathlib.Core.Path.{refl}
 use native.Mathlib.Omega.{arith}
-use lib.ListN.{length, get_or, length-set}
-use Rattle.query.specs.Query.{crew_count, crew_at}
+use lib.ListN.{length-set}
 use Rattle.query.proofs.CrewList.{copied_next, copied_all}
 use Rattle.query.proofs.Reading.{its_crews}
 use Rattle.query.proofs.crews.Goals as goal

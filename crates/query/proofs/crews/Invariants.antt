@@ -1,11 +1,7 @@
-use borrow.Author.Rules.{rules}
-use mathlib.Core.Path.{◌≡◌, refl}
+use mathlib.Core.Path.{◌≡◌}
 use Prim.Native.Nat.{ℕ, ◌-◌, ◌≤◌, ◌<◌}
-use native.Mathlib.Omega.{arith}
-use lib.ListN.{length, get_or, length-set}
+use lib.ListN.{length, get_or}
 use Rattle.query.specs.Query.{crew_count, crew_at}
-use Rattle.query.proofs.CrewList.{copied_next, copied_all}
-use Rattle.query.proofs.Reading.{its_crews}
 use Rattle.query.proofs.crews.Given as goal
 
 abbrev pub invariant-loop-i : goal.invariant-loop-i

@@ -1,8 +1,5 @@
-use borrow.Author.Rules.{rules}
-use mathlib.Core.Path.{◌≡◌, sym, ◌∙◌}
-use Prim.Native.Nat.{◌-◌, ◌≤◌}
+use mathlib.Core.Path.{sym, ◌∙◌}
 use native.Mathlib.Omega.{arith}
-use Rattle.query.specs.Query.{crews_from, crews_of, inside}
 use Rattle.query.proofs.CrewList.{starts, goes_on, stops, ends}
 use Rattle.query.proofs.crews_inside.Goals as goal
 

@@ -1,9 +1,6 @@
-use borrow.Author.Rules.{rules}
-use mathlib.Core.Path.{◌≡◌, sym, ◌∙◌}
+use mathlib.Core.Path.{◌≡◌}
 use Prim.Native.Nat.{◌-◌, ◌≤◌}
-use native.Mathlib.Omega.{arith}
 use Rattle.query.specs.Query.{crews_from, crews_of, inside}
-use Rattle.query.proofs.CrewList.{starts, goes_on, stops, ends}
 use Rattle.query.proofs.crews_inside.Given as goal
 
 abbrev pub invariant-loop-i : goal.invariant-loop-i

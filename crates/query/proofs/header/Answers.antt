@@ -1,4 +1,3 @@
-use borrow.Author.Rules.{rules}
 use Rattle.query.proofs.Reading.{asked_is}
 use Rattle.query.proofs.header.Goals as goal
 

@@ -3,7 +3,6 @@ use native.Mathlib.Omega.{arith}
 use Rattle.book.specs.Open.{open_refusal}
 use Rattle.book.proofs.Opening.{opened_body, opens}
 use Rattle.query.proofs.Reading.{not_opened, answer-refused, answer-asked}
-use borrow.Author.Rules.{rules}
 use Rattle.query.proofs.read.Goals.{In-Body}
 use Rattle.query.proofs.read.Goals as goal
 

@@ -2,7 +2,6 @@ use mathlib.Core.Path.{sym, ◌∙◌}
 use native.Mathlib.Omega.{arith}
 use borrow.Author.Tests.{not-true, not-false}
 use Rattle.query.proofs.Reading.{its_aggregate, its_k, its_crews, misfit, no_crew, many_crews, outside, by_values}
-use borrow.Author.Rules.{rules}
 use Rattle.query.proofs.refusal.Goals as goal
 
 pub returns-then-b-count : goal.returns-then-b-count

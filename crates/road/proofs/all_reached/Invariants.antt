@@ -1,10 +1,7 @@
-use borrow.Author.Rules.{rules}
-use mathlib.Core.Path.{◌≡◌, sym, ap, ◌∙◌}
+use mathlib.Core.Path.{◌≡◌}
 use mathlib.Core.Bool.{true}
 use Prim.Native.Nat.{◌-◌, ◌≤◌}
-use native.Mathlib.Omega.{arith}
 use Rattle.road.specs.Refusal.{all_reached}
-use Rattle.road.proofs.Reaching.{none_yet, one_more, stops}
 use Rattle.road.proofs.all_reached.Given as goal
 
 abbrev pub invariant-loop-i : goal.invariant-loop-i

@@ -1,10 +1,5 @@
-use borrow.Author.Tests.{not-true, not-false}
-use Rattle.road_layout.proofs.Rising.{goes_on, stops, ends}
-use borrow.Author.Rules.{rules}
-use mathlib.Core.Path.{◌≡◌, sym, ◌∙◌}
+use mathlib.Core.Path.{◌≡◌}
 use Prim.Native.Nat.{◌-◌, ◌≤◌}
-use native.Mathlib.Nat.{sub-zero}
-use native.Mathlib.Omega.{arith}
 use Rattle.road_layout.specs.Layout.{roads_ok}
 use Rattle.road_layout.proofs.roads_ok.Given as goal
 

@@ -1,4 +1,3 @@
-use borrow.Author.Rules.{rules}
 use Rattle.search_drive.proofs.InWords.{words-at}
 use Rattle.search_drive.proofs.entry_at.Goals as goal
 

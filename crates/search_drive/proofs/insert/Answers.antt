@@ -1,11 +1,6 @@
-use borrow.Author.Rules.{rules}
-use mathlib.Core.Path.{◌≡◌, ◌∙◌}
-use Prim.Native.Nat.{◌-◌, ◌<◌}
+use mathlib.Core.Path.{◌∙◌}
 use native.Mathlib.Omega.{arith}
-use lib.ListN.{length}
-use Rattle.search_order.specs.code.Pairs.{entry_in}
-use Rattle.search_order.proofs.Inserting.{Carrying, carrying_starts, carrying_on, carried_in}
-use Rattle.search_drive.specs.code.Listed.{in_words, listed_in}
+use Rattle.search_order.proofs.Inserting.{carrying_starts, carrying_on, carried_in}
 use Rattle.search_drive.proofs.insert.Goals as goal
 
 pub loop-j-init : goal.loop-j-init

@@ -1,10 +1,8 @@
-use borrow.Author.Rules.{rules}
-use mathlib.Core.Path.{◌≡◌, ◌∙◌}
+use mathlib.Core.Path.{◌≡◌}
 use Prim.Native.Nat.{◌-◌, ◌<◌}
-use native.Mathlib.Omega.{arith}
 use lib.ListN.{length}
 use Rattle.search_order.specs.code.Pairs.{entry_in}
-use Rattle.search_order.proofs.Inserting.{Carrying, carrying_starts, carrying_on, carried_in}
+use Rattle.search_order.proofs.Inserting.{Carrying}
 use Rattle.search_drive.specs.code.Listed.{in_words, listed_in}
 use Rattle.search_drive.proofs.insert.Given as goal
 

@@ -1,4 +1,3 @@
-use borrow.Author.Rules.{rules}
 use native.Mathlib.Omega.{arith}
 use Rattle.search_drive.proofs.Keeping.{keep-far, keep-near}
 use Rattle.search_drive.proofs.keep.Goals as goal

@@ -1,9 +1,6 @@
-use borrow.Author.Rules.{rules}
-use mathlib.Core.Path.{sym, ◌∙◌}
 use Prim.Native.Nat.{◌-◌, ◌≤◌}
-use native.Mathlib.Omega.{arith}
 use Rattle.search_order.specs.code.Pairs.{entry_in}
-use Rattle.search_order.proofs.Inserting.{Seen, seen_none, seen_here, seen_on, seen_all}
+use Rattle.search_order.proofs.Inserting.{Seen}
 use Rattle.search_drive.specs.code.Listed.{in_words}
 use Rattle.search_drive.proofs.place_of.Given as goal
 

@@ -1,10 +1,7 @@
 use borrow.Author.Rules.{rules}
-use mathlib.Core.Path.{◌≡◌, refl}
-use Prim.Native.Nat.{◌-◌, ◌≤◌}
+use mathlib.Core.Path.{refl}
 use native.Mathlib.Omega.{arith}
-use lib.ListN.{length}
-use Rattle.search_order.proofs.Writing.{Written, written_none, written_on, written_all}
-use Rattle.search_drive.specs.code.Listed.{in_words}
+use Rattle.search_order.proofs.Writing.{written_none, written_on, written_all}
 use Rattle.search_drive.proofs.write_listed.Goals as goal
 
 pub loop-j-init : goal.loop-j-init

@@ -1,4 +1,3 @@
-use borrow.Author.Rules.{rules}
 use native.Mathlib.Omega.{arith}
 use Rattle.search_first.proofs.InArrays.{greatest-none, greatest-at}
 use Rattle.search_first.proofs.greatest.Goals as goal

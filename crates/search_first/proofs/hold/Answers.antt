@@ -1,11 +1,8 @@
 use borrow.Author.Rules.{rules}
 use mathlib.Core.Path.{◌≡◌, ◌∙◌}
-use Prim.Native.Nat.{◌-◌, ◌≤◌}
 use native.Mathlib.Omega.{arith}
 use lib.ListN.{length, length-set}
-use Rattle.search_order.specs.code.Pairs.{entry_in, pairs}
-use Rattle.search_order.proofs.Inserting.{Carrying, carrying_starts, carrying_on, carried_kept, carried_gone}
-use Rattle.search_first.specs.code.Held.{in_arrays}
+use Rattle.search_order.proofs.Inserting.{carrying_starts, carrying_on, carried_kept, carried_gone}
 use Rattle.search_first.proofs.InArrays.{arrays_at, put_arrays}
 use Rattle.search_first.proofs.hold.Goals as goal
 

@@ -1,12 +1,9 @@
-use borrow.Author.Rules.{rules}
-use mathlib.Core.Path.{◌≡◌, ◌∙◌}
+use mathlib.Core.Path.{◌≡◌}
 use Prim.Native.Nat.{◌-◌, ◌≤◌}
-use native.Mathlib.Omega.{arith}
-use lib.ListN.{length, length-set}
+use lib.ListN.{length}
 use Rattle.search_order.specs.code.Pairs.{entry_in, pairs}
-use Rattle.search_order.proofs.Inserting.{Carrying, carrying_starts, carrying_on, carried_kept, carried_gone}
+use Rattle.search_order.proofs.Inserting.{Carrying}
 use Rattle.search_first.specs.code.Held.{in_arrays}
-use Rattle.search_first.proofs.InArrays.{arrays_at, put_arrays}
 use Rattle.search_first.proofs.hold.Given as goal
 
 abbrev pub invariant-loop-j : goal.invariant-loop-j

@@ -1,10 +1,6 @@
-use borrow.Author.Rules.{rules}
 use mathlib.Core.Path.{sym, ◌∙◌}
-use Prim.Native.Nat.{◌-◌, ◌≤◌}
 use native.Mathlib.Omega.{arith}
-use Rattle.search_order.specs.code.Pairs.{entry_in}
-use Rattle.search_order.proofs.Inserting.{Seen, seen_none, seen_here, seen_on, seen_all}
-use Rattle.search_first.specs.code.Held.{in_arrays}
+use Rattle.search_order.proofs.Inserting.{seen_none, seen_here, seen_on, seen_all}
 use Rattle.search_first.proofs.InArrays.{arrays_at}
 use Rattle.search_first.proofs.place.Goals as goal
 

@@ -1,10 +1,7 @@
 use borrow.Author.Rules.{rules}
-use mathlib.Core.Path.{◌≡◌, refl}
-use Prim.Native.Nat.{◌-◌, ◌≤◌}
+use mathlib.Core.Path.{refl}
 use native.Mathlib.Omega.{arith}
-use lib.ListN.{length}
-use Rattle.search_order.proofs.Writing.{Written, written_none, written_on, written_all}
-use Rattle.search_first.specs.code.Held.{in_arrays}
+use Rattle.search_order.proofs.Writing.{written_none, written_on, written_all}
 use Rattle.search_first.proofs.InArrays.{arrays_at}
 use Rattle.search_first.proofs.write_held.Goals as goal
 

@@ -1,11 +1,8 @@
-use borrow.Author.Rules.{rules}
-use mathlib.Core.Path.{◌≡◌, refl}
+use mathlib.Core.Path.{◌≡◌}
 use Prim.Native.Nat.{◌-◌, ◌≤◌}
-use native.Mathlib.Omega.{arith}
 use lib.ListN.{length}
-use Rattle.search_order.proofs.Writing.{Written, written_none, written_on, written_all}
+use Rattle.search_order.proofs.Writing.{Written}
 use Rattle.search_first.specs.code.Held.{in_arrays}
-use Rattle.search_first.proofs.InArrays.{arrays_at}
 use Rattle.search_first.proofs.write_held.Given as goal
 
 abbrev pub invariant-loop-j : goal.invariant-loop-j

@@ -1,4 +1,3 @@
-use borrow.Author.Rules.{rules}
 use native.Mathlib.Omega.{arith}
 use Rattle.search_held.proofs.Ruling.{ceiling-few, ceiling-full, ceiling-drive, nearest-fits}
 use Rattle.search_held.proofs.ceiling.Goals as goal

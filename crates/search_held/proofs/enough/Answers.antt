@@ -1,4 +1,3 @@
-use borrow.Author.Rules.{rules}
 use native.Mathlib.Omega.{arith}
 use Rattle.search_held.proofs.Ruling.{enough-few, enough-full, enough-drive, nearest-fits}
 use Rattle.search_held.proofs.enough.Goals as goal

@@ -1,4 +1,3 @@
-use borrow.Author.Rules.{rules}
 use native.Mathlib.Omega.{arith}
 use Rattle.search_held.proofs.Ruling.{nearest-fits, fits-nearest, fits-drive, count-nearest, count-drive, keep-nearest, keep-drive}
 use Rattle.search_held.proofs.keep.Goals as goal

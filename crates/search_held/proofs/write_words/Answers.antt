@@ -1,4 +1,3 @@
-use borrow.Author.Rules.{rules}
 use native.Mathlib.Omega.{arith}
 use Rattle.search_held.proofs.Ruling.{nearest-fits, count-nearest, count-drive, words-nearest, words-drive, words_so}
 use Rattle.search_held.proofs.write_words.Goals as goal

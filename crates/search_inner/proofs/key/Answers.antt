@@ -1,5 +1,4 @@
 use Rattle.search_inner.proofs.Queueing.{key_of_lem}
-use borrow.Author.Rules.{rules}
 use Rattle.search_inner.proofs.key.Goals as goal
 
 pub returns : goal.returns

@@ -1,15 +1,11 @@
-use borrow.Author.Rules.{rules}
 use mathlib.Core.Path.{refl, sym, ◌∙◌}
-use mathlib.Core.Logic.{⊎_elim}
-use Prim.Native.Nat.{◌+◌, ◌-◌}
+use Prim.Native.Nat.{◌+◌}
 use native.Mathlib.Omega.{arith}
 use lib.ListN.{length, length-set}
 use Rattle.book.proofs.Choosing.{true_T, false_T}
-use Rattle.tree_layout.specs.Decode.{junction_count, landmark_count}
 use Rattle.tree.proofs.Fielding.{laid-header, laid-few}
 use Rattle.tree.proofs.Recursing.{children-is}
-use Rattle.search_inner.specs.code.Children.{wanted_in, key_of}
-use Rattle.search_inner.proofs.Queueing.{Counted, counted, Queueing, queueing_none, queueing_on, queueing_over, queueing_all, Next, next_slot, key_rows}
+use Rattle.search_inner.proofs.Queueing.{counted, queueing_none, queueing_on, queueing_over, queueing_all, Next, next_slot, key_rows}
 use Rattle.search_inner.proofs.open_inner.Goals.{In-loop-k, then-wanted, else-wanted}
 use Rattle.search_inner.proofs.open_inner.Goals as goal
 

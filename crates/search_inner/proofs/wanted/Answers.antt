@@ -1,5 +1,4 @@
 use Rattle.search_inner.proofs.Queueing.{wanted_of}
-use borrow.Author.Rules.{rules}
 use Rattle.search_inner.proofs.wanted.Goals as goal
 
 pub returns : goal.returns

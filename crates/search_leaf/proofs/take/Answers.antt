@@ -5,7 +5,6 @@ use Rattle.tree_layout.proofs.Accessing.{its_version}
 use Rattle.search_leaf.proofs.ElementsOpening.{list-whole, list-near, header-junctions_are, header-words}
 use Rattle.search_leaf.proofs.Landmarks.{yards_of_lem, slot, words_are, region_inside, record_here, pick-inside, list-room, list-near as elements-near}
 use Rattle.search_leaf.proofs.Leaving.{list-some, leaf-cached, leaf-taken}
-use borrow.Author.Rules.{rules}
 use Rattle.search_leaf.proofs.take.Goals as goal
 
 pub landmark-p-requires : goal.landmark-p-requires

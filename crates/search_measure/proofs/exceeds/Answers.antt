@@ -1,4 +1,3 @@
-use borrow.Author.Rules.{rules}
 use native.Mathlib.Omega.{arith}
 use lib.Dec.{ltb→lt, leb→le, nltb→le, nleb→lt}
 use Rattle.search_measure.proofs.Deciding.{none-exceeds, seconds_exceed}

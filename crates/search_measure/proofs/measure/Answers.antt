@@ -1,12 +1,9 @@
-use borrow.Author.Rules.{rules}
-use mathlib.Core.Path.{◌≡◌, refl, sym, ◌∙◌}
+use mathlib.Core.Path.{refl, sym, ◌∙◌}
 use mathlib.Core.List.{List}
-use Prim.Native.Nat.{ℕ, ◌-◌}
+use Prim.Native.Nat.{ℕ}
 use native.Mathlib.Omega.{arith}
-use lib.ListN.{length}
 use Rattle.road.proofs.Filling.{part-size}
-use Rattle.search_measure.specs.code.Cases.{ceiling_of, Measurable}
-use Rattle.search_measure.proofs.Crewing.{SoFar, so_far_start, measures_by, row_room, row-steers, so_far-end, so_far-room, so_far-above, reached-room, so_far_on, arrival_above, arrival_reached}
+use Rattle.search_measure.proofs.Crewing.{so_far_start, measures_by, row_room, row-steers, so_far-end, so_far-room, so_far-above, reached-room, so_far_on, arrival_above, arrival_reached}
 use Rattle.search_measure.proofs.measure.Goals as goal
 
 pub loop-j-init : goal.loop-j-init

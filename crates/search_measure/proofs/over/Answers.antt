@@ -1,4 +1,3 @@
-use borrow.Author.Rules.{rules}
 use Rattle.search_measure.proofs.Deciding.{over_by}
 use Rattle.search_measure.proofs.over.Goals as goal
 

@@ -1,13 +1,7 @@
-use borrow.Author.Rules.{rules}
-use mathlib.Core.Path.{◌≡◌, refl}
-use mathlib.Core.Logic.{◌≢◌}
-use mathlib.Core.List.{List}
-use Prim.Native.Nat.{ℕ}
+use mathlib.Core.Path.{refl}
 use native.Mathlib.Omega.{arith}
-use lib.ListN.{get_or}
 use Rattle.adjacency.proofs.Linking.{few-junctions}
-use Rattle.search_measure.specs.code.Cases.{Steers}
-use Rattle.search_measure.proofs.Finding.{Chain, ArcFacts, chain_starts, told-short, chain_facts, chain_hit, chain_miss}
+use Rattle.search_measure.proofs.Finding.{ArcFacts, chain_starts, told-short, chain_facts, chain_hit, chain_miss}
 use Rattle.search_measure.proofs.step.Goals.{At-loop-w}
 use Rattle.search_measure.proofs.step.Goals as goal
 

@@ -1,13 +1,10 @@
-use borrow.Author.Rules.{rules}
-use mathlib.Core.Path.{◌≡◌, refl}
+use mathlib.Core.Path.{◌≡◌}
 use mathlib.Core.Logic.{◌≢◌}
 use mathlib.Core.List.{List}
 use Prim.Native.Nat.{ℕ}
-use native.Mathlib.Omega.{arith}
 use lib.ListN.{get_or}
-use Rattle.adjacency.proofs.Linking.{few-junctions}
 use Rattle.search_measure.specs.code.Cases.{Steers}
-use Rattle.search_measure.proofs.Finding.{Chain, ArcFacts, chain_starts, told-short, chain_facts, chain_hit, chain_miss}
+use Rattle.search_measure.proofs.Finding.{Chain}
 use Rattle.search_measure.proofs.step.Given as goal
 
 abbrev pub invariant-loop-w : goal.invariant-loop-w

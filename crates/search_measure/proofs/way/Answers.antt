@@ -1,14 +1,9 @@
-use borrow.Author.Rules.{rules}
-use mathlib.Core.Path.{◌≡◌, sym, ◌∙◌}
-use mathlib.Core.List.{List}
-use Prim.Native.Nat.{ℕ, ◌-◌, ◌<◌}
+use mathlib.Core.Path.{sym, ◌∙◌}
 use native.Mathlib.Omega.{arith}
-use lib.ListN.{length, length-set}
-use Rattle.adjacency.specs.Adjacency.{count_in}
-use Rattle.search_measure.specs.code.Cases.{budget_of, Steers}
+use lib.ListN.{length-set}
 use Rattle.search_measure.proofs.Deciding.{over_yes, over_no}
 use Rattle.search_measure.proofs.Standing.{over_up, over_down}
-use Rattle.search_measure.proofs.Along.{Along, Small, along_start, along-small, along-above, along-reached, along_on}
+use Rattle.search_measure.proofs.Along.{Small, along_start, along-small, along-above, along-reached, along_on}
 use Rattle.search_measure.proofs.way.Goals.{At-loop-ceiling}
 use Rattle.search_measure.proofs.way.Goals as goal
 

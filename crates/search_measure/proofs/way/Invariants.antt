@@ -1,14 +1,10 @@
-use borrow.Author.Rules.{rules}
-use mathlib.Core.Path.{◌≡◌, sym, ◌∙◌}
+use mathlib.Core.Path.{◌≡◌}
 use mathlib.Core.List.{List}
 use Prim.Native.Nat.{ℕ, ◌-◌, ◌<◌}
-use native.Mathlib.Omega.{arith}
-use lib.ListN.{length, length-set}
+use lib.ListN.{length}
 use Rattle.adjacency.specs.Adjacency.{count_in}
 use Rattle.search_measure.specs.code.Cases.{budget_of, Steers}
-use Rattle.search_measure.proofs.Deciding.{over_yes, over_no}
-use Rattle.search_measure.proofs.Standing.{over_up, over_down}
-use Rattle.search_measure.proofs.Along.{Along, Small, along_start, along-small, along-above, along-reached, along_on}
+use Rattle.search_measure.proofs.Along.{Along}
 use Rattle.search_measure.proofs.way.Given as goal
 
 abbrev pub invariant-loop-ceiling : goal.invariant-loop-ceiling

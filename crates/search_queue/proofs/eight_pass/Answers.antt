@@ -1,7 +1,6 @@
 use mathlib.Core.Path.{refl}
 use native.Mathlib.Omega.{arith}
 use Rattle.search_queue.proofs.Eights.{pass_short, pass_long}
-use borrow.Author.Rules.{rules}
 use Rattle.search_queue.proofs.eight_pass.Goals as goal
 
 pub returns-then-words-j-lt8 : goal.returns-then-words-j-lt8

@@ -1,5 +1,4 @@
 use Rattle.search_queue.proofs.Eights.{eight_is}
-use borrow.Author.Rules.{rules}
 use Rattle.search_queue.proofs.least_of_eight.Goals as goal
 
 pub returns : goal.returns

@@ -1,10 +1,8 @@
-use borrow.Author.Rules.{rules}
 use mathlib.Core.Path.{sym, ◌∙◌}
-use mathlib.Core.Logic.{⊎_elim}
-use Prim.Native.Nat.{◌+◌, ◌-◌, ◌≤◌}
+use Prim.Native.Nat.{◌+◌, ◌≤◌}
 use native.Mathlib.Omega.{arith}
 use lib.ListN.{length}
-use Rattle.search_queue.proofs.Picking.{Picked, picked_none, picked_first, picked_less, picked_same, picked_all}
+use Rattle.search_queue.proofs.Picking.{picked_none, picked_first, picked_less, picked_same, picked_all}
 use Rattle.search_queue.proofs.Eights.{eight_room, eight_passed}
 use Rattle.search_queue.proofs.pick.Goals.{Then-eight_pass}
 use Rattle.search_queue.proofs.pick.Goals.{then-w-least, else-w-least}

@@ -1,15 +1,9 @@
-use borrow.Author.Rules.{rules}
-use mathlib.Core.Path.{◌≡◌, sym, ap, ◌∙◌}
+use mathlib.Core.Path.{◌≡◌}
 use Prim.Native.Nat.{◌+◌, ◌-◌}
-use native.Mathlib.Omega.{arith}
-use lib.ListN.{length, length-replicate}
+use lib.ListN.{length}
 use Rattle.tree_layout.specs.Decode.{junction_count}
-use Rattle.tree.proofs.Fielding.{laid-header, laid-few}
 use Rattle.search_held.specs.code.Rules.{asking_of}
-use Rattle.search_leaf.proofs.Landmarks.{table_crews}
-use Rattle.search_step.proofs.Taking.{picked}
-use Rattle.search_run.proofs.Running.{Steps, queue-part, least_of_lem, going, ends-settled, ends-limit, steps_on}
-use Rattle.search_run.proofs.Starts.{queue-count, steps_start}
+use Rattle.search_run.proofs.Running.{Steps}
 use Rattle.search_run.proofs.steps.Given as goal
 
 abbrev pub invariant-loop-asked : goal.invariant-loop-asked

@@ -1,4 +1,3 @@
-use borrow.Author.Rules.{rules}
 use native.Mathlib.Omega.{arith}
 use Rattle.search_state.proofs.Settling.{settled_empty, settled-queued, small_key}
 use Rattle.search_state.proofs.settled.Goals as goal

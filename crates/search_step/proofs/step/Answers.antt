@@ -1,4 +1,3 @@
-use borrow.Author.Rules.{rules}
 use native.Mathlib.Omega.{arith}
 use Rattle.search_step.proofs.Taking.{readied, picked, measurable_in, yard-measurable, held_same, region_queued, region_is-taken, yard-room, yard-sorted, yard-cached, yard-is-taken}
 use Rattle.search_step.proofs.step.Goals as goal

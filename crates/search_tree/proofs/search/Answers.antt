@@ -1,7 +1,6 @@
 use mathlib.Core.Path.{refl}
 use Rattle.search_tree.proofs.Reading.{district-back, header-room, regions_are, few-regions, part_length, same-district}
 use Rattle.search_tree.proofs.Calling.{turned_found, turned_work, turned_results}
-use borrow.Author.Rules.{rules}
 use Rattle.search_tree.proofs.search.Goals as goal
 
 pub returns-then-why-ne0 : goal.returns-then-why-ne0

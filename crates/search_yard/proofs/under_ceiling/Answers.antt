@@ -1,4 +1,3 @@
-use borrow.Author.Rules.{rules}
 use Rattle.search_yard.proofs.under_ceiling.Goals as goal
 
 pub returns : goal.returns

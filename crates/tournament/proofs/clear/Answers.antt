@@ -1,9 +1,6 @@
-use borrow.Author.Rules.{rules}
-use mathlib.Core.Path.{◌≡◌}
-use Prim.Native.Nat.{◌-◌, ◌≤◌}
 use native.Mathlib.Omega.{arith}
-use lib.ListN.{length, length-set}
-use Rattle.book.proofs.Filling.{filled, filled_none, filled_more, filled-all}
+use lib.ListN.{length-set}
+use Rattle.book.proofs.Filling.{filled_none, filled_more, filled-all}
 use Rattle.tournament.specs.code.Tournament.{queue_words}
 use Rattle.tournament.proofs.clear.Goals as goal
 

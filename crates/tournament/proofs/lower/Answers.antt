@@ -1,10 +1,7 @@
-use borrow.Author.Rules.{rules}
-use mathlib.Core.Path.{◌≡◌, refl, sym, ◌∙◌}
-use Prim.Native.Nat.{◌-◌, ◌≤◌, ◌<◌}
+use mathlib.Core.Path.{refl, sym, ◌∙◌}
 use native.Mathlib.Omega.{arith}
-use lib.ListN.{length, length-set}
-use Rattle.tournament.specs.code.Tournament.{queue_words}
-use Rattle.tournament.proofs.Lowering.{lowered, one_lowered, all_lowered, lowered_put}
+use lib.ListN.{length-set}
+use Rattle.tournament.proofs.Lowering.{one_lowered, all_lowered, lowered_put}
 use Rattle.tournament.proofs.lower.Goals as goal
 
 pub loop-level-init : goal.loop-level-init

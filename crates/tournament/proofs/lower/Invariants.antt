@@ -1,10 +1,8 @@
-use borrow.Author.Rules.{rules}
-use mathlib.Core.Path.{◌≡◌, refl, sym, ◌∙◌}
+use mathlib.Core.Path.{◌≡◌}
 use Prim.Native.Nat.{◌-◌, ◌≤◌, ◌<◌}
-use native.Mathlib.Omega.{arith}
-use lib.ListN.{length, length-set}
+use lib.ListN.{length}
 use Rattle.tournament.specs.code.Tournament.{queue_words}
-use Rattle.tournament.proofs.Lowering.{lowered, one_lowered, all_lowered, lowered_put}
+use Rattle.tournament.proofs.Lowering.{lowered}
 use Rattle.tournament.proofs.lower.Given as goal
 
 abbrev pub invariant-loop-level : goal.invariant-loop-level

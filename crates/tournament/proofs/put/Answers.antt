@@ -1,10 +1,9 @@
-use borrow.Author.Rules.{rules}
 use mathlib.Core.Path.{◌≡◌, refl, sym, ◌∙◌}
-use Prim.Native.Nat.{◌+◌, ◌-◌, ◌/◌, ◌≤◌, ◌<◌}
+use Prim.Native.Nat.{◌+◌, ◌/◌}
 use native.Mathlib.Omega.{arith}
-use lib.ListN.{length, get_or, length-set}
+use lib.ListN.{length-set}
 use lib.Seq.{get_or-set_same}
-use Rattle.tournament.specs.code.Tournament.{queue_words, lesser_of, repair, put_leaf}
+use Rattle.tournament.specs.code.Tournament.{lesser_of, put_leaf}
 use Rattle.tournament.proofs.Mending.{mended, all_mended, beside}
 use Rattle.tournament.proofs.put.Goals as goal
 

@@ -1,11 +1,7 @@
-use borrow.Author.Rules.{rules}
-use mathlib.Core.Path.{◌≡◌, refl, sym, ◌∙◌}
-use Prim.Native.Nat.{◌+◌, ◌-◌, ◌/◌, ◌≤◌, ◌<◌}
-use native.Mathlib.Omega.{arith}
-use lib.ListN.{length, get_or, length-set}
-use lib.Seq.{get_or-set_same}
-use Rattle.tournament.specs.code.Tournament.{queue_words, lesser_of, repair, put_leaf}
-use Rattle.tournament.proofs.Mending.{mended, all_mended, beside}
+use mathlib.Core.Path.{◌≡◌}
+use Prim.Native.Nat.{◌-◌, ◌≤◌, ◌<◌}
+use lib.ListN.{length, get_or}
+use Rattle.tournament.specs.code.Tournament.{queue_words, repair}
 use Rattle.tournament.proofs.put.Given as goal
 
 abbrev pub invariant-loop-k : goal.invariant-loop-k

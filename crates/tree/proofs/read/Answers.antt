@@ -1,7 +1,6 @@
 use mathlib.Core.Path.{sym, ◌∙◌}
 use Rattle.tree_layout.proofs.Refusing.{laid-number}
 use Rattle.tree.proofs.Answering.{refused-answer, unshaped_answer, shaped-answer}
-use borrow.Author.Rules.{rules}
 use Rattle.tree.proofs.read.Goals as goal
 
 pub returns-in_default : goal.returns-in_default

@@ -2,7 +2,6 @@ use mathlib.Core.Path.{sym, ◌∙◌}
 use borrow.Author.Tests.{not-true, not-false}
 use Rattle.tree_layout.proofs.Accessing.{its_regions}
 use Rattle.tree.proofs.Answering.{header-room, places_need, prefix_room, prefix_length, prefix_laid, unshaped, ends_need, shaped-done}
-use borrow.Author.Rules.{rules}
 use Rattle.tree.proofs.shape_refusal.Goals as goal
 
 pub fill_places-requires : goal.fill_places-requires

@@ -2,7 +2,6 @@ use mathlib.Core.Path.{refl, ◌∙◌}
 use native.Mathlib.Omega.{arith}
 use lib.ListN.{length-set}
 use Rattle.tree_encode.proofs.Parts.{header-written}
-use borrow.Author.Rules.{rules}
 use Rattle.tree_encode.proofs.put_book_header.Goals as goal
 
 pub put_u16-requires : goal.put_u16-requires

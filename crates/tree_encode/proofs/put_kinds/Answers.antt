@@ -1,7 +1,6 @@
 use native.Mathlib.Omega.{arith}
 use Rattle.kinds.proofs.Reading.{size-one}
 use Rattle.tree_encode.proofs.KindBytes.{kind-written, kind_unwritten}
-use borrow.Author.Rules.{rules}
 use Rattle.tree_encode.proofs.put_kinds.Goals as goal
 
 pub bounds-tree-at : goal.bounds-tree-at

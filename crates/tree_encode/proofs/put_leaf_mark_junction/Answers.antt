@@ -1,6 +1,5 @@
 use mathlib.Core.Path.{◌∙◌}
 use Rattle.book.proofs.Writing.{write_u16}
-use borrow.Author.Rules.{rules}
 use Rattle.tree_encode.proofs.put_leaf_mark_junction.Goals as goal
 
 pub returns : goal.returns

@@ -1,5 +1,4 @@
 use Rattle.tree_encode.proofs.Parts.{span-written}
-use borrow.Author.Rules.{rules}
 use Rattle.tree_encode.proofs.put_span.Goals as goal
 
 pub returns : goal.returns

@@ -1,6 +1,5 @@
 use mathlib.Core.Path.{sym}
 use Rattle.tree_layout.proofs.Marks.{inner-low, inner-high, inner-span}
-use borrow.Author.Rules.{rules}
 use Rattle.tree_layout.proofs.inner_mark_ok.Goals as goal
 
 pub returns-then-place-first : goal.returns-then-place-first

@@ -12,7 +12,6 @@ use Rattle.tree_layout.specs.Refusal.{between, records_ok}
 use Rattle.tree_layout.proofs.Tests.{between_both}
 use Rattle.tree_layout.proofs.Refusing.{unopened, junctions_out, regions_out, yards_out, landmarks_out, records_out, values_out, laid_out, limit}
 use Rattle.tree_layout.proofs.Refusing.{records_read, values_read, junctions_read, regions_read, yards_read, landmarks_read}
-use borrow.Author.Rules.{rules}
 use Rattle.tree_layout.proofs.layout.Goals.{Else-not-records_ok, Else-not-within, Else-not-within-2, Else-not-within-3, Else-not-within-4, In-Body}
 use Rattle.tree_layout.proofs.layout.Goals as goal
 

@@ -1,14 +1,10 @@
-use mathlib.Core.Path.{◌≡◌, sym, ◌∙◌}
+use mathlib.Core.Path.{sym, ◌∙◌}
 use native.Mathlib.Omega.{arith}
-use Prim.Native.Nat.{◌-◌, ◌≤◌}
 use borrow.Author.Tests.{not-true, not-false}
-use Rattle.tree_layout.specs.Sizes.{list_size}
-use Rattle.tree_layout.specs.Decode.{read_list}
 use Rattle.tree_layout.specs.Refusal.{list_ok}
 use Rattle.tree_layout.proofs.Sizes.{list-room}
 use Rattle.tree_layout.proofs.Accessing.{listed-is}
-use Rattle.tree_layout.proofs.Turns.{list_rest, list_bad, list_start, list-limit, list-order, list-next, list-end}
-use borrow.Author.Rules.{rules}
+use Rattle.tree_layout.proofs.Turns.{list_bad, list_start, list-limit, list-order, list-next, list-end}
 use Rattle.tree_layout.proofs.list_ok.Goals as goal
 
 pub element-first-requires : goal.element-first-requires

@@ -1,16 +1,11 @@
 use mathlib.Core.Path.{◌≡◌, sym, ap, ◌∙◌}
 use native.Mathlib.Omega.{arith}
-use Prim.Native.Nat.{ℕ, ◌+◌, ◌*◌, ◌-◌, ◌≤◌}
+use Prim.Native.Nat.{ℕ}
 use native.Mathlib.Nat.{sub-zero}
 use borrow.Author.Tests.{not-true, not-false}
-use lib.ListN.{length}
 use Rattle.book.specs.Open.{version}
 use Rattle.tree_layout.specs.Sizes.{leaf_mark_size}
-use Rattle.tree_layout.specs.Decode.{read_lists}
-use Rattle.tree_layout.specs.Refusal.{all, mark_ok}
-use Rattle.tree_layout.specs.Reading.{bounded}
 use Rattle.tree_layout.proofs.Turns.{room, lists-next, lists_stop, lists-end}
-use borrow.Author.Rules.{rules}
 use Rattle.tree_layout.proofs.lists_ok.Goals.{After-leaf_mark-at}
 use Rattle.tree_layout.proofs.lists_ok.Goals as goal
 

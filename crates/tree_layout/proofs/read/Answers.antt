@@ -1,7 +1,6 @@
 use mathlib.Core.Path.{sym, ◌∙◌}
 use Rattle.tree_layout.proofs.Accepting.{layout-facts}
 use Rattle.tree_layout.proofs.Refusing.{answers-refused, answers-laid}
-use borrow.Author.Rules.{rules}
 use Rattle.tree_layout.proofs.read.Goals as goal
 
 pub returns-then-why-ne0 : goal.returns-then-why-ne0

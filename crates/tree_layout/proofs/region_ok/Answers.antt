@@ -7,7 +7,6 @@ use Rattle.book.specs.Open.{version}
 use Rattle.tree_layout.specs.Sizes.{fields_size}
 use Rattle.tree_layout.proofs.Places.{size-least}
 use Rattle.tree_layout.proofs.Marks.{region_empty, region_past, region_children, region_none, region_kindless, region_leaf, region_inner, leaf_room, inner_room}
-use borrow.Author.Rules.{rules}
 use Rattle.tree_layout.proofs.region_ok.Goals.{After-marks_at-start, Start}
 use Rattle.tree_layout.proofs.region_ok.Goals as goal
 

@@ -4,7 +4,6 @@ use native.Mathlib.Omega.{arith}
 use Rattle.tree_layout.specs.Sizes.{fields_size}
 use Rattle.tree_layout.proofs.Sizes.{fields_most}
 use Rattle.tree_layout.proofs.Places.{landmarks-small, size_is}
-use borrow.Author.Rules.{rules}
 use Rattle.tree_layout.proofs.size_at.Goals.{After-mark_size}
 use Rattle.tree_layout.proofs.size_at.Goals as goal
 

@@ -1,14 +1,9 @@
-use borrow.Author.Rules.{rules}
-use mathlib.Core.Path.{◌≡◌, sym, ◌∙◌}
-use native.Mathlib.Omega.{arith}
+use mathlib.Core.Path.{◌≡◌}
 use Prim.Native.Nat.{◌+◌, ◌*◌, ◌-◌, ◌≤◌}
-use native.Mathlib.Nat.{sub-zero}
-use borrow.Author.Tests.{not-true, not-false}
 use lib.ListN.{length}
 use Rattle.tree_layout.specs.Decode.{read_spans}
 use Rattle.tree_layout.specs.Refusal.{all, mark_ok}
 use Rattle.tree_layout.specs.Reading.{bounded}
-use Rattle.tree_layout.proofs.Turns.{spans-next, spans_stop, spans-end}
 use Rattle.tree_layout.proofs.spans_ok.Given as goal
 
 abbrev pub invariant-loop-k : goal.invariant-loop-k

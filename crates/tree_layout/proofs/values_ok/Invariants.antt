@@ -1,13 +1,8 @@
-use mathlib.Core.Path.{◌≡◌, sym, ◌∙◌}
-use native.Mathlib.Omega.{arith}
+use mathlib.Core.Path.{◌≡◌}
 use Prim.Native.Nat.{◌-◌, ◌≤◌}
-use native.Mathlib.Nat.{sub-zero}
-use borrow.Author.Tests.{not-true, not-false}
 use mathlib.Core.Bool.{true}
 use Rattle.tree_layout.specs.Decode.{read_regions}
 use Rattle.tree_layout.specs.Refusal.{all, records_ok, region_ok}
-use Rattle.tree_layout.proofs.Turns.{record_fields, record_whole, records_later, regions-next, regions_stop, regions-end}
-use borrow.Author.Rules.{rules}
 use Rattle.tree_layout.proofs.values_ok.Given as goal
 
 abbrev pub invariant-loop-k : goal.invariant-loop-k

@@ -1,17 +1,10 @@
-use borrow.Author.Rules.{rules}
-use borrow.Author.Tests.{not-true, not-false}
-use mathlib.Core.Path.{◌≡◌, sym, ap, ◌∙◌}
-use Prim.Native.Nat.{ℕ, ◌+◌, ◌*◌, ◌-◌, ◌≤◌}
-use native.Mathlib.Nat.{sub-zero}
-use native.Mathlib.Omega.{arith}
+use mathlib.Core.Path.{◌≡◌}
+use Prim.Native.Nat.{◌+◌, ◌*◌, ◌-◌, ◌≤◌}
 use lib.ListN.{length}
 use Rattle.book.specs.Open.{version}
 use Rattle.tree_layout.specs.Sizes.{leaf_mark_size}
 use Rattle.tree_layout.specs.Decode.{read_lists}
-use Rattle.tree_layout.proofs.Turns.{room}
 use Rattle.tree_leaf.specs.Leaf.{first_list, agreeing}
-use Rattle.tree_leaf.proofs.Listing.{first-list, parts_agree, agree_stop, agree_next, agree_end}
-use Rattle.tree_leaf.proofs.Members.{part_room, part-fits, part_members}
 use Rattle.tree_leaf.proofs.all_agree.Given as goal
 
 abbrev pub invariant-loop-k : goal.invariant-loop-k

@@ -1,15 +1,9 @@
-use borrow.Author.Rules.{rules}
 use borrow.Author.Tests.{not-true, not-false}
-use mathlib.Core.Path.{◌≡◌, sym, ◌∙◌}
-use Prim.Native.Nat.{◌-◌, ◌≤◌}
+use mathlib.Core.Path.{sym, ◌∙◌}
 use native.Mathlib.Nat.{sub-zero}
 use native.Mathlib.Omega.{arith}
-use Rattle.tree_layout.specs.Sizes.{list_size}
-use Rattle.tree_layout.specs.Decode.{read_list}
-use Rattle.tree_layout.specs.Refusal.{all}
 use Rattle.tree_layout.proofs.Sizes.{list-zero, list-room}
 use Rattle.tree_layout.proofs.Accessing.{listed-yard}
-use Rattle.tree_leaf.specs.code.Members.{is_member}
 use Rattle.tree_leaf.proofs.Listing.{all_end}
 use Rattle.tree_leaf.proofs.Members.{in_beyond, in_absent, in_next}
 use Rattle.tree_leaf.proofs.all_in.Goals as goal

@@ -1,14 +1,10 @@
-use borrow.Author.Rules.{rules}
-use mathlib.Core.Path.{◌≡◌, refl, ap, ◌∙◌}
+use mathlib.Core.Path.{refl, ap, ◌∙◌}
 use mathlib.Core.Bool.{true, false}
 use Prim.Native.Nat.{◌-◌, ◌≤◌, ◌<◌}
 use native.Mathlib.Omega.{arith}
 use lib.ListN.{length, length-set, length-replicate}
-use Rattle.tree_layout.specs.Sizes.{list_size}
-use Rattle.tree_layout.specs.Decode.{read_list}
 use Rattle.tree_layout.proofs.Sizes.{list-room}
 use Rattle.tree_layout.proofs.Accessing.{listed-yard}
-use Rattle.tree_leaf.specs.code.Members.{members_of, fits}
 use Rattle.tree_leaf.proofs.Members.{none_done, all_done, failed, fails_low, fails_high, fails_twice, one_more}
 use Rattle.tree_leaf.proofs.fill_members.Goals as goal
 

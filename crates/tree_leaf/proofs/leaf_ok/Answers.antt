@@ -8,7 +8,6 @@ use Rattle.tree_layout.specs.Decode.{landmark_count}
 use Rattle.tree_layout.proofs.Accessing.{its_version, its_landmarks}
 use Rattle.tree_layout.proofs.Places.{size-least}
 use Rattle.tree_leaf.proofs.Listing.{leaf_room, leaf-end, leaf_tested}
-use borrow.Author.Rules.{rules}
 use Rattle.tree_leaf.proofs.leaf_ok.Goals.{After-marks_at, Start}
 use Rattle.tree_leaf.proofs.leaf_ok.Goals as goal
 

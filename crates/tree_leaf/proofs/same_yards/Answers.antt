@@ -1,7 +1,6 @@
 use borrow.Author.Tests.{not-true, not-false}
 use mathlib.Core.Path.{sym, ◌∙◌}
 use Rattle.tree_leaf.proofs.Members.{list_fails, same-not-named, same_by_members}
-use borrow.Author.Rules.{rules}
 use Rattle.tree_leaf.proofs.same_yards.Goals as goal
 
 pub returns-then-not-fill_members : goal.returns-then-not-fill_members

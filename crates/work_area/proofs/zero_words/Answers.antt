@@ -1,9 +1,6 @@
-use borrow.Author.Rules.{rules}
-use mathlib.Core.Path.{◌≡◌}
-use Prim.Native.Nat.{◌-◌, ◌≤◌}
 use native.Mathlib.Omega.{arith}
-use lib.ListN.{length, length-set}
-use Rattle.book.proofs.Filling.{filled, filled_none, filled_more}
+use lib.ListN.{length-set}
+use Rattle.book.proofs.Filling.{filled_none, filled_more}
 use Rattle.work_area.proofs.Zeroing.{filled-zeroed}
 use Rattle.work_area.proofs.zero_words.Goals as goal
 

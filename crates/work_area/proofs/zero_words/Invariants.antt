@@ -1,10 +1,7 @@
-use borrow.Author.Rules.{rules}
 use mathlib.Core.Path.{◌≡◌}
 use Prim.Native.Nat.{◌-◌, ◌≤◌}
-use native.Mathlib.Omega.{arith}
-use lib.ListN.{length, length-set}
-use Rattle.book.proofs.Filling.{filled, filled_none, filled_more}
-use Rattle.work_area.proofs.Zeroing.{filled-zeroed}
+use lib.ListN.{length}
+use Rattle.book.proofs.Filling.{filled}
 use Rattle.work_area.proofs.zero_words.Given as goal
 
 abbrev pub invariant-loop-i : goal.invariant-loop-i

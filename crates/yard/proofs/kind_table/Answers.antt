@@ -1,9 +1,8 @@
-use borrow.Author.Rules.{rules}
-use mathlib.Core.Path.{◌≡◌, sym, ap, ◌∙◌}
-use Prim.Native.Nat.{ℕ, ◌-◌, ◌≤◌, ◌<◌}
+use mathlib.Core.Path.{sym, ap, ◌∙◌}
+use Prim.Native.Nat.{ℕ, ◌<◌}
 use native.Mathlib.Omega.{arith}
 use lib.ListN.{length, length-set, length-replicate}
-use Rattle.yard.specs.Yards.{yard_count, yard_refusal, kinds_from, kind_table}
+use Rattle.yard.specs.Yards.{kind_table}
 use Rattle.yard.proofs.YardLayout.{layout, yards-at}
 use Rattle.yard.proofs.Tables.{begins, one_more, table_end}
 use Rattle.yard.proofs.kind_table.Goals.{After-struct_known-1}

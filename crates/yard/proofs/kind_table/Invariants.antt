@@ -1,11 +1,7 @@
-use borrow.Author.Rules.{rules}
-use mathlib.Core.Path.{◌≡◌, sym, ap, ◌∙◌}
-use Prim.Native.Nat.{ℕ, ◌-◌, ◌≤◌, ◌<◌}
-use native.Mathlib.Omega.{arith}
-use lib.ListN.{length, length-set, length-replicate}
+use mathlib.Core.Path.{◌≡◌}
+use Prim.Native.Nat.{◌-◌, ◌≤◌}
+use lib.ListN.{length}
 use Rattle.yard.specs.Yards.{yard_count, yard_refusal, kinds_from, kind_table}
-use Rattle.yard.proofs.YardLayout.{layout, yards-at}
-use Rattle.yard.proofs.Tables.{begins, one_more, table_end}
 use Rattle.yard.proofs.kind_table.Given as goal
 
 abbrev pub invariant-loop-i : goal.invariant-loop-i

@@ -1,6 +1,5 @@
 use mathlib.Core.Path.{sym, ◌∙◌}
 use Rattle.yard.proofs.Answering.{answers-refused, answers-yards}
-use borrow.Author.Rules.{rules}
 use Rattle.yard.proofs.read.Goals as goal
 
 pub returns-then-why-ne0 : goal.returns-then-why-ne0

@@ -3,7 +3,6 @@ use native.Mathlib.Omega.{arith}
 use Rattle.yard.specs.Yards.{yard_count, yard_refusal}
 use Rattle.yard.proofs.YardLayout.{count_small}
 use Rattle.yard.proofs.Answering.{beside-refused, beside-found, beside-outside, beside-inside}
-use borrow.Author.Rules.{rules}
 use Rattle.yard.proofs.read_in.Goals.{In-Yards}
 use Rattle.yard.proofs.read_in.Goals as goal
 

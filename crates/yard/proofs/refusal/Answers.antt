@@ -4,7 +4,6 @@ use borrow.Author.Tests.{not-true, not-false}
 use Rattle.book.specs.Open.{open_refusal}
 use Rattle.book.proofs.Opening.{opened_body, number_why, opens}
 use Rattle.yard.proofs.Refusing.{unopened, none, many, unsized, unordered, unkinded, sound}
-use borrow.Author.Rules.{rules}
 use Rattle.yard.proofs.refusal.Goals.{In-Body}
 use Rattle.yard.proofs.refusal.Goals as goal
 

@@ -1,9 +1,7 @@
-use borrow.Author.Rules.{rules}
-use mathlib.Core.Path.{◌≡◌, sym, ◌∙◌}
-use Prim.Native.Nat.{◌-◌, ◌≤◌}
+use mathlib.Core.Path.{sym, ◌∙◌}
 use native.Mathlib.Nat.{sub-zero}
 use native.Mathlib.Omega.{arith}
-use Rattle.yard.specs.Yards.{yards_from, yards_rise}
+use Rattle.yard.specs.Yards.{yards_rise}
 use Rattle.yard.proofs.Places.{place-room}
 use Rattle.yard.proofs.Rising.{goes_on, falls, high, ends}
 use Rattle.yard.proofs.YardLayout.{read_yard-at}

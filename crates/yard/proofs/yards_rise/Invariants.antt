@@ -1,12 +1,6 @@
-use borrow.Author.Rules.{rules}
-use mathlib.Core.Path.{◌≡◌, sym, ◌∙◌}
+use mathlib.Core.Path.{◌≡◌}
 use Prim.Native.Nat.{◌-◌, ◌≤◌}
-use native.Mathlib.Nat.{sub-zero}
-use native.Mathlib.Omega.{arith}
 use Rattle.yard.specs.Yards.{yards_from, yards_rise}
-use Rattle.yard.proofs.Places.{place-room}
-use Rattle.yard.proofs.Rising.{goes_on, falls, high, ends}
-use Rattle.yard.proofs.YardLayout.{read_yard-at}
 use Rattle.yard.proofs.yards_rise.Given as goal
 
 abbrev pub invariant-loop-i : goal.invariant-loop-i

@@ -1,7 +1,5 @@
-use borrow.Author.Rules.{rules}
-use Prim.Native.Nat.{◌-◌}
 use native.Mathlib.Omega.{arith}
-use Rattle.build_cuts.proofs.Counting.{Below, below_start, below-turn, below_stop, below_end}
+use Rattle.build_cuts.proofs.Counting.{below_start, below-turn, below_stop, below_end}
 use Rattle.build_cuts.proofs.ranges.below.Goals as goal
 
 pub loop-n-init : goal.loop-n-init

@@ -1,7 +1,5 @@
-use borrow.Author.Rules.{rules}
-use Prim.Native.Nat.{◌-◌}
 use native.Mathlib.Omega.{arith}
-use Rattle.build_cuts.proofs.Counting.{Parted, parted_start, parted_with, parted_without, parted_end}
+use Rattle.build_cuts.proofs.Counting.{parted_start, parted_with, parted_without, parted_end}
 use Rattle.build_cuts.proofs.ranges.part_count.Goals as goal
 
 pub loop-i-init : goal.loop-i-init

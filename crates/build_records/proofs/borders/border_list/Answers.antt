@@ -1,11 +1,6 @@
-use borrow.Author.Rules.{rules}
 use mathlib.Core.Path.{sym, ◌∙◌}
-use mathlib.Core.Logic.{⊎_elim}
-use mathlib.Core.List.{List}
-use Prim.Native.Nat.{ℕ, ◌+◌, ◌-◌}
 use native.Mathlib.Omega.{arith}
 use Rattle.road_layout.specs.Road.{roads}
-use Rattle.adjacency.specs.Adjacency.{Adjacency}
 use Rattle.build_records.proofs.Scanning.{Bordering, bordering_start, bordering_yes, bordering_no, bordering_end}
 use Rattle.build_records.proofs.borders.border_list.Goals.{In-loop-v}
 use Rattle.build_records.proofs.borders.border_list.Goals.{then-is_border, else-is_border}

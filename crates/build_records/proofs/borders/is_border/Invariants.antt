@@ -1,13 +1,9 @@
-use borrow.Author.Rules.{rules}
-use mathlib.Core.Path.{sym}
 use mathlib.Core.List.{List}
 use Prim.Native.Nat.{ℕ}
-use native.Mathlib.Omega.{arith}
 use Rattle.road_layout.specs.Road.{roads}
 use Rattle.adjacency.specs.Adjacency.{Adjacency}
-use Rattle.adjacency.proofs.Chains.{ChainAt, ChainStep, chain_step, chain_done}
+use Rattle.adjacency.proofs.Chains.{ChainAt}
 use Rattle.build_rules.specs.Cut.{outside, is_border}
-use Rattle.build_records.proofs.Scanning.{border_begin, border_low, border_high, border_on}
 use Rattle.build_records.proofs.borders.is_border.Given as goal
 
 abbrev pub invariant-loop-x : goal.invariant-loop-x

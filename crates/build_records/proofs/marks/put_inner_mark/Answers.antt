@@ -1,4 +1,3 @@
-use borrow.Author.Rules.{rules}
 use Rattle.build_records.proofs.Writing.{inner-written}
 use Rattle.build_records.proofs.marks.put_inner_mark.Goals as goal
 

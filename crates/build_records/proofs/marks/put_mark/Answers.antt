@@ -1,4 +1,3 @@
-use borrow.Author.Rules.{rules}
 use Prim.Native.Nat.{◌<◌}
 use native.Mathlib.Omega.{arith}
 use Rattle.build_records.proofs.Writing.{mark_leaf-written, mark_inner-written, leaf-place-fits, inner-place-fits}

@@ -1,9 +1,5 @@
-use borrow.Author.Rules.{rules}
-use mathlib.Core.Path.{refl}
 use Prim.Native.Nat.{◌-◌}
-use native.Mathlib.Omega.{arith}
-use Rattle.build_records.proofs.Numbered.{yard_read, yard-fits, yards-few}
-use Rattle.build_records.proofs.Measuring.{Measuring, measuring_start, measuring_turn, measuring_end}
+use Rattle.build_records.proofs.Measuring.{Measuring}
 use Rattle.build_records.proofs.spans.measure.Given as goal
 
 abbrev pub invariant-loop-k : goal.invariant-loop-k

@@ -1,11 +1,6 @@
-use mathlib.Core.Path.{◌≡◌, sym, ◌∙◌}
-use Prim.Native.Nat.{◌-◌, ◌≤◌}
+use mathlib.Core.Path.{sym, ◌∙◌}
 use native.Mathlib.Omega.{arith}
-use borrow.Author.Rules.{rules}
-use Rattle.tree_layout.specs.Sizes.{list_size}
-use Rattle.tree_layout.specs.Decode.{read_list}
 use Rattle.check_rules.proofs.Elements.{element-inside}
-use Rattle.check_distances.specs.code.Row.{list_in}
 use Rattle.check_distances.proofs.Listing.{list-first, list_stop, list-next, list-end}
 use Rattle.check_distances.proofs.lists.list_true.Goals as goal
 

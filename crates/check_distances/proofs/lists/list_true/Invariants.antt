@@ -1,12 +1,8 @@
-use mathlib.Core.Path.{◌≡◌, sym, ◌∙◌}
+use mathlib.Core.Path.{◌≡◌}
 use Prim.Native.Nat.{◌-◌, ◌≤◌}
-use native.Mathlib.Omega.{arith}
-use borrow.Author.Rules.{rules}
 use Rattle.tree_layout.specs.Sizes.{list_size}
 use Rattle.tree_layout.specs.Decode.{read_list}
-use Rattle.check_rules.proofs.Elements.{element-inside}
 use Rattle.check_distances.specs.code.Row.{list_in}
-use Rattle.check_distances.proofs.Listing.{list-first, list_stop, list-next, list-end}
 use Rattle.check_distances.proofs.lists.list_true.Given as goal
 
 abbrev pub invariant-loop-k : goal.invariant-loop-k

@@ -1,20 +1,12 @@
-use mathlib.Core.Path.{◌≡◌, refl, sym, ◌∙◌}
-use mathlib.Core.List.{List}
-use Prim.Native.Nat.{ℕ, ◌+◌, ◌-◌, ◌≤◌, ◌<◌}
+use mathlib.Core.Path.{refl, sym, ◌∙◌}
+use Prim.Native.Nat.{◌+◌, ◌≤◌, ◌<◌}
 use native.Mathlib.Omega.{arith}
-use borrow.Author.Rules.{rules}
 use borrow.Author.Tests.{not-true, not-false}
-use lib.ListN.{length, drop}
+use lib.ListN.{length}
 use Rattle.book.specs.Open.{version}
-use Rattle.adjacency.specs.Adjacency.{count_in, Adjacency}
-use Rattle.road.specs.Dijkstra.{dist}
-use Rattle.road.specs.code.Rows.{RowFrom}
 use Rattle.tree_layout.specs.Sizes.{leaf_mark_size}
 use Rattle.tree_layout.specs.Decode.{landmark_count}
-use Rattle.tree_layout.specs.code.Marks.{marks_at}
-use Rattle.tree_layout.specs.Refusal.{all}
 use Rattle.tree_layout.proofs.Sizes.{leaf_mark_are}
-use Rattle.check_rules.specs.Truth.{true_list}
 use Rattle.check_distances.proofs.Rows.{few}
 use Rattle.check_rules.proofs.Records.{marks-done}
 use Rattle.check_rules.proofs.Elements.{list-fits, list_length}

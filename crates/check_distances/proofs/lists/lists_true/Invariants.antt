@@ -1,24 +1,13 @@
-use mathlib.Core.Path.{◌≡◌, refl, sym, ◌∙◌}
+use mathlib.Core.Path.{◌≡◌}
 use mathlib.Core.List.{List}
-use Prim.Native.Nat.{ℕ, ◌+◌, ◌-◌, ◌≤◌, ◌<◌}
-use native.Mathlib.Omega.{arith}
-use borrow.Author.Rules.{rules}
-use borrow.Author.Tests.{not-true, not-false}
+use Prim.Native.Nat.{ℕ, ◌-◌, ◌≤◌, ◌<◌}
 use lib.ListN.{length, drop}
-use Rattle.book.specs.Open.{version}
 use Rattle.adjacency.specs.Adjacency.{count_in, Adjacency}
 use Rattle.road.specs.Dijkstra.{dist}
 use Rattle.road.specs.code.Rows.{RowFrom}
-use Rattle.tree_layout.specs.Sizes.{leaf_mark_size}
-use Rattle.tree_layout.specs.Decode.{landmark_count}
 use Rattle.tree_layout.specs.code.Marks.{marks_at}
 use Rattle.tree_layout.specs.Refusal.{all}
-use Rattle.tree_layout.proofs.Sizes.{leaf_mark_are}
 use Rattle.check_rules.specs.Truth.{true_list}
-use Rattle.check_distances.proofs.Rows.{few}
-use Rattle.check_rules.proofs.Records.{marks-done}
-use Rattle.check_rules.proofs.Elements.{list-fits, list_length}
-use Rattle.check_distances.proofs.Listing.{list-placed, lists_on, lists_off}
 use Rattle.check_distances.proofs.lists.lists_true.Given as goal
 
 abbrev pub invariant-loop-j : goal.invariant-loop-j

@@ -1,5 +1,4 @@
 use native.Mathlib.Omega.{arith}
-use borrow.Author.Rules.{rules}
 use Rattle.check_distances.proofs.Spanning.{greatest-low, greatest-high, greatest_in}
 use Rattle.check_distances.proofs.spans.greatest_with.Goals as goal
 

@@ -1,5 +1,4 @@
 use native.Mathlib.Omega.{arith}
-use borrow.Author.Rules.{rules}
 use Rattle.check_distances.proofs.Spanning.{least-low, least-high, least_in}
 use Rattle.check_distances.proofs.spans.least_with.Goals as goal
 

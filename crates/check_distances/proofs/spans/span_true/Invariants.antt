@@ -1,13 +1,9 @@
-use mathlib.Core.Path.{◌≡◌, refl, sym, ◌∙◌}
-use Prim.Native.Nat.{◌-◌, ◌≤◌, ◌<◌}
-use native.Mathlib.Omega.{arith}
-use borrow.Author.Rules.{rules}
-use lib.ListN.{length, drop}
+use mathlib.Core.Path.{◌≡◌}
+use Prim.Native.Nat.{◌-◌, ◌≤◌}
+use lib.ListN.{drop}
 use Rattle.road.specs.Dijkstra.{far, at}
 use Rattle.yard.specs.Yards.{yards_of}
-use Rattle.yard.proofs.YardLayout.{yards-length}
 use Rattle.check_rules.specs.Truth.{least_distance_from, greatest_from, within}
-use Rattle.check_distances.proofs.Spanning.{least-turn, least-end, greatest-turn, greatest-end, least_other, greatest_decides}
 use Rattle.check_distances.proofs.spans.span_true.Given as goal
 
 abbrev pub invariant-loop-k : goal.invariant-loop-k

@@ -1,18 +1,8 @@
-use mathlib.Core.Path.{◌≡◌, refl, sym, ◌∙◌}
-use mathlib.Core.List.{List}
-use Prim.Native.Nat.{ℕ, ◌-◌, ◌≤◌, ◌<◌}
+use mathlib.Core.Path.{refl, sym, ◌∙◌}
+use Prim.Native.Nat.{◌<◌}
 use native.Mathlib.Omega.{arith}
-use borrow.Author.Rules.{rules}
 use borrow.Author.Tests.{not-true, not-false}
-use lib.ListN.{length, drop}
-use Rattle.adjacency.specs.Adjacency.{count_in, Adjacency}
-use Rattle.road.specs.Dijkstra.{dist}
-use Rattle.road.specs.code.Rows.{RowFrom}
-use Rattle.yard.specs.Yards.{yards_of}
 use Rattle.tree_layout.specs.Decode.{landmark_count}
-use Rattle.tree_layout.specs.code.Marks.{marks_at}
-use Rattle.tree_layout.specs.Refusal.{all}
-use Rattle.check_rules.specs.Truth.{true_span, within}
 use Rattle.check_distances.proofs.Rows.{few}
 use Rattle.check_rules.proofs.Records.{marks-done}
 use Rattle.check_distances.proofs.Spanning.{span-placed, spans_on, spans_off}

@@ -1,11 +1,9 @@
 use mathlib.Core.Path.{◌≡◌, refl, sym, ◌∙◌}
-use Prim.Native.Nat.{◌-◌, ◌≤◌, ◌<◌}
+use Prim.Native.Nat.{◌≤◌, ◌<◌}
 use native.Mathlib.Omega.{arith}
-use borrow.Author.Rules.{rules}
-use lib.ListN.{length, drop}
+use lib.ListN.{length}
 use Rattle.yard.specs.Yards.{yards_of}
 use Rattle.yard.proofs.YardLayout.{yards-length}
-use Rattle.check_tree.specs.Check.{has}
 use Rattle.check_tree.proofs.Knowing.{has-found, has-next, has-none}
 use Rattle.check_tree.proofs.yards.has_yard.Goals.{After-loop-k, At-loop-k, In-loop-k}
 use Rattle.check_tree.proofs.yards.has_yard.Goals as goal

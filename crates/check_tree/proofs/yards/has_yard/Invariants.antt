@@ -1,12 +1,8 @@
-use mathlib.Core.Path.{◌≡◌, refl, sym, ◌∙◌}
-use Prim.Native.Nat.{◌-◌, ◌≤◌, ◌<◌}
-use native.Mathlib.Omega.{arith}
-use borrow.Author.Rules.{rules}
-use lib.ListN.{length, drop}
+use mathlib.Core.Path.{◌≡◌}
+use Prim.Native.Nat.{◌-◌, ◌≤◌}
+use lib.ListN.{drop}
 use Rattle.yard.specs.Yards.{yards_of}
-use Rattle.yard.proofs.YardLayout.{yards-length}
 use Rattle.check_tree.specs.Check.{has}
-use Rattle.check_tree.proofs.Knowing.{has-found, has-next, has-none}
 use Rattle.check_tree.proofs.yards.has_yard.Given as goal
 
 abbrev pub invariant-loop-k : goal.invariant-loop-k

@@ -1,14 +1,9 @@
-use mathlib.Core.Path.{◌≡◌, sym, ◌∙◌}
+use mathlib.Core.Path.{◌≡◌}
 use Prim.Native.Nat.{◌-◌, ◌≤◌}
-use native.Mathlib.Omega.{arith}
-use borrow.Author.Rules.{rules}
-use borrow.Author.Tests.{not-true, not-false}
 use Rattle.yard.specs.Yards.{yards_of}
 use Rattle.tree_layout.specs.Sizes.{list_size}
 use Rattle.tree_layout.specs.Decode.{read_list}
-use Rattle.check_rules.proofs.Elements.{element-inside}
 use Rattle.check_tree.specs.code.Known.{known_list}
-use Rattle.check_tree.proofs.Knowing.{list-first, list_unknown, list_known_lem, list_done}
 use Rattle.check_tree.proofs.yards.list_known.Given as goal
 
 abbrev pub invariant-loop-k : goal.invariant-loop-k

@@ -1,5 +1,4 @@
 use native.Mathlib.Omega.{arith}
-use borrow.Author.Rules.{rules}
 use Rattle.tree_layout.proofs.RecordFields.{fields_inside}
 use Rattle.check_tree.proofs.Knowing.{inner_known, first-room, first-length, leaf_known}
 use Rattle.check_tree.proofs.yards.region_known.Goals as goal

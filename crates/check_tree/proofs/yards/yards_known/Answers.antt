@@ -1,18 +1,13 @@
 use mathlib.Core.Path.{◌≡◌, refl, sym, ◌∙◌}
-use Prim.Native.Nat.{◌-◌, ◌≤◌, ◌<◌}
+use Prim.Native.Nat.{◌≤◌, ◌<◌}
 use native.Mathlib.Omega.{arith}
-use borrow.Author.Rules.{rules}
 use borrow.Author.Tests.{not-true, not-false}
-use lib.ListN.{drop}
-use Rattle.yard.specs.Yards.{yards_of}
-use Rattle.tree_layout.specs.Decode.{region_count, landmark_count, place_of, decode}
-use Rattle.tree_layout.specs.Refusal.{all}
+use Rattle.tree_layout.specs.Decode.{region_count, landmark_count}
 use Rattle.tree_layout.proofs.Accepting.{layout-facts}
 use Rattle.tree_layout.proofs.Places.{place-first}
 use Rattle.tree_layout.proofs.RecordFields.{fields_inside}
 use Rattle.tree_layout.proofs.RegionRecords.{layout_record}
 use Rattle.check_rules.proofs.Records.{header-counts, record_end, record_next, regions_on, regions_off, regions-done}
-use Rattle.check_tree.specs.code.Known.{known_region, known_tree}
 use Rattle.check_tree.proofs.Knowing.{tree_known}
 use Rattle.check_tree.proofs.yards.yards_known.Goals.{After-header-h, After-loop-k, In-loop-k}
 use Rattle.check_tree.proofs.yards.yards_known.Goals as goal

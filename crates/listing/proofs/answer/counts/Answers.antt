@@ -1,8 +1,6 @@
-use borrow.Author.Rules.{rules}
 use native.Mathlib.Omega.{arith}
 use Rattle.text.proofs.Appending.{append_then}
 use Rattle.listing.specs.Output.{counts_line}
-use borrow.Author.Rules.{rules}
 use Rattle.listing.proofs.answer.counts.Goals as goal
 
 pub returns : goal.returns

@@ -1,9 +1,8 @@
 use borrow.Author.Rules.{rules}
 use mathlib.Core.Path.{◌≡◌, refl, ap, ◌∙◌}
-use Prim.Native.Nat.{ℕ, ◌+◌, ◌*◌, ◌-◌, ◌≤◌}
+use Prim.Native.Nat.{ℕ}
 use native.Mathlib.Omega.{arith}
-use lib.ListN.{length}
-use Rattle.text.specs.Text.{in_turn, Appended}
+use Rattle.text.specs.Text.{in_turn}
 use Rattle.text.proofs.Appending.{append_as, turns_none, turns_more}
 use Rattle.listing.specs.Output.{listed_line}
 use Rattle.listing.proofs.answer.lines.Goals as goal

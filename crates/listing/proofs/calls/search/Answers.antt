@@ -1,4 +1,3 @@
-use borrow.Author.Rules.{rules}
 use Rattle.listing.proofs.Fitting.{room}
 use Rattle.listing.proofs.calls.search.Goals as goal
 

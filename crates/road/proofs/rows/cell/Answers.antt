@@ -1,5 +1,4 @@
 use Rattle.road.proofs.Filling.{cell-is}
-use borrow.Author.Rules.{rules}
 use Rattle.road.proofs.rows.cell.Goals as goal
 
 pub returns : goal.returns

@@ -1,12 +1,9 @@
-use borrow.Author.Rules.{rules}
-use mathlib.Core.Path.{◌≡◌, refl, ◌∙◌}
-use mathlib.Core.List.{List}
-use Prim.Native.Nat.{ℕ, ◌+◌, ◌-◌, ◌*◌, ◌≤◌}
+use mathlib.Core.Path.{refl, ◌∙◌}
+use Prim.Native.Nat.{◌+◌, ◌*◌, ◌≤◌}
 use native.Mathlib.Omega.{arith}
 use lib.ListN.{length}
 use Rattle.book.proofs.Lists.{get_d_mem}
-use Rattle.adjacency.specs.Adjacency.{Adjacency}
-use Rattle.road.proofs.Filling.{row_inside, part-size, put_size, RowedTo, rowed_none, rowed_more, rowed_all}
+use Rattle.road.proofs.Filling.{row_inside, part-size, put_size, rowed_none, rowed_more, rowed_all}
 use Rattle.road.proofs.rows.fill.Goals as goal
 
 pub loop-r-init : goal.loop-r-init

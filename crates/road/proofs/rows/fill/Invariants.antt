@@ -1,12 +1,9 @@
-use borrow.Author.Rules.{rules}
-use mathlib.Core.Path.{◌≡◌, refl, ◌∙◌}
+use mathlib.Core.Path.{◌≡◌}
 use mathlib.Core.List.{List}
-use Prim.Native.Nat.{ℕ, ◌+◌, ◌-◌, ◌*◌, ◌≤◌}
-use native.Mathlib.Omega.{arith}
+use Prim.Native.Nat.{ℕ, ◌-◌, ◌≤◌}
 use lib.ListN.{length}
-use Rattle.book.proofs.Lists.{get_d_mem}
 use Rattle.adjacency.specs.Adjacency.{Adjacency}
-use Rattle.road.proofs.Filling.{row_inside, part-size, put_size, RowedTo, rowed_none, rowed_more, rowed_all}
+use Rattle.road.proofs.Filling.{RowedTo}
 use Rattle.road.proofs.rows.fill.Given as goal
 
 abbrev pub invariant-loop-r : goal.invariant-loop-r

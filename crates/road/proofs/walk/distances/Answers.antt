@@ -1,12 +1,8 @@
-use borrow.Author.Rules.{rules}
 use Rattle.adjacency.specs.Adjacency.{count_in}
-use mathlib.Core.Path.{◌≡◌, refl, sym, ◌∙◌}
-use Prim.Native.Nat.{ℕ, ◌-◌, ◌≤◌, ◌<◌}
+use mathlib.Core.Path.{refl, sym, ◌∙◌}
+use Prim.Native.Nat.{◌<◌}
 use native.Mathlib.Omega.{arith}
-use lib.ListN.{length}
-use Rattle.tournament.specs.code.Tournament.{queue_words}
 use Rattle.adjacency.proofs.Linking.{few-junctions}
-use Rattle.road.specs.code.Queue.{WalkingIn}
 use Rattle.road.proofs.Theorems.{row-least}
 use Rattle.road.proofs.Stepping.{walking-sizes, walking_start, finished}
 use Rattle.road.proofs.walk.distances.Goals as goal

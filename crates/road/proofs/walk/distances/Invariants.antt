@@ -1,14 +1,9 @@
-use borrow.Author.Rules.{rules}
 use Rattle.adjacency.specs.Adjacency.{count_in}
-use mathlib.Core.Path.{◌≡◌, refl, sym, ◌∙◌}
+use mathlib.Core.Path.{◌≡◌}
 use Prim.Native.Nat.{ℕ, ◌-◌, ◌≤◌, ◌<◌}
-use native.Mathlib.Omega.{arith}
 use lib.ListN.{length}
 use Rattle.tournament.specs.code.Tournament.{queue_words}
-use Rattle.adjacency.proofs.Linking.{few-junctions}
 use Rattle.road.specs.code.Queue.{WalkingIn}
-use Rattle.road.proofs.Theorems.{row-least}
-use Rattle.road.proofs.Stepping.{walking-sizes, walking_start, finished}
 use Rattle.road.proofs.walk.distances.Given as goal
 
 abbrev pub invariant-loop-k : goal.invariant-loop-k

@@ -1,11 +1,6 @@
-use borrow.Author.Rules.{rules}
-use mathlib.Core.Path.{◌≡◌}
-use mathlib.Core.Bool.{false}
-use Prim.Native.Nat.{◌-◌, ◌≤◌}
 use native.Mathlib.Omega.{arith}
-use lib.ListN.{length, length-set}
-use Rattle.book.proofs.Filling.{filled, filled_none, filled_more, filled-all}
-use Rattle.road.specs.Dijkstra.{far}
+use lib.ListN.{length-set}
+use Rattle.book.proofs.Filling.{filled_none, filled_more, filled-all}
 use Rattle.road.proofs.walk.reset.Goals as goal
 
 pub loop-i-init : goal.loop-i-init

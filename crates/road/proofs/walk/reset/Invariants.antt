@@ -1,10 +1,8 @@
-use borrow.Author.Rules.{rules}
 use mathlib.Core.Path.{◌≡◌}
 use mathlib.Core.Bool.{false}
 use Prim.Native.Nat.{◌-◌, ◌≤◌}
-use native.Mathlib.Omega.{arith}
-use lib.ListN.{length, length-set}
-use Rattle.book.proofs.Filling.{filled, filled_none, filled_more, filled-all}
+use lib.ListN.{length}
+use Rattle.book.proofs.Filling.{filled}
 use Rattle.road.specs.Dijkstra.{far}
 use Rattle.road.proofs.walk.reset.Given as goal
 

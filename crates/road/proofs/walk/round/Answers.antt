@@ -1,4 +1,3 @@
-use borrow.Author.Rules.{rules}
 use native.Mathlib.Omega.{arith}
 use Rattle.road.proofs.Stepping.{walking-sizes, walking-near, walking-above, walking_on, walking_rests}
 use Rattle.road.proofs.walk.round.Goals as goal

@@ -1,4 +1,3 @@
-use borrow.Author.Rules.{rules}
 use native.Mathlib.Omega.{arith}
 use Rattle.road.proofs.Shortening.{shortened, short-enough, word-falls}
 use Rattle.road.proofs.walk.shorten.Goals as goal

@@ -1,4 +1,3 @@
-use borrow.Author.Rules.{rules}
 use Rattle.road.proofs.Stepping.{starts_by}
 use Rattle.road.proofs.walk.start.Goals as goal
 

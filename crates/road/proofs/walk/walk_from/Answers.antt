@@ -1,4 +1,3 @@
-use borrow.Author.Rules.{rules}
 use Rattle.road.proofs.Reading.{row_already}
 use Rattle.road.proofs.walk.walk_from.Goals as goal
 

@@ -1,4 +1,3 @@
-use borrow.Author.Rules.{rules}
 use Rattle.search_rules.proofs.Equations.{abs_diff_less, abs_diff_more}
 use Rattle.search_bounds.proofs.numbers.abs_diff.Goals as goal
 

@@ -1,4 +1,3 @@
-use borrow.Author.Rules.{rules}
 use Rattle.search_rules.proofs.Equations.{combine-sum, combine_less, combine-more}
 use Rattle.search_bounds.proofs.numbers.combine.Goals as goal
 

@@ -1,7 +1,6 @@
 use mathlib.Core.Path.{refl}
 use Rattle.search_bounds.proofs.Bounding.{chosen_moved}
 use Rattle.search_bounds.proofs.Numbered.{marks_of, record_of}
-use borrow.Author.Rules.{rules}
 use Rattle.search_bounds.proofs.picks.choose_mark.Goals as goal
 
 pub pick_at-requires : goal.pick_at-requires

@@ -1,5 +1,4 @@
 use Rattle.search_bounds.proofs.Bounding.{place_read, place-there, weight_read}
-use borrow.Author.Rules.{rules}
 use Rattle.search_bounds.proofs.picks.mark_weight.Goals as goal
 
 pub weight-requires : goal.weight-requires

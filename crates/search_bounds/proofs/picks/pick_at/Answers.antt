@@ -1,10 +1,6 @@
-use Prim.Native.Nat.{◌-◌}
 use native.Mathlib.Omega.{arith}
-use Rattle.tree_layout.specs.code.Marks.{marks_at}
-use Rattle.search_bounds.specs.code.Bounds.{mark_weight}
-use Rattle.search_bounds.proofs.Picking.{Picked, picked_first, picked-turn, picked_all}
+use Rattle.search_bounds.proofs.Picking.{picked_first, picked-turn, picked_all}
 use Rattle.search_bounds.proofs.Bounding.{count_read, count-marks, chosen_made}
-use borrow.Author.Rules.{rules}
 use Rattle.search_bounds.proofs.picks.pick_at.Goals as goal
 
 pub header-h-requires : goal.header-h-requires

@@ -1,10 +1,7 @@
 use Prim.Native.Nat.{◌-◌}
-use native.Mathlib.Omega.{arith}
 use Rattle.tree_layout.specs.code.Marks.{marks_at}
 use Rattle.search_bounds.specs.code.Bounds.{mark_weight}
-use Rattle.search_bounds.proofs.Picking.{Picked, picked_first, picked-turn, picked_all}
-use Rattle.search_bounds.proofs.Bounding.{count_read, count-marks, chosen_made}
-use borrow.Author.Rules.{rules}
+use Rattle.search_bounds.proofs.Picking.{Picked}
 use Rattle.search_bounds.proofs.picks.pick_at.Given as goal
 
 abbrev pub invariant-loop-j : goal.invariant-loop-j

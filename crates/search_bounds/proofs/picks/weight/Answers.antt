@@ -1,10 +1,6 @@
-use Prim.Native.Nat.{◌-◌}
-use lib.ListN.{length}
 use native.Mathlib.Omega.{arith}
-use Rattle.search_bounds.specs.code.Rows.{rows_lower}
-use Rattle.search_bounds.proofs.Folds.{Summed, summed_none, summed_room, summed_turn, summed_all}
+use Rattle.search_bounds.proofs.Folds.{summed_none, summed_room, summed_turn, summed_all}
 use Rattle.search_bounds.proofs.Bounding.{crew-there, weight_made}
-use borrow.Author.Rules.{rules}
 use Rattle.search_bounds.proofs.picks.weight.Goals as goal
 
 pub loop-j-init : goal.loop-j-init

@@ -1,10 +1,6 @@
-use Prim.Native.Nat.{◌-◌}
 use native.Mathlib.Omega.{arith}
-use Rattle.tree_layout.specs.code.Marks.{marks_at}
-use Rattle.search_bounds.specs.code.Bounds.{rows_mark}
-use Rattle.search_bounds.proofs.Folds.{Greatest, greatest_start, greatest-turn, greatest-all}
+use Rattle.search_bounds.proofs.Folds.{greatest_start, greatest-turn, greatest-all}
 use Rattle.search_bounds.proofs.Bounding.{count_read, count-marks, place-there, mark_read, crew_made}
-use borrow.Author.Rules.{rules}
 use Rattle.search_bounds.proofs.regions.crew_region.Goals as goal
 
 pub header-h-requires : goal.header-h-requires

@@ -1,5 +1,4 @@
 use Rattle.search_bounds.proofs.Bounding.{mark_bound_made}
-use borrow.Author.Rules.{rules}
 use Rattle.search_bounds.proofs.regions.mark_bound.Goals as goal
 
 pub returns : goal.returns

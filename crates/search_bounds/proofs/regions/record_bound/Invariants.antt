@@ -1,11 +1,8 @@
 use Prim.Native.Nat.{◌-◌}
 use lib.ListN.{length}
-use native.Mathlib.Omega.{arith}
 use Rattle.tree_layout.specs.code.Marks.{marks_at}
 use Rattle.search_bounds.specs.code.Bounds.{rows_crew}
-use Rattle.search_bounds.proofs.Folds.{Summed, summed_none, summed_room, summed_turn, summed_all}
-use Rattle.search_bounds.proofs.Bounding.{crew-there, bound_made}
-use borrow.Author.Rules.{rules}
+use Rattle.search_bounds.proofs.Folds.{Summed}
 use Rattle.search_bounds.proofs.regions.record_bound.Given as goal
 
 abbrev pub invariant-loop-j : goal.invariant-loop-j

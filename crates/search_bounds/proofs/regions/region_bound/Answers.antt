@@ -1,7 +1,6 @@
 use mathlib.Core.Path.{refl}
 use Rattle.search_bounds.proofs.Bounding.{bound_moved}
 use Rattle.search_bounds.proofs.Numbered.{marks_of, record_of}
-use borrow.Author.Rules.{rules}
 use Rattle.search_bounds.proofs.regions.region_bound.Goals as goal
 
 pub record_bound-requires : goal.record_bound-requires

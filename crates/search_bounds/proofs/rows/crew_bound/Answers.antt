@@ -1,6 +1,5 @@
 use mathlib.Core.Path.{◌∙◌}
 use Rattle.search_rules.proofs.Equations.{crew-near, crew-far}
-use borrow.Author.Rules.{rules}
 use Rattle.search_bounds.proofs.rows.crew_bound.Goals as goal
 
 pub returns-then-b-lb : goal.returns-then-b-lb

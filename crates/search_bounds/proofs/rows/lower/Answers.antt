@@ -1,9 +1,6 @@
-use mathlib.Core.Path.{◌≡◌, sym}
-use Prim.Native.Nat.{◌-◌, ◌≤◌}
+use mathlib.Core.Path.{sym}
 use native.Mathlib.Omega.{arith}
-use Rattle.search_bounds.specs.code.Rows.{rows_lower}
 use Rattle.search_bounds.proofs.Cells.{lower-none, lower-turn, lower-end}
-use borrow.Author.Rules.{rules}
 use Rattle.search_bounds.proofs.rows.lower.Goals as goal
 
 pub loop-r-init : goal.loop-r-init

@@ -1,9 +1,6 @@
-use mathlib.Core.Path.{◌≡◌, sym}
+use mathlib.Core.Path.{◌≡◌}
 use Prim.Native.Nat.{◌-◌, ◌≤◌}
-use native.Mathlib.Omega.{arith}
 use Rattle.search_bounds.specs.code.Rows.{rows_lower}
-use Rattle.search_bounds.proofs.Cells.{lower-none, lower-turn, lower-end}
-use borrow.Author.Rules.{rules}
 use Rattle.search_bounds.proofs.rows.lower.Given as goal
 
 abbrev pub invariant-loop-r : goal.invariant-loop-r

@@ -1,5 +1,4 @@
 use Rattle.search_bounds.proofs.Cells.{abs_diff_read}
-use borrow.Author.Rules.{rules}
 use Rattle.search_bounds.proofs.rows.row_abs_diff.Goals as goal
 
 pub returns : goal.returns

@@ -1,9 +1,6 @@
-use mathlib.Core.Path.{◌≡◌, sym, ◌∙◌}
-use Prim.Native.Nat.{◌-◌, ◌≤◌, ◌<◌}
+use mathlib.Core.Path.{sym, ◌∙◌}
 use native.Mathlib.Omega.{arith}
-use Rattle.search_bounds.specs.code.Rows.{rows_upper}
 use Rattle.search_bounds.proofs.Cells.{upper-one, upper-turn, upper-end}
-use borrow.Author.Rules.{rules}
 use Rattle.search_bounds.proofs.rows.upper.Goals as goal
 
 pub loop-r-init : goal.loop-r-init

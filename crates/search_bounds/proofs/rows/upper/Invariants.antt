@@ -1,9 +1,6 @@
-use mathlib.Core.Path.{◌≡◌, sym, ◌∙◌}
+use mathlib.Core.Path.{◌≡◌}
 use Prim.Native.Nat.{◌-◌, ◌≤◌, ◌<◌}
-use native.Mathlib.Omega.{arith}
 use Rattle.search_bounds.specs.code.Rows.{rows_upper}
-use Rattle.search_bounds.proofs.Cells.{upper-one, upper-turn, upper-end}
-use borrow.Author.Rules.{rules}
 use Rattle.search_bounds.proofs.rows.upper.Given as goal
 
 abbrev pub invariant-loop-r : goal.invariant-loop-r

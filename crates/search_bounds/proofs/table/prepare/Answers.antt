@@ -1,7 +1,6 @@
 use mathlib.Core.Path.{refl}
 use Rattle.search_bounds.proofs.Filled.{header-room, root_record, root-few, root-part, root-size, root-inside, root-taken}
 use Rattle.search_bounds.proofs.Filled.{taken-within, taken-room, taken_rowed}
-use borrow.Author.Rules.{rules}
 use Rattle.search_bounds.proofs.table.prepare.Goals as goal
 
 pub header-h-requires : goal.header-h-requires

@@ -1,9 +1,7 @@
-use mathlib.Core.Path.{◌≡◌, refl}
-use Prim.Native.Nat.{◌-◌, ◌≤◌}
+use mathlib.Core.Path.{refl}
 use native.Mathlib.Omega.{arith}
-use lib.ListN.{length, length-set}
-use Rattle.tree.specs.Arrays.{overwrite}
-use Rattle.search_bounds.proofs.Places.{root_place, read_none, read_next, read_all}
+use lib.ListN.{length-set}
+use Rattle.search_bounds.proofs.Places.{read_none, read_next, read_all}
 use borrow.Author.Rules.{rules}
 use Rattle.search_bounds.proofs.table.root_places.Goals as goal
 

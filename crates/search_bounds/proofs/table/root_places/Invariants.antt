@@ -1,10 +1,8 @@
-use mathlib.Core.Path.{◌≡◌, refl}
+use mathlib.Core.Path.{◌≡◌}
 use Prim.Native.Nat.{◌-◌, ◌≤◌}
-use native.Mathlib.Omega.{arith}
-use lib.ListN.{length, length-set}
+use lib.ListN.{length}
 use Rattle.tree.specs.Arrays.{overwrite}
-use Rattle.search_bounds.proofs.Places.{root_place, read_none, read_next, read_all}
-use borrow.Author.Rules.{rules}
+use Rattle.search_bounds.proofs.Places.{root_place}
 use Rattle.search_bounds.proofs.table.root_places.Given as goal
 
 abbrev pub invariant-loop-r : goal.invariant-loop-r

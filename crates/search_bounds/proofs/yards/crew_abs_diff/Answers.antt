@@ -1,7 +1,6 @@
 use native.Mathlib.Omega.{arith}
 use Rattle.book.proofs.Lists.{get_d_mem}
 use Rattle.search_bounds.proofs.Aggregating.{crew_abs_diff_lem}
-use borrow.Author.Rules.{rules}
 use Rattle.search_bounds.proofs.yards.crew_abs_diff.Goals as goal
 
 pub lower-lb-requires : goal.lower-lb-requires

@@ -1,11 +1,7 @@
-use Prim.Native.Nat.{◌-◌}
 use native.Mathlib.Omega.{arith}
-use lib.ListN.{length}
 use Rattle.search_rules.specs.Bounds.{abs_diff}
-use Rattle.search_bounds.specs.code.Measures.{longest}
-use Rattle.search_bounds.proofs.Folds.{Summed, summed_none, summed_room, summed_turn, summed_all}
+use Rattle.search_bounds.proofs.Folds.{summed_none, summed_room, summed_turn, summed_all}
 use Rattle.search_bounds.proofs.Aggregating.{f-all, diff_short}
-use borrow.Author.Rules.{rules}
 use Rattle.search_bounds.proofs.yards.f_of.Goals as goal
 
 pub loop-j-init : goal.loop-j-init

@@ -1,11 +1,8 @@
 use Prim.Native.Nat.{◌-◌}
-use native.Mathlib.Omega.{arith}
 use lib.ListN.{length}
 use Rattle.search_rules.specs.Bounds.{abs_diff}
 use Rattle.search_bounds.specs.code.Measures.{longest}
-use Rattle.search_bounds.proofs.Folds.{Summed, summed_none, summed_room, summed_turn, summed_all}
-use Rattle.search_bounds.proofs.Aggregating.{f-all, diff_short}
-use borrow.Author.Rules.{rules}
+use Rattle.search_bounds.proofs.Folds.{Summed}
 use Rattle.search_bounds.proofs.yards.f_of.Given as goal
 
 abbrev pub invariant-loop-j : goal.invariant-loop-j

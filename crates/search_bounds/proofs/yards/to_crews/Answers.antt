@@ -1,13 +1,8 @@
-use mathlib.Core.Path.{◌≡◌, sym, ◌∙◌}
-use mathlib.Core.List.{List}
-use Prim.Native.Nat.{ℕ, ◌-◌, ◌<◌}
+use mathlib.Core.Path.{sym, ◌∙◌}
 use native.Mathlib.Omega.{arith}
-use lib.ListN.{length, length-set}
-use Rattle.road_layout.specs.Road.{junctions}
-use Rattle.search_bounds.specs.code.Measures.{Driven}
-use Rattle.search_bounds.proofs.ToCrews.{Towards, towards_none, towards-more, towards-all}
+use lib.ListN.{length-set}
+use Rattle.search_bounds.proofs.ToCrews.{towards_none, towards-more, towards-all}
 use Rattle.search_bounds.proofs.Driving.{cell-inside, cell-to}
-use borrow.Author.Rules.{rules}
 use Rattle.search_bounds.proofs.yards.to_crews.Goals as goal
 
 pub loop-j-init : goal.loop-j-init

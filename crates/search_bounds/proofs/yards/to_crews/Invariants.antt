@@ -1,13 +1,10 @@
-use mathlib.Core.Path.{◌≡◌, sym, ◌∙◌}
+use mathlib.Core.Path.{◌≡◌}
 use mathlib.Core.List.{List}
 use Prim.Native.Nat.{ℕ, ◌-◌, ◌<◌}
-use native.Mathlib.Omega.{arith}
-use lib.ListN.{length, length-set}
+use lib.ListN.{length}
 use Rattle.road_layout.specs.Road.{junctions}
 use Rattle.search_bounds.specs.code.Measures.{Driven}
-use Rattle.search_bounds.proofs.ToCrews.{Towards, towards_none, towards-more, towards-all}
-use Rattle.search_bounds.proofs.Driving.{cell-inside, cell-to}
-use borrow.Author.Rules.{rules}
+use Rattle.search_bounds.proofs.ToCrews.{Towards}
 use Rattle.search_bounds.proofs.yards.to_crews.Given as goal
 
 abbrev pub invariant-loop-j : goal.invariant-loop-j

@@ -1,8 +1,5 @@
-use Prim.Native.Nat.{◌-◌}
 use native.Mathlib.Omega.{arith}
-use lib.ListN.{length}
-use Rattle.search_bounds.proofs.Aggregating.{crew-short, Bounding, bounding_none, bounding_more, bounding_all}
-use borrow.Author.Rules.{rules}
+use Rattle.search_bounds.proofs.Aggregating.{crew-short, bounding_none, bounding_more, bounding_all}
 use Rattle.search_bounds.proofs.yards.yard_bound.Goals as goal
 
 pub loop-j-init : goal.loop-j-init

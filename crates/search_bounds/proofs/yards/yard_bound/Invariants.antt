@@ -1,8 +1,6 @@
 use Prim.Native.Nat.{◌-◌}
-use native.Mathlib.Omega.{arith}
 use lib.ListN.{length}
-use Rattle.search_bounds.proofs.Aggregating.{crew-short, Bounding, bounding_none, bounding_more, bounding_all}
-use borrow.Author.Rules.{rules}
+use Rattle.search_bounds.proofs.Aggregating.{Bounding}
 use Rattle.search_bounds.proofs.yards.yard_bound.Given as goal
 
 abbrev pub invariant-loop-j : goal.invariant-loop-j

@@ -1,7 +1,6 @@
 use mathlib.Core.Path.{sym, ◌∙◌}
 use native.Mathlib.Omega.{arith}
 use Rattle.search_leaf.proofs.Scanning.{mark_word, other_word}
-use borrow.Author.Rules.{rules}
 use Rattle.search_leaf.proofs.elements.f_word.Goals as goal
 
 pub returns-then-x-eq-UNWANTED : goal.returns-then-x-eq-UNWANTED

@@ -1,10 +1,6 @@
 use Prim.Native.Nat.{◌-◌}
-use native.Mathlib.Omega.{arith}
-use lib.ListN.{length-set}
 use Rattle.search_leaf.specs.code.Leaves.{f_in, bound_in}
-use Rattle.search_leaf.proofs.Numbering.{element-fits}
-use Rattle.search_leaf.proofs.Filling.{yard-near, distance-short, lower-short, Filled, filled_none, filled_more, filled-all}
-use borrow.Author.Rules.{rules}
+use Rattle.search_leaf.proofs.Filling.{Filled}
 use Rattle.search_leaf.proofs.elements.fill.Given as goal
 
 abbrev pub invariant-loop-k : goal.invariant-loop-k

@@ -1,13 +1,7 @@
-use mathlib.Core.Logic.{⊎_elim}
-use Prim.Native.Nat.{◌-◌, ◌≤◌}
 use native.Mathlib.Omega.{arith}
-use Rattle.tree_layout.specs.Decode.{read_list}
-use Rattle.search_state.specs.code.State.{fs_in, gone_in}
-use Rattle.search_leaf.specs.code.Leaves.{words_of}
-use Rattle.search_leaf.proofs.Scanning.{words_by, Scanned, scanned_first, scanned_on, scanned_still, scanned_all}
+use Rattle.search_leaf.proofs.Scanning.{words_by, scanned_first, scanned_on, scanned_still, scanned_all}
 use Rattle.search_leaf.proofs.Numbering.{element-fits}
 use Rattle.search_leaf.proofs.Filling.{yard-near}
-use borrow.Author.Rules.{rules}
 use Rattle.search_leaf.proofs.elements.next_element.Goals.{then-w-f, else-w-f}
 use Rattle.search_leaf.proofs.elements.next_element.Goals as goal
 

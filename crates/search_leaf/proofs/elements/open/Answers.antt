@@ -6,7 +6,6 @@ use Rattle.tree_layout.proofs.Sizes.{leaf_mark_are}
 use Rattle.tree_layout.proofs.Accessing.{its_version}
 use Rattle.search_leaf.proofs.ElementsOpening.{driven-at, list-near, list-short, list-whole, header-landmarks_are, header-rows, crews_wide}
 use Rattle.search_leaf.proofs.ElementsOpening.{front-room, front_length, front-short, opened-values}
-use borrow.Author.Rules.{rules}
 use Rattle.search_leaf.proofs.elements.open.Goals as goal
 
 pub junction-l-requires : goal.junction-l-requires

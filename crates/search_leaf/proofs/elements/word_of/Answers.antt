@@ -1,6 +1,5 @@
 use native.Mathlib.Omega.{arith}
 use Rattle.search_leaf.proofs.Scanning.{word-gone, word-there}
-use borrow.Author.Rules.{rules}
 use Rattle.search_leaf.proofs.elements.word_of.Goals as goal
 
 pub returns-then-words-g-eq0 : goal.returns-then-words-g-eq0

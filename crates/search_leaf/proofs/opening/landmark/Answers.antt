@@ -1,6 +1,5 @@
 use mathlib.Core.Path.{refl}
 use Rattle.search_leaf.proofs.Landmarks.{same_none, pick-room, open_already, record_here}
-use borrow.Author.Rules.{rules}
 use Rattle.search_leaf.proofs.opening.landmark.Goals as goal
 
 pub header-requires : goal.header-requires

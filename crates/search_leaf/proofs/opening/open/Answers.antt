@@ -6,7 +6,6 @@ use Rattle.tree_layout.proofs.Accessing.{its_version}
 use Rattle.search_leaf.proofs.ElementsOpening.{list-near, list-whole, passed_by, header-landmarks_are, header-rows}
 use Rattle.search_leaf.proofs.Landmarks.{yards_of_lem, driven_of, table_crews, pick_of, pick-room, slot, record_here, marks-few, pick-inside}
 use Rattle.search_leaf.proofs.Landmarks.{list-room, place-near, list_wide, list-short, driven-to, same_queue, open_leaf_lem}
-use borrow.Author.Rules.{rules}
 use Rattle.search_leaf.proofs.opening.open.Goals as goal
 
 pub header-h-requires : goal.header-h-requires

@@ -1,6 +1,5 @@
 use native.Mathlib.Omega.{arith}
 use Rattle.search_leaf.proofs.Nexts.{again_end, again_on}
-use borrow.Author.Rules.{rules}
 use Rattle.search_leaf.proofs.queueing.again_key.Goals as goal
 
 pub returns-then-next-eq-UNQUEUED : goal.returns-then-next-eq-UNQUEUED

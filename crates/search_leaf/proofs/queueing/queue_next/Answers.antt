@@ -3,7 +3,6 @@ use lib.ListN.{length-set}
 use Rattle.search_leaf.proofs.Numbering.{element-fits}
 use Rattle.search_leaf.proofs.Filling.{yard-near}
 use Rattle.search_leaf.proofs.Nexts.{next-inside, leaving-is, none-queued, queued-is}
-use borrow.Author.Rules.{rules}
 use Rattle.search_leaf.proofs.queueing.queue_next.Goals as goal
 
 pub bounds-words-r : goal.bounds-words-r

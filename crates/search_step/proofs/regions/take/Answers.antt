@@ -1,4 +1,3 @@
-use borrow.Author.Rules.{rules}
 use Rattle.search_leaf.proofs.Landmarks.{table_crews}
 use Rattle.search_step.proofs.Opening.{leaf_yes, leaf_no, region_slot, leaf-ready, leaf-is-taken, inner_slots, inner-cached, inner-is-taken}
 use Rattle.search_step.proofs.regions.take.Goals as goal

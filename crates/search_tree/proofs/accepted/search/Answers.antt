@@ -13,7 +13,6 @@ use Rattle.search_tree.specs.code.Asking.{answer_by}
 use Rattle.search_tree.proofs.Reporting.{measured_of_lem, found_so, written_so}
 use Rattle.search_tree.proofs.Preparing.{bytes-all, part_room, part_of, lent-size, back_full, back-part, back-taken, back-zeroed}
 use Rattle.search_tree.proofs.Preparing.{crews_needs, rule-small, few-crews, results-room, rows_need, same_search, ready}
-use borrow.Author.Rules.{rules}
 use Rattle.search_tree.proofs.accepted.search.Goals.{After-prepare}
 use Rattle.search_tree.proofs.accepted.search.Goals as goal
 

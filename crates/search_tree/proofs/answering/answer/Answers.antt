@@ -3,7 +3,6 @@ use Rattle.tree.proofs.Fielding.{laid-header}
 use Rattle.search_tree.specs.Found.{drive_of, want_of}
 use Rattle.search_tree.proofs.Calling.{query-back, asked_of, kinds-back, areas_last, most_of, turned_found, turned_work, turned_results}
 use Rattle.search_tree.proofs.Calling.{asking-is, taken-facts, taken-found, taken-work, taken-results}
-use borrow.Author.Rules.{rules}
 use Rattle.search_tree.proofs.answering.answer.Goals as goal
 
 pub junctions-requires : goal.junctions-requires

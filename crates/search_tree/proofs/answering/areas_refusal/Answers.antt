@@ -1,7 +1,6 @@
 use mathlib.Core.Path.{sym}
 use native.Mathlib.Omega.{arith}
 use Rattle.search_call.proofs.Refusing.{short-work, short-results, long_enough}
-use borrow.Author.Rules.{rules}
 use Rattle.search_tree.proofs.answering.areas_refusal.Goals as goal
 
 pub returns-then-work-lt-WORDS : goal.returns-then-work-lt-WORDS

@@ -1,4 +1,3 @@
-use borrow.Author.Rules.{rules}
 use mathlib.Core.Path.{refl}
 use Rattle.search_tree.proofs.answering.rule_of.Goals as goal
 

@@ -1,5 +1,4 @@
 use Rattle.search_tree.proofs.Reading.{road-back, tree_last, is-district}
-use borrow.Author.Rules.{rules}
 use Rattle.search_tree.proofs.district.read.Goals as goal
 
 pub read-o-requires : goal.read-o-requires

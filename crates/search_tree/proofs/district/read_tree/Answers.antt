@@ -1,5 +1,4 @@
 use Rattle.search_tree.proofs.Reading.{tree_own, tree_differs, tree_agrees}
-use borrow.Author.Rules.{rules}
 use Rattle.search_tree.proofs.district.read_tree.Goals as goal
 
 pub returns-in_default : goal.returns-in_default

@@ -1,9 +1,8 @@
 use borrow.Author.Rules.{rules}
 use mathlib.Core.Path.{◌≡◌, sym}
-use Prim.Native.Nat.{◌-◌, ◌≤◌, ◌<◌}
+use Prim.Native.Nat.{◌<◌}
 use native.Mathlib.Omega.{arith}
 use lib.ListN.{length, get_or}
-use Rattle.tree.specs.Yards.{hops}
 use Rattle.tree.proofs.Filling.{hops-none, hops-next}
 use Rattle.tree.proofs.arrays.after_siblings.Goals as goal
 

@@ -1,10 +1,7 @@
-use borrow.Author.Rules.{rules}
-use mathlib.Core.Path.{◌≡◌, sym}
-use Prim.Native.Nat.{◌-◌, ◌≤◌, ◌<◌}
-use native.Mathlib.Omega.{arith}
-use lib.ListN.{length, get_or}
+use mathlib.Core.Path.{◌≡◌}
+use Prim.Native.Nat.{◌-◌, ◌≤◌}
+use lib.ListN.{get_or}
 use Rattle.tree.specs.Yards.{hops}
-use Rattle.tree.proofs.Filling.{hops-none, hops-next}
 use Rattle.tree.proofs.arrays.after_siblings.Given as goal
 
 abbrev pub invariant-loop-k : goal.invariant-loop-k

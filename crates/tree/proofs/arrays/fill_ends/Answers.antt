@@ -1,10 +1,5 @@
-use borrow.Author.Rules.{rules}
-use Prim.Native.Nat.{◌-◌, ◌≤◌}
 use native.Mathlib.Omega.{arith}
-use lib.ListN.{length}
-use Rattle.tree_layout.specs.Decode.{decode}
-use Rattle.tree.specs.Yards.{end_of}
-use Rattle.tree.proofs.Ending.{Filled, hops-inside, ends-step, ends-done}
+use Rattle.tree.proofs.Ending.{hops-inside, ends-step, ends-done}
 use Rattle.tree.proofs.arrays.fill_ends.Goals as goal
 
 pub after_siblings-e-requires : goal.after_siblings-e-requires

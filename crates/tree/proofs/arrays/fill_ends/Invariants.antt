@@ -1,10 +1,8 @@
-use borrow.Author.Rules.{rules}
-use Prim.Native.Nat.{◌-◌, ◌≤◌}
-use native.Mathlib.Omega.{arith}
+use Prim.Native.Nat.{◌≤◌}
 use lib.ListN.{length}
 use Rattle.tree_layout.specs.Decode.{decode}
 use Rattle.tree.specs.Yards.{end_of}
-use Rattle.tree.proofs.Ending.{Filled, hops-inside, ends-step, ends-done}
+use Rattle.tree.proofs.Ending.{Filled}
 use Rattle.tree.proofs.arrays.fill_ends.Given as goal
 
 abbrev pub invariant-loop-i : goal.invariant-loop-i

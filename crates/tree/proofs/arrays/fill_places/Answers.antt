@@ -1,12 +1,9 @@
 use Rattle.tree_layout.proofs.Places.{place-first}
 use Rattle.tree_layout.proofs.Accessing.{its_regions, its_landmarks}
 use borrow.Author.Rules.{rules}
-use mathlib.Core.Path.{◌≡◌, sym, ap, ◌∙◌}
-use Prim.Native.Nat.{◌-◌, ◌≤◌}
+use mathlib.Core.Path.{sym, ap, ◌∙◌}
 use native.Mathlib.Omega.{arith}
 use lib.ListN.{length}
-use Rattle.tree_layout.specs.Decode.{place_of}
-use Rattle.tree.specs.Arrays.{overwrite}
 use Rattle.tree.proofs.Filling.{overwrite-length, overwrite-none, overwrite-next, place_slot, place-room, place_end, place-next, places-done}
 use Rattle.tree.proofs.arrays.fill_places.Goals as goal
 

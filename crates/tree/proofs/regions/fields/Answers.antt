@@ -1,6 +1,5 @@
 use mathlib.Core.Path.{refl}
 use Rattle.tree.proofs.Fielding.{laid-header, laid-room, laid_fields}
-use borrow.Author.Rules.{rules}
 use Rattle.tree.proofs.regions.fields.Goals as goal
 
 pub fields-requires : goal.fields-requires

@@ -1,9 +1,5 @@
-use borrow.Author.Rules.{rules}
-use mathlib.Core.Path.{◌≡◌, refl}
-use Prim.Native.Nat.{◌+◌, ◌-◌, ◌≤◌}
+use mathlib.Core.Path.{refl}
 use native.Mathlib.Omega.{arith}
-use lib.ListN.{get_or}
-use Rattle.tree.specs.Yards.{holders, level_by}
 use Rattle.tree.proofs.Filling.{level_start, level_next, level_done, level_most}
 use Rattle.tree.proofs.regions.level.Goals as goal
 

@@ -1,10 +1,7 @@
-use borrow.Author.Rules.{rules}
-use mathlib.Core.Path.{◌≡◌, refl}
+use mathlib.Core.Path.{◌≡◌}
 use Prim.Native.Nat.{◌+◌, ◌-◌, ◌≤◌}
-use native.Mathlib.Omega.{arith}
 use lib.ListN.{get_or}
 use Rattle.tree.specs.Yards.{holders, level_by}
-use Rattle.tree.proofs.Filling.{level_start, level_next, level_done, level_most}
 use Rattle.tree.proofs.regions.level.Given as goal
 
 abbrev pub invariant-loop-j : goal.invariant-loop-j

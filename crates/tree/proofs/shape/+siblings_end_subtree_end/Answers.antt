@@ -3,8 +3,6 @@ use native.Mathlib.Omega.{arith}
 use borrow.Author.Tests.{not-true, not-false}
 use Rattle.tree.proofs.Recursing.{none_left, past_end, at_inner, at_leaf, at_bad, at_good, sum_over, sum_done, none-there, sub-none, not_fitting}
 use Rattle.tree.proofs.Recursing.{fitting, goes_on}
-use borrow.Author.Rules.{rules}
-use Prim.Native.Nat.{ℕ, ◌+◌, ◌*◌, ◌-◌, ◌<◌}
 use Rattle.tree.proofs.shape.+siblings_end_subtree_end.Goals as goal
 
 pub siblings_end-returns-then-left-ne0 : goal.siblings_end-returns-then-left-ne0

@@ -1,7 +1,6 @@
 use Rattle.tree_layout.proofs.Accessing.{its_yards}
 use Rattle.tree.proofs.Fielding.{laid-header}
 use Rattle.tree.proofs.Recursing.{not-one, not-all, takes_all}
-use borrow.Author.Rules.{rules}
 use Rattle.tree.proofs.shape.keeps_shape.Goals as goal
 
 pub returns-in_default : goal.returns-in_default

@@ -7,7 +7,6 @@ use Rattle.tree_layout.specs.Sizes.{list_size, leaf_mark_size}
 use Rattle.tree_layout.proofs.Sizes.{fields_least, leaf_mark_are}
 use Rattle.tree_layout.proofs.Accessing.{part_length}
 use Rattle.tree_layout.proofs.RecordFields.{fields_inside, span-inside, span-is, list_inside, list-is}
-use borrow.Author.Rules.{rules}
 use Rattle.tree_layout.proofs.landmarks.landmark.Goals.{After-u16_at-yards, Start}
 use Rattle.tree_layout.proofs.landmarks.landmark.Goals as goal
 

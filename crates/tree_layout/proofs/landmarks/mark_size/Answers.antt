@@ -6,7 +6,6 @@ use Rattle.book.specs.Open.{version}
 use Rattle.tree_layout.specs.Sizes.{leaf_mark_size}
 use Rattle.tree_layout.proofs.Sizes.{fields_least}
 use Rattle.tree_layout.proofs.RecordFields.{size-inner, size-leaf}
-use borrow.Author.Rules.{rules}
 use Rattle.tree_layout.proofs.landmarks.mark_size.Goals.{Start}
 use Rattle.tree_layout.proofs.landmarks.mark_size.Goals as goal
 

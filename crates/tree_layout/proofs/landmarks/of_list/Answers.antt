@@ -4,7 +4,6 @@ use native.Mathlib.Omega.{arith}
 use Rattle.book.specs.Bytes.{u32_at}
 use Rattle.tree_layout.proofs.Sizes.{list-room, element-least}
 use Rattle.tree_layout.proofs.RecordFields.{list-ends}
-use borrow.Author.Rules.{rules}
 use Rattle.tree_layout.proofs.landmarks.of_list.Goals as goal
 
 pub u32_at-requires : goal.u32_at-requires

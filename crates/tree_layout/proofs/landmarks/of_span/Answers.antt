@@ -1,6 +1,5 @@
 use mathlib.Core.Path.{refl}
 use Rattle.tree_layout.proofs.RecordFields.{span-ends}
-use borrow.Author.Rules.{rules}
 use Rattle.tree_layout.proofs.landmarks.of_span.Goals as goal
 
 pub returns : goal.returns

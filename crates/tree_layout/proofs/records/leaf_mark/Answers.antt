@@ -1,6 +1,5 @@
 use native.Mathlib.Omega.{arith}
 use Rattle.tree_layout.proofs.Sizes.{list-most, leaf_mark_are}
-use borrow.Author.Rules.{rules}
 use Rattle.tree_layout.proofs.records.leaf_mark.Goals as goal
 
 pub overflow_add-result : goal.overflow_add-result

@@ -6,7 +6,6 @@ use Rattle.book.specs.Open.{version}
 use Rattle.tree_layout.specs.Sizes.{list_size}
 use Rattle.tree_layout.proofs.Sizes.{leaf_mark_are}
 use Rattle.tree_layout.proofs.Reading.{list-part}
-use borrow.Author.Rules.{rules}
 use Rattle.tree_layout.proofs.records.list.Goals.{After-list_size, Start}
 use Rattle.tree_layout.proofs.records.list.Goals as goal
 

@@ -1,7 +1,6 @@
 use native.Mathlib.Omega.{arith}
 use Rattle.kinds.proofs.Reading.{size-most}
 use Rattle.tree_layout.proofs.Sizes.{list_by, list-most}
-use borrow.Author.Rules.{rules}
 use Rattle.tree_layout.proofs.records.list_size.Goals as goal
 
 pub overflow_add-result : goal.overflow_add-result

@@ -1,9 +1,7 @@
 use mathlib.Core.Path.{◌≡◌}
 use Prim.Native.Nat.{◌+◌, ◌-◌, ◌≤◌}
-use native.Mathlib.Omega.{arith}
 use lib.ListN.{length, drop}
 use Rattle.within.specs.Input.{line_length}
-use Rattle.within.proofs.Lines.{found_here, not-here, nowhere}
 use Rattle.within.proofs.line.line_length.Given as goal
 
 abbrev pub invariant-loop-i : goal.invariant-loop-i

@@ -1,8 +1,6 @@
 use borrow.Author.Tests.{ltb-true, ltb-false}
-use Prim.Native.Nat.{◌-◌}
 use native.Mathlib.Omega.{arith}
-use lib.ListN.{length}
-use Rattle.within.proofs.Numbers.{Reading, reading_none, reading_more, too_large, no_digit, empty_not, read_whole}
+use Rattle.within.proofs.Numbers.{reading_none, reading_more, too_large, no_digit, empty_not, read_whole}
 use Rattle.within.proofs.line.number.Goals.{then-b-lt48-via-then-b-lt48, then-b-lt48-via-else-b-lt48+then-b-gt57}
 use Rattle.within.proofs.line.number.Goals as goal
 
