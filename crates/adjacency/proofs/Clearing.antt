@@ -1,38 +1,24 @@
--- The junctions' words made 0, one at a time. Assumes nothing.
-use mathlib.Core.Path.{◌≡◌, ◌∙◌}
-use mathlib.Core.List.{List}
-use Prim.Native.Nat.{ℕ, ◌+◌, ◌≤◌, ◌<◌}
-use native.Mathlib.Decide.{ℕ_discrete}
+-- The count stored, and the words of the junctions made 0. Assumes nothing.
+use mathlib.Core.Path.{◌≡◌, ap, ◌∙◌}
+use mathlib.Core.List.{List, [], ◌∷◌, ◌++◌}
+use Prim.Native.Nat.{ℕ, suc, ◌+◌}
 use native.Mathlib.Omega.{arith}
-use lib.ListN.{length, set, length-set}
-use lib.Seq.{get_or-set_same, get_or-set_other}
-use Rattle.adjacency.specs.Adjacency.{adjacency_words, head_place, count_in, head_at, Bare}
+use lib.ListN.{length, take, drop, replicate, length-take, length-drop, length-append, length-replicate, get_or-append, get_or-replicate}
+use Rattle.adjacency.specs.Adjacency.{adjacency_words, count_in, head_at, Bare}
 
--- the first k of n junctions have no arc
-pub record Cleared (k n : ℕ) (adj : List ℕ) : Type 0 where
-  pub size : length adj ≡ adjacency_words
-  pub count : count_in adj ≡ n
-  pub none : (u : ℕ) → u < k → head_at adj u ≡ 0
-
-pub cleared_none : (adj : List ℕ) (n : ℕ) → length adj ≡ adjacency_words → Cleared 0 n (set adj 0 n)
-unfolding count_in
-cleared_none adj n e = record {
-  size = length-set adj 0 n ∙ e;
-  count = get_or-set_same adj 0 n 0 (omega arith);
-  none = λ u h. absurd (omega arith);
-}
-
-pub cleared_more : (k n : ℕ) (adj : List ℕ) → k < 1024 → Cleared k n adj → Cleared (k + 1) n (set adj (head_place k) 0)
+-- the 1,024 words after the count made 0
+pub cleared_bare : (ws part : List ℕ) (n : ℕ) → length ws ≡ adjacency_words → count_in ws ≡ n → part ≡ replicate (length (take 1024 (drop 1 ws))) 0
+    → Bare n (take 1 ws ++ (part ++ drop 1024 (drop 1 ws)))
 unfolding count_in head_at
-cleared_more k n adj l c = record {
-  size = length-set adj (head_place k) 0 ∙ c.size;
-  count = get_or-set_other adj (head_place k) 0 0 0 (λ e. omega arith) ∙ c.count;
-  none = λ u h. none u h (ℕ_discrete u k);
-}
-  where
-    none : (u : ℕ) → u < k + 1 → Dec (u ≡ k) → head_at (set adj (head_place k) 0) u ≡ 0
-    none u h (yes e) = rw e (get_or-set_same adj (head_place k) 0 0 (omega (arith, c.size)))
-    none u h (no f) = get_or-set_other adj (head_place k) (head_place u) 0 0 (λ e. f (omega arith)) ∙ c.none u (omega arith)
-
-pub cleared_all : (k n : ℕ) (adj : List ℕ) → 1024 ≤ k → Cleared k n adj → Bare n adj
-cleared_all k n adj l c = record { size = c.size; count = c.count; none = λ u h. c.none u (omega arith) }
+cleared_bare [] part n size count zeroes = absurd (omega arith)
+cleared_bare (x ∷ xs) part n size count zeroes =
+    let m : length (take 1024 xs) ≡ 1024 = omega (arith, length-take 1024 xs) in
+    let p : part ≡ replicate 1024 0 = zeroes ∙ ap (λ (k : ℕ). replicate k 0) m in
+    let e : length part ≡ 1024 = ap length p ∙ length-replicate {A = ℕ} 1024 0 in
+    record {
+      size = omega (arith, length-append part (drop 1024 xs), length-drop 1024 xs);
+      count = count;
+      none = λ u h.
+          let s : 1 + u ≡ suc u = omega arith in
+          rw s (get_or-append part (drop 1024 xs) 0 u (omega arith) ∙ rw p (get_or-replicate 1024 u 0 0 h));
+    }

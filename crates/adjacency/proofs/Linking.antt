@@ -180,9 +180,9 @@ unfolding net
 net-length b = rw (roads-all b) (arcs-length b (road_count b))
 
 -- no arc at all
-pub none-holds : (b adj : List ℕ) (n : ℕ) → n ≡ junctions b → Bare n adj → Holds (junctions b) (arcs (roads_to b 0)) adj
+pub none-holds : (b adj : List ℕ) (n k : ℕ) → k ≡ 0 → n ≡ junctions b → Bare n adj → Holds (junctions b) (arcs (roads_to b k)) adj
 unfolding arcs last_arc Linked
-none-holds b adj n e z = rw (roads-none b) (record { size = z.size; count = z.count ∙ e; newest = z.none; linked = tt })
+none-holds b adj n k f e z = rw (f, roads-none b) (record { size = z.size; count = z.count ∙ e; newest = z.none; linked = tt })
 
 -- what a road of a book of sound layout asks for to be put
 pub record RoadReady (b : List ℕ) (k : ℕ) : Type 0 where

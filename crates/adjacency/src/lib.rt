@@ -89,11 +89,7 @@ fn clear(adj: &mut [u16], n: u16)
     ensures { Bare n adj.new }
 {
     adj[0] = n;
-    let mut u: usize = 0;
-    while u < 1024 {
-        adj[HEADS + u] = 0;
-        u += 1;
-    }
+    adj[HEADS..HEADS + 1024].fill(0);
 }
 
 // Makes the array the adjacency of a road book of sound layout.
@@ -103,9 +99,7 @@ pub fn fill(b: &[u8], adj: &mut [u16])
 {
     clear(adj, road_layout::junction_count(b));
     let count = road_layout::road_count(b) as usize;
-    let mut k: usize = 0;
-    while k < count {
+    for k in 0..count {
         push_road(b, k, adj);
-        k += 1;
     }
 }

@@ -5,6 +5,7 @@ use mathlib.Core.List.{List, [], ◌∷◌, ◌++◌, append_assoc}
 use Prim.Native.Nat.{ℕ, zero, suc, ◌+◌, ◌-◌, ◌*◌, ◌/◌, ◌%◌, ◌≤◌, ◌<◌}
 use native.Mathlib.Omega.{arith}
 use lib.ListN.{length, get_or, set, take, drop, length-append, length-set}
+use Rattle.std.specs.Int.{w16, w32, to_be_bytes}
 use lib.Seq.{get_or-drop, drop-drop, sets, sets-eq}
 use Rattle.book.specs.Bytes.{u8_at, u16_at, u32_at, put_u16, put_u32, Bytes}
 use Rattle.book.specs.Writing.{u16_bytes, u32_bytes, write}
@@ -143,3 +144,25 @@ write_sets (x ∷ w) b i = ap (λ (n : ℕ). write (set b i x) n w) (let e : i +
 
 pub write-is : (w b : List ℕ) (i : ℕ) → i + length w ≤ length b → write b i w ≡ take i b ++ w ++ drop (i + length w) b
 write-is w b i h = write_sets w b i ∙ sets-eq w b i h
+
+-- a number's bytes copied over the part of b that was lent
+copied : (w b p : List ℕ) (i n : ℕ) → n ≡ i + length w → n ≤ length b → p ≡ w → take i b ++ (p ++ drop (n - i) (drop i b)) ≡ write b i w
+copied w b p i n e h s =
+    let m : i + (n - i) ≡ i + length w = omega arith in
+    rw (s, drop-drop, m) (sym (write-is w b i (omega arith) ∙ append_assoc (take i b) w (drop (i + length w) b)))
+
+pub copied_u16 : (b p : List ℕ) (i x : ℕ) → i + 2 ≤ length b → x < 65536 → p ≡ to_be_bytes w16 x
+    → take i b ++ (p ++ drop (i + 2 - i) (drop i b)) ≡ put_u16 b i x
+unfolding u16_bytes
+copied_u16 b p i x h s e =
+    let high : x / 256 % 256 ≡ x / 256 = omega arith in
+    copied (u16_bytes x) b p i (i + 2) refl h (e ∙ rw high refl) ∙ sym (write_u16 b i x)
+
+pub copied_u32 : (b p : List ℕ) (i x : ℕ) → i + 4 ≤ length b → x < 4294967296 → p ≡ to_be_bytes w32 x
+    → take i b ++ (p ++ drop (i + 4 - i) (drop i b)) ≡ put_u32 b i x
+unfolding u32_bytes u16_bytes
+copied_u32 b p i x h s e =
+    let first : x / 16777216 % 256 ≡ x / 65536 / 256 = omega arith in
+    let third : x / 256 % 256 ≡ x % 65536 / 256 = omega arith in
+    let fourth : x % 256 ≡ x % 65536 % 256 = omega arith in
+    copied (u32_bytes x) b p i (i + 4) refl h (e ∙ rw (first, third, fourth) refl) ∙ sym (write_u32 b i x)

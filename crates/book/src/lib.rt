@@ -5,21 +5,9 @@ ghost use Rattle.book.specs.Bytes.{u8_at, u16_at, u32_at, put_u16, put_u32};
 ghost use Rattle.book.specs.Open.{version, open_refusal, opened, opened_number};
 
 // A junction's number: a vertex of the road graph, counted from 0. Never a tree region's number.
-#[derive(Clone, Copy)]
+#[derive(Clone, Copy, Debug, PartialEq, Eq, PartialOrd, Ord)]
 pub struct Junction {
     pub number: u16,
-}
-
-fn wide16(x: u8) -> u16
-    ensures { (result ≡ x) × (result < 256) }
-{
-    x as u16
-}
-
-fn wide32(x: u16) -> u32
-    ensures { (result ≡ x) × (result < 65536) }
-{
-    x as u32
 }
 
 // The byte at i.
@@ -35,7 +23,7 @@ pub fn u16_at(s: &[u8], i: usize) -> u16
     requires { i + 2 ≤ length s.now }
     ensures { result ≡ u16_at s.now i }
 {
-    256 * wide16(s[i]) + wide16(s[i + 1])
+    u16::from_be_bytes([s[i], s[i + 1]])
 }
 
 // The big-endian number of four bytes at i.
@@ -43,7 +31,7 @@ pub fn u32_at(s: &[u8], i: usize) -> u32
     requires { i + 4 ≤ length s.now }
     ensures { result ≡ u32_at s.now i }
 {
-    65536 * wide32(u16_at(s, i)) + wide32(u16_at(s, i + 2))
+    u32::from_be_bytes([s[i], s[i + 1], s[i + 2], s[i + 3]])
 }
 
 // Puts the two bytes of x at i, the high one first.
@@ -51,8 +39,7 @@ pub fn put_u16(d: &mut [u8], i: usize, x: u16)
     requires { i + 2 ≤ length d.old }
     ensures { d.new ≡ put_u16 d.old i x }
 {
-    d[i] = (x / 256) as u8;
-    d[i + 1] = (x % 256) as u8;
+    d[i..i + 2].copy_from_slice(&x.to_be_bytes());
 }
 
 // Puts the four bytes of x at i, the highest first.
@@ -60,8 +47,7 @@ pub fn put_u32(d: &mut [u8], i: usize, x: u32)
     requires { i + 4 ≤ length d.old }
     ensures { d.new ≡ put_u32 d.old i x }
 {
-    put_u16(d, i, (x / 65536) as u16);
-    put_u16(d, i + 2, (x % 65536) as u16);
+    d[i..i + 4].copy_from_slice(&x.to_be_bytes());
 }
 
 // What opening a book finds: its body, or the number of the test that turns it back.

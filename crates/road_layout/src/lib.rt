@@ -101,17 +101,15 @@ fn roads_ok(b: &[u8], count: usize, n: u16) -> bool
     requires { 9 + 6 * count ≤ length b.now }
     ensures { result ≡ roads_ok b.now n count 0 0 0 }
 {
-    let mut k: usize = 0;
     let mut l: u16 = 0;
     let mut h: u16 = 0;
-    while k < count {
+    for k in 0..count {
         let road = road_at(b, k);
         if !road_ok(n, l, h, road) {
             return false;
         }
         l = road.low.number;
         h = road.high.number;
-        k += 1;
     }
     true
 }

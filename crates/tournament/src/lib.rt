@@ -6,11 +6,14 @@ ghost use Rattle.tournament.specs.code.Tournament.{queue_words, leaf, top, least
 // The number of a tree's words.
 pub const WORDS: usize = 2048;
 
+// The levels of words above the leaves.
+const LEVELS: usize = 5;
+
 // The lesser of two words.
 pub fn lesser(a: u64, b: u64) -> u64
     ensures { result ≡ min a b }
 {
-    if a <= b { a } else { b }
+    a.min(b)
 }
 
 // Makes every word x.
@@ -18,11 +21,7 @@ pub fn clear(tree: &mut [u64], x: u64)
     requires { length tree.old ≡ queue_words }
     ensures { tree.new ≡ replicate queue_words x }
 {
-    let mut i: usize = 0;
-    while i < WORDS {
-        tree[i] = x;
-        i += 1;
-    }
+    tree.fill(x);
 }
 
 // The least of the three words beside word i: the other of its pair, and the pair across.
@@ -31,8 +30,8 @@ fn least_beside(tree: &[u64], i: usize) -> u64
     ensures { result ≡ least_beside tree.now i }
 {
     let across = 4 * (i / 4) + (i + 2) % 4;
-    let pair = lesser(tree[across], tree[2 * (across / 2) + (across + 1) % 2]);
-    lesser(tree[2 * (i / 2) + (i + 1) % 2], pair)
+    let pair = tree[across].min(tree[2 * (across / 2) + (across + 1) % 2]);
+    pair.min(tree[2 * (i / 2) + (i + 1) % 2])
 }
 
 // Stores x at leaf v, and makes each word above it the least of its four again.
@@ -43,13 +42,10 @@ pub fn put(tree: &mut [u64], v: usize, x: u64)
     let mut i = 1024 + v;
     let mut word = x;
     tree[i] = word;
-    let mut k: usize = 0;
-    while k < 5 {
-        let beside = least_beside(tree, i);
-        word = lesser(word, beside);
-        i = i / 4;
+    for _ in 0..LEVELS {
+        word = word.min(least_beside(tree, i));
+        i /= 4;
         tree[i] = word;
-        k += 1;
     }
 }
 
@@ -60,11 +56,9 @@ pub fn lower(tree: &mut [u64], v: usize, x: u64)
 {
     let mut i = 1024 + v;
     tree[i] = x;
-    let mut level: usize = 0;
-    while level < 5 {
-        i = i / 4;
-        tree[i] = lesser(tree[i], x);
-        level += 1;
+    for _ in 0..LEVELS {
+        i /= 4;
+        tree[i] = tree[i].min(x);
     }
 }
 

@@ -1,20 +1,21 @@
 -- The work area's test, and the area after a call. Assumes nothing.
-use mathlib.Core.Path.{◌≡◌, sym, ap, ◌∙◌}
+use mathlib.Core.Path.{◌≡◌, refl, sym, ap, ◌∙◌}
 use mathlib.Core.List.{List, ◌++◌}
 use Prim.Native.Nat.{ℕ, ◌≤◌, ◌<◌}
 use native.Mathlib.Omega.{arith}
-use lib.ListN.{length, replicate, drop, length-append, length-drop}
+use lib.ListN.{length, replicate, take, drop, length-append, length-take, length-drop}
 use lib.Seq.{drop_at}
 use lib.Dec.{leb, eqb, leb→le, le→leb, not_T}
 use Rattle.book.proofs.Choosing.{passes, fails, passed, choose_yes, choose_no, choose-map}
 use Rattle.book.proofs.Lists.{eq→eqb, ne→neqb}
-use Rattle.book.proofs.Filling.{filled, filled-parts}
 use Rattle.work_area.specs.Work.{work_words, work_refusal, zeroed, work_after}
 
--- a loop that has filled n words with 0 has zeroed them
-pub filled-zeroed : (n i : ℕ) (work after : List ℕ) → after ≡ filled i 0 work → i ≡ n → after ≡ zeroed n work
+-- an area of which the first n words are filled with 0 is zeroed
+pub zeroed_part : (n : ℕ) (part work : List ℕ) → n ≤ length work → part ≡ replicate (length (take n work)) 0 → part ++ drop n work ≡ zeroed n work
 unfolding zeroed
-filled-zeroed n i work after e h = rw (← h) (e ∙ filled-parts i 0 work)
+zeroed_part n part work h e =
+    let m : length (take n work) ≡ n = omega (arith, length-take n work) in
+    rw (e, m) refl
 
 -- what was in the words that are zeroed does not matter
 pub zeroed-over : (n : ℕ) (part work : List ℕ) → length part ≡ n → zeroed n (part ++ drop n work) ≡ zeroed n work

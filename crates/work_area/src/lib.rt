@@ -11,9 +11,5 @@ pub fn zero_words(work: &mut [u32])
     requires { work_words ≤ length work.old }
     ensures { work.new ≡ zeroed work_words work.old }
 {
-    let mut i: usize = 0;
-    while i < WORDS {
-        work[i] = 0;
-        i += 1;
-    }
+    work[..WORDS].fill(0);
 }

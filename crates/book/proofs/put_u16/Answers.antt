@@ -1,12 +1,7 @@
-use Rattle.book.specs.Bytes.{put_u16}
-use borrow.Author.Rules.{rules}
+use mathlib.Core.Path.{◌∙◌}
 use native.Mathlib.Omega.{arith}
-use lib.ListN.{length-set}
+use Rattle.book.proofs.Writing.{copied_u16}
 use Rattle.book.proofs.put_u16.Goals as goal
 
-pub bounds-d-i-2 : goal.bounds-d-i-2
-bounds-d-i-2 c = simp length-set (omega arith)
-
 pub returns : goal.returns
-unfolding put_u16
-returns c = search rules
+returns c = copied_u16 _ _ _ _ c.requires (omega arith) (c.copy_from_slice.ensures.after ∙ c.to_be_bytes.ensures)

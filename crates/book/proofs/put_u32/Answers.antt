@@ -1,6 +1,7 @@
-use Rattle.book.specs.Bytes.{put_u32}
+use mathlib.Core.Path.{◌∙◌}
+use native.Mathlib.Omega.{arith}
+use Rattle.book.proofs.Writing.{copied_u32}
 use Rattle.book.proofs.put_u32.Goals as goal
 
 pub returns : goal.returns
-unfolding put_u32
-returns c = cc
+returns c = copied_u32 _ _ _ _ c.requires (omega arith) (c.copy_from_slice.ensures.after ∙ c.to_be_bytes.ensures)

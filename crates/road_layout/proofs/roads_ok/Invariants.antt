@@ -1,10 +1,7 @@
 use mathlib.Core.Path.{◌≡◌}
-use Prim.Native.Nat.{◌-◌, ◌≤◌}
+use Prim.Native.Nat.{◌-◌}
 use Rattle.road_layout.specs.Layout.{roads_ok}
 use Rattle.road_layout.proofs.roads_ok.Given as goal
 
 abbrev pub invariant-loop-k : goal.invariant-loop-k
-invariant-loop-k l = (l.k ≤ l.count) × (roads_ok l.b l.n (l.count - l.k) l.k l.l l.h ≡ roads_ok l.b l.n l.count 0 0 0)
-
-abbrev pub decreases-loop-k : goal.decreases-loop-k
-decreases-loop-k l = l.count - l.k
+invariant-loop-k l = roads_ok l.b l.n (l.count - l.k) l.k l.l l.h ≡ roads_ok l.b l.n l.count 0 0 0
