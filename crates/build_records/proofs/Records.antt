@@ -65,10 +65,6 @@ module _ (v w at m q n start : ℕ) (same : v ≡ w) where
   pub ends : (place : ℕ) → start ≡ at + fields_size v → place ≡ start + m * mark_size w q n → place ≡ at + record_size w m q n
   ends place f e = omega (arith, record_size_lem w m q n, ap fields_size same)
 
--- the first junctions of a list
-pub part-few : (l : List ℕ) (c : ℕ) → c ≤ 1024 → c ≤ length l → length (take c l) ≤ 1024
-part-few l c h k = omega (arith, length-take-le c l k)
-
 module _ (b yb : List ℕ) (from end a s q m limit : ℕ) where
   abbrev ys : List ℕ
   ys = yards_from yb (end - from) from
