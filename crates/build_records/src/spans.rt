@@ -2,7 +2,7 @@
 ghost use Rattle.std.specs.Prelude.{◌≡◌, ◌-◌, ◌<◌, length};
 ghost use Rattle.yard.specs.Yards.{yards_from};
 ghost use Rattle.check_rules.specs.Truth.{least, greatest};
-ghost use Rattle.build_records.specs.code.Keys.{distance_in};
+ghost use Rattle.build_records.specs.code.Lists.{distance_in};
 ghost use Rattle.build_records.specs.code.Parts.{YardsUpTo};
 
 use tree_layout::Span;

@@ -1,6 +1,5 @@
 use native.Mathlib.Omega.{arith}
 use Rattle.build_records.proofs.Gathering.{gathering_start, gathering_turn, gathering_end}
-use Rattle.build_records.proofs.Numbered.{yards-few}
 use Rattle.build_records.proofs.kinds_of.Goals as goal
 
 pub loop-k-init : goal.loop-k-init

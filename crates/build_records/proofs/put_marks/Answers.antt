@@ -1,15 +1,11 @@
 use mathlib.Core.Path.{◌≡◌, refl, sym, ap, ◌∙◌}
-use Prim.Native.Nat.{ℕ, ◌+◌, ◌-◌, ◌*◌, ◌≤◌}
+use Prim.Native.Nat.{ℕ, ◌+◌, ◌-◌, ◌*◌}
 use native.Mathlib.Omega.{arith}
 use lib.ListN.{length}
 use Rattle.book.specs.Open.{version}
-use Rattle.road_layout.specs.Road.{roads}
 use Rattle.adjacency.proofs.Linking.{few-junctions}
 use Rattle.tree_layout.specs.Decode.{mark_size}
 use Rattle.yard.proofs.YardLayout.{five}
-use Rattle.build_rules.specs.Cut.{borders}
-use Rattle.build_records.specs.Given.{given}
-use Rattle.build_records.specs.code.Marks.{mark_bytes}
 use Rattle.build_records.proofs.Numbered.{yards-few}
 use Rattle.build_records.proofs.Writing.{given_mark_length, mark_size_read}
 use Rattle.build_records.proofs.Turns.{marking_start, marking_room, marking_turn, marking_end, landmark-same, landmark-low}

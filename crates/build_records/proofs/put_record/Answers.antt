@@ -1,7 +1,4 @@
-use mathlib.Core.Path.{refl, sym}
-use Prim.Native.Nat.{◌≤◌}
 use native.Mathlib.Omega.{arith}
-use lib.Seq.{length-take-le}
 use Rattle.adjacency.proofs.Linking.{few-junctions}
 use Rattle.yard.proofs.YardLayout.{five}
 use Rattle.build_records.proofs.Numbered.{yards-few}

@@ -1,6 +1,6 @@
 use mathlib.Core.Path.{refl}
 use native.Mathlib.Omega.{arith}
-use Rattle.build_records.proofs.Numbered.{yard_read, yard-fits, yards-few}
+use Rattle.build_records.proofs.Numbered.{yard_read, yard-fits}
 use Rattle.build_records.proofs.Measuring.{measuring_start, measuring_turn, measuring_end}
 use Rattle.build_records.proofs.spans.measure.Goals as goal
 
