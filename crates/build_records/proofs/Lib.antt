@@ -1,6 +1,5 @@
 pub mod Numbered
-pub mod Inserting
-pub mod Keyed
+pub mod Listing
 pub mod Measuring
 pub mod Gathering
 pub mod Scanning

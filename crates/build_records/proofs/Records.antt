@@ -4,8 +4,7 @@ use mathlib.Core.List.{List, ◌++◌}
 use Prim.Native.Nat.{ℕ, ◌+◌, ◌-◌, ◌*◌, ◌≤◌, ◌<◌}
 use native.Mathlib.Decide.{dec_lt}
 use native.Mathlib.Omega.{arith}
-use lib.ListN.{length, take}
-use lib.Seq.{length-take-le}
+use lib.ListN.{length}
 use lib.Dec.{eqb}
 use Rattle.book.specs.Open.{version}
 use Rattle.book.specs.Writing.{write}
@@ -64,10 +63,6 @@ module _ (v w at m q n start : ℕ) (same : v ≡ w) where
 
   pub ends : (place : ℕ) → start ≡ at + fields_size v → place ≡ start + m * mark_size w q n → place ≡ at + record_size w m q n
   ends place f e = omega (arith, record_size_lem w m q n, ap fields_size same)
-
--- the first junctions of a list
-pub part-few : (l : List ℕ) (c : ℕ) → c ≤ 1024 → c ≤ length l → length (take c l) ≤ 1024
-part-few l c h k = omega (arith, length-take-le c l k)
 
 module _ (b yb : List ℕ) (from end a s q m limit : ℕ) where
   abbrev ys : List ℕ

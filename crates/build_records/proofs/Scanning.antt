@@ -61,11 +61,11 @@ pub record Bordering (roads-of : List Road) (a s : ℕ) (list : List ℕ) (n v :
   pub low : a ≤ v
   pub high : v ≤ a + s
   pub few : n + a ≤ v
-  pub room : length list ≡ 1024
+  pub room : s ≤ length list
   pub same : take n list ++ borders_from roads-of a s (a + s - v) v ≡ borders roads-of a s
 
 module _ (rs : List Road) (a s : ℕ) where
-  pub bordering_start : (list : List ℕ) → length list ≡ 1024 → Bordering rs a s list 0 a
+  pub bordering_start : (list : List ℕ) → s ≤ length list → Bordering rs a s list 0 a
   bordering_start list h =
       let e : a + s - a ≡ s = omega arith in
       record { low = omega arith; high = omega arith; few = omega arith; room = h; same = rw e (sym (borders_are rs a s)) }
@@ -82,7 +82,7 @@ module _ (rs : List Road) (a s : ℕ) where
           low = omega (arith, x.low);
           high = omega arith;
           few = omega (arith, x.few);
-          room = length-set list n v ∙ x.room;
+          room = omega (arith, length-set list n v, x.room);
           same = rw (
             add-one n,
             take-suc-set list n v (omega (arith, x.few, x.room)),

@@ -13,51 +13,33 @@ use Rattle.build_rules.specs.Cut.{borders, landmark}
 use Rattle.build_rules.proofs.Landmarks.{landmark_in}
 use Rattle.build_records.specs.code.Marks.{landmark_bytes}
 
--- the tree so far, where the next landmark goes, and the landmarks that are left; each takes w bytes
-pub record Marking (f : ℕ → List ℕ) (w m a s : ℕ) (bs tree₀ : List ℕ) (start : ℕ) (tree : List ℕ) (at j : ℕ) : Type 0 where
-  pub high : j ≤ m
-  pub place : at ≡ start + j * w
-  pub room : start + m * w ≤ length tree
-  pub kept : length tree ≡ length tree₀
-  pub same : write tree at (landmark_bytes f m a s bs (m - j) j) ≡ write tree₀ start (landmark_bytes f m a s bs m 0)
+-- with j landmarks written, each of w bytes, those that are left complete the tree
+pub record Marking (f : ℕ → List ℕ) (w m a s : ℕ) (bs tree₀ : List ℕ) (start : ℕ) (tree : List ℕ) (j : ℕ) : Type 0 where
+  pub same : write tree (start + j * w) (landmark_bytes f m a s bs (m - j) j) ≡ write tree₀ start (landmark_bytes f m a s bs m 0)
+
+-- the next landmark has its place
+pub marking_room : (w m start j size : ℕ) → start + m * w ≤ size → j < m → start + j * w + w ≤ size
+marking_room w m start j size h l = let z : suc j ≤ m = omega arith in omega (arith, mul-le-mul_right w z, suc-mul j w)
 
 module _ (f : ℕ → List ℕ) (w m a s : ℕ) (bs tree₀ : List ℕ) (start : ℕ) where
-  pub marking_start : start + m * w ≤ length tree₀ → Marking f w m a s bs tree₀ start tree₀ start 0
-  marking_start h = record { high = omega arith; place = omega arith; room = h; kept = refl; same = rw (let e : m - 0 ≡ m = omega arith in e) refl }
+  pub marking_start : Marking f w m a s bs tree₀ start tree₀ 0
+  marking_start = record { same = rw (let e : m - 0 ≡ m = omega arith in e) (rw (let e : start + 0 * w ≡ start = omega arith in e) refl) }
 
-  -- the next landmark has its place
-  pub marking_room : (tree : List ℕ) (at j : ℕ) → Marking f w m a s bs tree₀ start tree at j → j < m → at + w ≤ length tree
-  marking_room tree at j x h = let z : suc j ≤ m = omega arith in omega (arith, x.place, x.room, mul-le-mul_right w z, suc-mul j w)
-
-  pub marking_turn : (tree next : List ℕ) (at j l : ℕ) → Marking f w m a s bs tree₀ start tree at j → j < m → length (f l) ≡ w → l ≡ landmark m a s bs j
-      → next ≡ write tree at (f l) → length next ≡ length tree
-      → Marking f w m a s bs tree₀ start next (at + w) (j + 1)
+  pub marking_turn : (tree next : List ℕ) (j l : ℕ) → Marking f w m a s bs tree₀ start tree j → j < m → length (f l) ≡ w → l ≡ landmark m a s bs j
+      → next ≡ write tree (start + j * w) (f l) → Marking f w m a s bs tree₀ start next (j + 1)
   unfolding landmark_bytes
-  marking_turn tree next at j l x h len e g k =
+  marking_turn tree next j l x h len e g =
       let d : m - j ≡ suc (m - (j + 1)) = omega arith in
+      let place : start + (j + 1) * w ≡ start + j * w + w = rw (add-one j) (omega (arith, suc-mul j w)) in
       let rest = landmark_bytes f m a s bs (m - (j + 1)) (suc j) in
-      let u : write tree at (f l ++ rest) ≡ write next (at + w) rest = write-append (f l) rest tree at ∙ rw (len, ← g) refl in
-      record {
-        high = omega arith;
-        place = rw (add-one j) (omega (arith, x.place, suc-mul j w));
-        room = omega (arith, x.room);
-        kept = k ∙ x.kept;
-        same = ap (write next (at + w)) (ap (λ (z : ℕ). landmark_bytes f m a s bs (m - (j + 1)) z) (add-one j)) ∙ (sym u ∙ (rw (d, ← e) at x.same));
-      }
+      let u : write tree (start + j * w) (f l ++ rest) ≡ write next (start + j * w + w) rest = write-append (f l) rest tree (start + j * w) ∙ rw (len, ← g) refl in
+      record { same = rw place (ap (λ (z : ℕ). write next (start + j * w + w) (landmark_bytes f m a s bs (m - (j + 1)) z)) (add-one j) ∙ (sym u ∙ (rw (d, ← e) at x.same))) }
 
-  pub marking_end : (tree : List ℕ) (at j : ℕ) → Marking f w m a s bs tree₀ start tree at j → m ≤ j → tree ≡ write tree₀ start (landmark_bytes f m a s bs m 0)
+  pub marking_end : (tree : List ℕ) (j : ℕ) → Marking f w m a s bs tree₀ start tree j → m ≤ j → tree ≡ write tree₀ start (landmark_bytes f m a s bs m 0)
   unfolding landmark_bytes
-  marking_end tree at j x h =
+  marking_end tree j x h =
       let z : m - j ≡ 0 = omega arith in
-      sym (write-none tree at) ∙ (rw z at x.same)
-
--- where the landmarks end
-pub marking_place : (f : ℕ → List ℕ) (w m a s : ℕ) (bs tree₀ : List ℕ) (start : ℕ) (tree : List ℕ) (at j size : ℕ) → Marking f w m a s bs tree₀ start tree at j
-    → m ≤ j → w ≡ size
-    → at ≡ start + m * size
-marking_place f w m a s bs tree₀ start tree at j size x h e =
-    let k : j ≡ m = omega (arith, x.high) in
-    x.place ∙ rw (k, e) refl
+      sym (write-none tree (start + j * w)) ∙ (rw z at x.same)
 
 -- the landmark that the list of border junctions gives
 pub landmark-same : (rs : List Road) (list : List ℕ) (m a s j l : ℕ) → list ≡ borders rs a s → l ≡ landmark m a s list j → l ≡ landmark m a s (borders rs a s) j

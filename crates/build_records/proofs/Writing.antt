@@ -4,9 +4,8 @@ use mathlib.Core.List.{List, ◌++◌, Memᴰ as Mem}
 use Prim.Native.Nat.{ℕ, ◌+◌, ◌-◌, ◌≤◌, ◌<◌}
 use native.Mathlib.Decide.{dec_lt}
 use native.Mathlib.Omega.{arith}
-use lib.ListN.{length, take, length-append}
+use lib.ListN.{length, length-append}
 use lib.Dec.{eqb}
-use Rattle.book.specs.Bytes.{Bytes}
 use Rattle.book.specs.Open.{version}
 use Rattle.book.specs.Writing.{u16_bytes, u32_bytes, write}
 use Rattle.book.proofs.Choosing.{choose_yes, choose_no}
@@ -16,7 +15,7 @@ use Rattle.road_layout.specs.Road.{junctions}
 use Rattle.adjacency.specs.Arcs.{net}
 use Rattle.road.specs.Dijkstra.{distances, dist}
 use Rattle.road.proofs.Reading.{dist_read}
-use Rattle.yard.specs.Yards.{yard_at, yards_from, kind_of}
+use Rattle.yard.specs.Yards.{yard_at, yards_from}
 use Rattle.yard.proofs.Listing.{from-length}
 use Rattle.check_rules.specs.Truth.{least, greatest}
 use Rattle.check_rules.proofs.Extremes.{least_by, greatest_by}
@@ -32,12 +31,12 @@ use Rattle.tree_layout.proofs.Places.{mark_size-leaf, mark_size-inner}
 use Rattle.build_rules.specs.Cut.{Given, ranked_list}
 use Rattle.build_rules.proofs.Ranked.{ranked-length}
 use Rattle.build_records.specs.Given.{given}
-use Rattle.build_records.specs.code.Keys.{ranks_of, key_bytes, distance_in, Keyed}
+use Rattle.build_records.specs.code.Lists.{distance_in, elements, Gives}
+use Rattle.tree_layout.specs.declared.Listed.{Listed}
 use Rattle.build_records.specs.code.Marks.{leaf_bytes, inner_bytes, mark_bytes}
 use Rattle.build_records.specs.code.Parts.{YardsUpTo}
 use Rattle.build_records.proofs.Fields.{given-version}
-use Rattle.build_records.proofs.Keyed.{Gives, ranked-bytes}
-use Rattle.build_records.proofs.Numbered.{yard-low, yard-number, kind_fits}
+use Rattle.build_records.proofs.Numbered.{yard-low, yard-number}
 
 module _ (b yb ds : List ℕ) (from to l : ℕ) (walk : ds ≡ distances (net b) (junctions b) l) (room : length ds ≡ 1024) (ys : YardsUpTo yb from to)
     (m limit : ℕ) where
@@ -51,27 +50,21 @@ module _ (b yb ds : List ℕ) (from to l : ℕ) (walk : ds ≡ distances (net b)
   away : (y : ℕ) → Mem y (yards_from yb (to - from) from) → distance_in ds y ≡ dist b l y
   away y k = dist_read b ds l y walk (omega (arith, low y k))
 
-  gives : Bytes yb → Gives ds (given b yb m limit) l (yards_from yb (to - from) from)
+  gives : Gives ds yb (given b yb m limit) l (yards_from yb (to - from) from)
   unfolding given
-  gives bs = record {
-    same = away;
-    fits = λ y k. omega (arith, low y k);
-    bytes = λ y k. kind_fits yb from to ys y k bs;
-  }
+  gives = record { away = away; kinds = λ y k. refl }
 
   -- a leaf's landmark
-  pub leaf-written : (v : ℕ) (tree mid out keys : List ℕ) (at : ℕ) → Bytes yb → v ≡ version yb
-      → Keyed (to - from) keys (ranks_of ds (kind_of yb) (yards_from yb (to - from) from))
-      → mid ≡ write tree at (u16_bytes l) → out ≡ write mid (at + 2) (key_bytes v (take (to - from) keys))
+  pub leaf-written : (v : ℕ) (tree mid out : List ℕ) (list : List Listed) (at : ℕ) → v ≡ version yb
+      → ((g : Given) (l : ℕ) → Gives ds yb g l (yards_from yb (to - from) from) → elements list ≡ ranked_list g l (yards_from yb (to - from) from))
+      → mid ≡ write tree at (u16_bytes l) → out ≡ write mid (at + 2) (encode_list v (elements list))
       → out ≡ write tree at (leaf_bytes (given b yb m limit) yb from to l)
   unfolding leaf_bytes given
-  leaf-written v tree mid out keys at bs ev k e f =
+  leaf-written v tree mid out list at ev k e f =
       let g = given b yb m limit in
-      let list = encode_list g.version (ranked_list g l (yards_from yb (to - from) from)) in
-      let w : key_bytes g.version (take (to - from) keys) ≡ list =
-      ap (key_bytes g.version) k.same ∙ ranked-bytes g.version ds g l (yards_from yb (to - from) from) (gives bs) in
+      let bytes = encode_list g.version (ranked_list g l (yards_from yb (to - from) from)) in
       let a : at + length (u16_bytes l) ≡ at + 2 = omega (arith, u16_length l) in
-      rw (f, ev ∙ sym (given-version b yb m limit), e, w, write-append (u16_bytes l) list tree at, a) refl
+      rw (f, ev ∙ sym (given-version b yb m limit), e, k g l gives, write-append (u16_bytes l) bytes tree at, a) refl
 
   -- an inner region's
   pub inner-written : (tree out : List ℕ) (at low high : ℕ) → from < to

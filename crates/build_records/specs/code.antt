@@ -1,3 +1,3 @@
-pub mod Keys
+pub mod Lists
 pub mod Marks
 pub mod Parts

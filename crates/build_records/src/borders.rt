@@ -14,10 +14,7 @@ fn is_border(adj: &[u16], a: usize, s: usize, v: u16) -> bool
     let mut x = adjacency::head(adj, Junction { number: v });
     while x != 0 {
         let u = adjacency::to(adj, x).number as usize;
-        if u < a {
-            return true;
-        }
-        if a + s <= u {
+        if u < a || a + s <= u {
             return true;
         }
         x = adjacency::next(adj, x);
@@ -25,25 +22,23 @@ fn is_border(adj: &[u16], a: usize, s: usize, v: u16) -> bool
     false
 }
 
-// Lists the border junctions of the range from a with s junctions, in rising order, and counts them.
-pub fn border_list(adj: &[u16], a: Junction, s: usize, list: &mut [u16]) -> usize
-    requires { IsAdjacency adj.now × (a.number + s ≤ 1024) × (length list.old ≡ 1024) }
-    ensures count { result ≤ s }
+// The border junctions of the range from a with s junctions, in rising order, listed in a lent area.
+pub fn border_list<'a>(adj: &[u16], a: Junction, s: usize, area: &'a mut [u16]) -> &'a [u16]
+    requires { IsAdjacency adj.now × (a.number + s ≤ 1024) × (s ≤ length area.old) }
+    ensures count { length result.now ≤ s }
     ensures list { (road : List ℕ) → Adjacency road adj.now
-        → take result list.new ≡ borders (roads road) a.number s }
+        → result.now ≡ borders (roads road) a.number s }
 {
     let low = a.number as usize;
     let mut n: usize = 0;
-    let mut v = low;
-    while v < low + s {
+    for v in low..low + s {
         let number = v as u16;
         if is_border(adj, low, s, number) {
-            list[n] = number;
+            area[n] = number;
             n += 1;
         }
-        v += 1;
     }
-    n
+    &area[..n]
 }
 
 // Landmark j of m, from the border junctions of the range from a with s junctions.

@@ -48,10 +48,8 @@ fn kinds_of(yb: &[u8], from: usize, end: usize) -> u8
     ensures { result ≡ together (kind_of yb.now) (yards_from yb.now (end - from) from) }
 {
     let mut x: u8 = 0;
-    let mut k = from;
-    while k < end {
+    for k in from..end {
         x = kinds::join(x, yard::kinds_at(yb, k));
-        k += 1;
     }
     x
 }
@@ -80,17 +78,13 @@ fn put_marks(
     let size = mark_size(book::version(yb), children, p.end - p.from);
     let mut row = [0u32; 1024];
     let mut last = Junction { number: 65535 };
-    let mut at = start;
-    let mut j: usize = 0;
-    while j < m {
+    for j in 0..m {
         let l = borders::landmark_of(list, m, p.start, p.size, j);
         road::walk::walk_from(adj, &mut row, last, l);
-        marks::put_mark(&row, yb, p, children, l, tree, at);
+        marks::put_mark(&row, yb, p, children, l, tree, start + j * size);
         last = l;
-        at += size;
-        j += 1;
     }
-    at
+    start + m * size
 }
 
 // Writes the record of a region over a range, with m landmarks and so many children, 0 in a leaf; returns its end.
@@ -111,8 +105,8 @@ pub fn put_record(
         (encode_region (version yb.now) (region_of (given road yb.now m limit) p.start.number
         p.size children (yards_from yb.now (p.end - p.from) p.from))) }
 {
-    let mut list = [0u16; 1024];
-    let c = borders::border_list(adj, p.start, p.size, &mut list);
+    let mut area = [0u16; 1024];
+    let list = borders::border_list(adj, p.start, p.size, &mut area);
     let first = p.start;
     let v = book::version(yb);
     tree_encode::put_fields(
@@ -128,5 +122,5 @@ pub fn put_record(
         },
     );
     let start = tree_layout::records::marks_at(v, at);
-    put_marks(adj, yb, &list[..c], p, m, children, tree, start)
+    put_marks(adj, yb, list, p, m, children, tree, start)
 }

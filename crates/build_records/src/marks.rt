@@ -11,47 +11,37 @@ ghost use Rattle.build_records.specs.code.Parts.{YardsUpTo};
 
 use crate::Part;
 use book::Junction;
+use tree_layout::Listed;
 
-// Writes landmark l of a leaf that has the yards of number `from` up to `end`: its junction and its list.
-fn put_leaf_mark(
-    row: &[u32],
-    yb: &[u8],
-    from: usize,
-    end: usize,
-    l: Junction,
-    tree: &mut [u8],
-    at: usize,
-)
-    requires { YardsUpTo yb.now from end × (length row.now ≡ 1024)
-        × (at + leaf_mark_size (version yb.now) (end - from) ≤ length tree.old) }
+// Writes landmark l of a leaf over a range: its junction and its list.
+fn put_leaf_mark(row: &[u32], yb: &[u8], p: Part, l: Junction, tree: &mut [u8], at: usize)
+    requires { YardsUpTo yb.now p.from p.end × (length row.now ≡ 1024)
+        × (at + leaf_mark_size (version yb.now) (p.end - p.from) ≤ length tree.old) }
     ensures { (road : List ℕ) → row.now ≡ distances_from road l.number
         → (m limit : ℕ) → tree.new ≡ write tree.old at
-        (leaf_bytes (given road yb.now m limit) yb.now from end l.number) }
+        (leaf_bytes (given road yb.now m limit) yb.now p.from p.end l.number) }
 {
-    let mut keys = [0u64; 256];
-    crate::lists::rank(row, yb, from, end, &mut keys);
+    let yard = Junction { number: 0 };
+    let mut area = [Listed {
+        distance: 0,
+        yard,
+        kinds: 0,
+    }; 256];
+    let list = crate::lists::rank(row, yb, p.from, p.end, &mut area);
     tree_encode::put_leaf_mark_junction(tree, at, l);
     let start = at + tree_layout::records::JUNCTION_SIZE;
-    crate::lists::put_list(tree, book::version(yb), start, &keys, end - from);
+    crate::lists::put_list(tree, book::version(yb), start, list);
 }
 
-// Writes landmark l of an inner region that has those yards: its junction, the least and the greatest distance.
-fn put_inner_mark(
-    row: &[u32],
-    yb: &[u8],
-    from: usize,
-    end: usize,
-    l: Junction,
-    tree: &mut [u8],
-    at: usize,
-)
-    requires { YardsUpTo yb.now from end × (from < end) × (length row.now ≡ 1024)
+// Writes landmark l of an inner region over a range: its junction, the least and the greatest distance.
+fn put_inner_mark(row: &[u32], yb: &[u8], p: Part, l: Junction, tree: &mut [u8], at: usize)
+    requires { YardsUpTo yb.now p.from p.end × (p.from < p.end) × (length row.now ≡ 1024)
         × (at + inner_mark_size ≤ length tree.old) }
     ensures { (road : List ℕ) → row.now ≡ distances_from road l.number
         → (m limit : ℕ) → tree.new ≡ write tree.old at
-        (inner_bytes (given road yb.now m limit) yb.now from end l.number) }
+        (inner_bytes (given road yb.now m limit) yb.now p.from p.end l.number) }
 {
-    let span = crate::spans::measure(row, yb, from, end);
+    let span = crate::spans::measure(row, yb, p.from, p.end);
     tree_encode::put_span(tree, at, l, span);
 }
 
@@ -73,8 +63,8 @@ pub fn put_mark(
         l.number) }
 {
     if children == 0 {
-        put_leaf_mark(row, yb, p.from, p.end, l, tree, at);
+        put_leaf_mark(row, yb, p, l, tree, at);
         return;
     }
-    put_inner_mark(row, yb, p.from, p.end, l, tree, at);
+    put_inner_mark(row, yb, p, l, tree, at);
 }

@@ -31,7 +31,7 @@ use Rattle.build_rules.proofs.Regions.{size-some, leaf_mark_lem, inner_mark_lem}
 
 -- ---- lists
 
-before_apart : (e h : Element) → Before e h → Before h e → ⊥
+pub before_apart : (e h : Element) → Before e h → Before h e → ⊥
 before_apart e h (inl x) (inl y) = omega arith
 before_apart e h (inl x) (inr y) = omega (arith, y.0)
 before_apart e h (inr x) (inl y) = omega (arith, x.0)
@@ -45,11 +45,11 @@ chain_ordered e (h ∷ hs) r = let o = chain_ordered h hs r.1 in ((λ z k. go o 
     go o z (inl p) = rw p r.0
     go o z (inr k) = before_trans e h z r.0 (o.0 z k)
 
-ordered : (es : List Element) → Rising es → Ordered Before es
+pub ordered : (es : List Element) → Rising es → Ordered Before es
 ordered [] r = tt
 ordered (e ∷ es) r = chain_ordered e es r
 
-element-same : (e h : Element) → e.distance ≡ h.distance → e.yard ≡ h.yard → e.kinds ≡ h.kinds → e ≡ h
+pub element-same : (e h : Element) → e.distance ≡ h.distance → e.yard ≡ h.yard → e.kinds ≡ h.kinds → e ≡ h
 element-same e h p q r = λ i. record { distance = p i; yard = q i; kinds = r i }
 
 -- ---- kinds

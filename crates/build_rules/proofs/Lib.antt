@@ -8,6 +8,7 @@ pub mod Cutting
 pub mod Steps
 pub mod Regions
 pub mod Described
+pub mod Sorting
 pub mod OneTree
 pub mod Records
 pub mod Shape

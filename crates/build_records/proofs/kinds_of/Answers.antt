@@ -1,6 +1,5 @@
 use native.Mathlib.Omega.{arith}
 use Rattle.build_records.proofs.Gathering.{gathering_start, gathering_turn, gathering_end}
-use Rattle.build_records.proofs.Numbered.{yards-few}
 use Rattle.build_records.proofs.kinds_of.Goals as goal
 
 pub loop-k-init : goal.loop-k-init
@@ -8,12 +7,6 @@ loop-k-init c = gathering_start _ _ _ c.requires
 
 pub kinds_at-requires : goal.kinds_at-requires
 kinds_at-requires c = let u = c.requires in (u.passes, omega (arith, c.loop-k-test.true, c.loop-k.invariant.low, u.most))
-
-pub overflow_add-k : goal.overflow_add-k
-overflow_add-k c = omega (arith, c.loop-k-test.true, yards-few _ _ _ c.requires)
-
-pub loop-k-smaller : goal.loop-k-smaller
-loop-k-smaller c = omega (arith, c.loop-k-test.true)
 
 pub loop-k-preserved : goal.loop-k-preserved
 loop-k-preserved c = gathering_turn _ _ _ c.requires _ _ _ _ c.loop-k.invariant c.loop-k-test.true c.kinds_at.ensures c.join-x.ensures

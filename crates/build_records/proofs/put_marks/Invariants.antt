@@ -1,6 +1,6 @@
 use mathlib.Core.Path.{◌≡◌}
 use mathlib.Core.List.{List}
-use Prim.Native.Nat.{ℕ, ◌-◌, ◌<◌}
+use Prim.Native.Nat.{ℕ, ◌<◌}
 use lib.ListN.{length}
 use Rattle.road_layout.specs.Road.{roads}
 use Rattle.adjacency.specs.Adjacency.{count_in, Adjacency}
@@ -15,7 +15,4 @@ abbrev pub invariant-loop-j : goal.invariant-loop-j
 invariant-loop-j l = (length l.row ≡ 1024) × (l.last.number < count_in l.adj → RowFrom l.adj l.row l.last.number)
     × ((road : List ℕ) (limit : ℕ) → Adjacency road l.adj
     → Marking (mark_bytes (given road l.yb l.m limit) l.yb l.p.from l.p.end l.children) l.size l.m l.p.start.number l.p.size
-    (borders (roads road) l.p.start.number l.p.size) l.initial.tree l.start l.tree l.at l.j)
-
-abbrev pub decreases-loop-j : goal.decreases-loop-j
-decreases-loop-j l = l.m - l.j
+    (borders (roads road) l.p.start.number l.p.size) l.initial.tree l.start l.tree l.j)

@@ -1,15 +1,15 @@
-use mathlib.Core.Path.{refl, sym}
-use Prim.Native.Nat.{◌≤◌}
 use native.Mathlib.Omega.{arith}
-use lib.Seq.{length-take-le}
 use Rattle.adjacency.proofs.Linking.{few-junctions}
 use Rattle.yard.proofs.YardLayout.{five}
 use Rattle.build_records.proofs.Numbered.{yards-few}
-use Rattle.build_records.proofs.Records.{part-few, fields_room, room, ends, record_written}
+use Rattle.build_records.proofs.Records.{fields_room, room, ends, record_written}
 use Rattle.build_records.proofs.put_record.Goals as goal
 
-pub border_list-c-requires : goal.border_list-c-requires
-border_list-c-requires c = let p = c.requires in (p.0.adjacency, omega (arith, p.0.inside, few-junctions p.0.adjacency.adjacent), refl)
+pub border_list-list-requires : goal.border_list-list-requires
+border_list-list-requires c =
+    let p = c.requires in
+    let n = few-junctions p.0.adjacency.adjacent in
+    (p.0.adjacency, omega (arith, p.0.inside, n), omega (arith, p.0.inside, n))
 
 pub version-v-requires : goal.version-v-requires
 version-v-requires c = five _ c.requires.0.yards.passes
@@ -32,26 +32,13 @@ put_fields-requires c = fields_room _ _ _ _ _ _ 0 c.version-v.ensures _ c.requir
 pub marks_at-start-requires : goal.marks_at-start-requires
 marks_at-start-requires c = omega (arith, fields_room _ _ _ _ _ _ 0 c.version-v.ensures _ c.requires.3, c.well_formed, c.ranges)
 
-pub slice_bounds-list-end : goal.slice_bounds-list-end
-slice_bounds-list-end c =
-    let p = c.requires in
-    let l = c.border_list-c in
-    omega (arith, l.ensures.count, l.auto, p.0.inside, few-junctions p.0.adjacency.adjacent)
-
-pub slice_bounds-put_marks-end : goal.slice_bounds-put_marks-end
-slice_bounds-put_marks-end c =
-    let p = c.requires in
-    let l = c.border_list-c in
-    sym (length-take-le _ _ (omega (arith, l.ensures.count, l.auto, p.0.inside, few-junctions p.0.adjacency.adjacent)))
-
 pub put_marks-requires : goal.put_marks-requires
 put_marks-requires c =
     let p = c.requires in
-    let l = c.border_list-c in
-    let few : l.result ≤ 1024 = omega (arith, l.ensures.count, p.0.inside, few-junctions p.0.adjacency.adjacent) in (
+    let l = c.border_list-list.ensures in (
       p.0,
-      l.ensures.list,
-      part-few _ _ few (omega (arith, few, l.auto)),
+      l.list,
+      omega (arith, l.count, p.0.inside, few-junctions p.0.adjacency.adjacent),
       p.1,
       p.2,
       room _ _ _ _ _ _ _ c.version-v.ensures _ _ c.marks_at-start.ensures p.3 (omega (arith, c.put_fields.auto)),

@@ -7,7 +7,7 @@ use Rattle.adjacency.specs.Adjacency.{Adjacency}
 use Rattle.adjacency.proofs.Chains.{ChainStep, chain_step, chain_done}
 use Rattle.build_rules.specs.Cut.{outside, is_border}
 use Rattle.build_records.proofs.Scanning.{border_begin, border_low, border_high, border_on}
-use Rattle.build_records.proofs.borders.is_border.Goals.{In-loop-x}
+use Rattle.build_records.proofs.borders.is_border.Goals.{In-loop-x, then-u-a-via-then-u-a, then-u-a-via-else-u-a+then-a-s}
 use Rattle.build_records.proofs.borders.is_border.Goals as goal
 
 -- what is known of the arc that the loop has come to, for any book
@@ -35,15 +35,15 @@ pub to-u-requires : goal.to-u-requires
 to-u-requires c = (c.requires.0.adjacent.size, (known c).some, (known c).inside)
 
 pub returns-then-u-a : goal.returns-then-u-a
-returns-then-u-a c = λ road a. sym ((facts (goal.at.returns-then-u-a c).In-loop-x road a).stop (border_low _ _ _ _ c.to-u.ensures (omega (arith, c.if-u-a.true))))
+returns-then-u-a c = λ road a.
+    let stop = (facts (goal.at.returns-then-u-a c).In-loop-x road a).stop in
+    elim c.then-u-a.branch [
+      | then-u-a-via-then-u-a w ↦ sym (stop (border_low _ _ _ _ c.to-u.ensures (omega (arith, w.if-u-a.true))))
+      | then-u-a-via-else-u-a+then-a-s w ↦ sym (stop (border_high _ _ _ _ c.to-u.ensures (omega (arith, w.if-a-s.true))))
+    ]
 
 pub overflow_add-a : goal.overflow_add-a
 overflow_add-a c = omega (arith, c.requires.2)
-
-pub returns-then-a-s : goal.returns-then-a-s
-returns-then-a-s c =
-    λ road a. sym ((facts (goal.at.returns-then-a-s c).In-loop-x road a).stop (border_high _ _ _ _ c.to-u.ensures
-    (omega (arith, c.if-a-s.true))))
 
 pub next-x-requires : goal.next-x-requires
 next-x-requires c = (

@@ -1,6 +1,6 @@
 use mathlib.Core.Path.{refl}
 use native.Mathlib.Omega.{arith}
-use Rattle.build_records.proofs.Numbered.{yard_read, yard-fits, yards-few}
+use Rattle.build_records.proofs.Numbered.{yard_read, yard-fits}
 use Rattle.build_records.proofs.Measuring.{measuring_start, measuring_turn, measuring_end}
 use Rattle.build_records.proofs.spans.measure.Goals as goal
 
@@ -14,9 +14,6 @@ bounds-row-first c =
       yard-fits _ _ _ c.requires.0 _ _ c.requires.1 c.yard_at-first.ensures,
       c.requires.2,
     )
-
-pub overflow_add-k : goal.overflow_add-k
-overflow_add-k c = omega (arith, c.requires.1, yards-few _ _ _ c.requires.0)
 
 pub loop-k-init : goal.loop-k-init
 loop-k-init c =
@@ -35,24 +32,12 @@ bounds-row-y c =
       c.requires.2,
     )
 
-pub overflow_add-k-in-loop-k : goal.overflow_add-k-in-loop-k
-overflow_add-k-in-loop-k c =
-    omega (
-      arith,
-      c.loop-k-test.true,
-      yards-few _ _ _
-          c.requires.0,
-    )
-
-pub loop-k-smaller : goal.loop-k-smaller
-loop-k-smaller c = omega (arith, c.loop-k-test.true)
-
 pub loop-k-preserved : goal.loop-k-preserved
 loop-k-preserved c =
     let h = c.loop-k-test.true in
     measuring_turn _ _ _ _ _ _ _ _ _ _ _ c.loop-k.invariant h (yard_read _ _ _
     c.requires.0 _ _ h
-    c.yard_at-y.ensures) refl c.lesser-low.ensures c.greater-high.ensures
+    c.yard_at-y.ensures) refl c.min-low.ensures c.max-high.ensures
 
 pub returns : goal.returns
 returns c = measuring_end _ _ _ _ _ _ _ c.loop-k.invariant c.loop-k-test.false
