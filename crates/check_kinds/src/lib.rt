@@ -12,7 +12,7 @@ ghost use Rattle.tree_layout.specs.Refusal.{all, tree_layout_refusal};
 ghost use Rattle.check_rules.specs.Truth.{within, kinds_element, kinds_list, kinds_beside_region, kinds_beside};
 
 use book::Junction;
-use tree_layout::{Fields, landmarks, records};
+use tree_layout::{Fields, every, landmarks, records};
 
 // A table of kinds has a place for each of 1,024 junctions.
 const JUNCTIONS: usize = 1024;
@@ -21,11 +21,7 @@ const JUNCTIONS: usize = 1024;
 fn kinds_of(table: &[u8], y: Junction) -> u8
     ensures { result ≡ get_or table.now y.number 0 }
 {
-    let i = y.number as usize;
-    if table.len() <= i {
-        return 0;
-    }
-    table[i]
+    table.get(y.number as usize).copied().unwrap_or(0)
 }
 
 // Whether each of n elements has its yard's kinds, by a table.
@@ -33,15 +29,7 @@ fn list_true(p: &[u8], v: u8, n: usize, table: &[u8]) -> bool
     requires { (n ≤ 65535) × (list_size v n ≤ length p.now) }
     ensures { result ≡ all (kinds_element (λ y. get_or table.now y 0)) (read_list v p.now n 0) }
 {
-    let mut k: usize = 0;
-    while k < n {
-        let e = records::element(p, v, k);
-        if e.kinds != kinds_of(table, e.yard) {
-            return false;
-        }
-        k += 1;
-    }
-    true
+    every::every_element(p, v, n, |e| e.kinds == kinds_of(table, e.yard))
 }
 
 // Whether the lists of a leaf's m landmarks have their yards' kinds, by the fields of its record.

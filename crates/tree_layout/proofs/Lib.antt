@@ -19,3 +19,4 @@ pub mod RecordFields
 pub mod RegionRecords
 pub mod Accessing
 pub mod FirstFailing
+pub mod EachPart

@@ -1,212 +1,160 @@
 -- The test of a landmark and of a region, from the fields that the reader finds. Assumes nothing.
-use mathlib.Core.Path.{◌≡◌, sym, ap, ◌∙◌}
-use mathlib.Core.Logic.{◌⊎◌, inl, inr}
-use mathlib.Core.Bool.{Bool, true, false}
+use mathlib.Core.Path.{◌≡◌, refl, sym, ap, ◌∙◌}
+use mathlib.Core.Bool.{Bool, true, false, ◌&&◌}
 use mathlib.Core.List.{List}
-use Prim.Native.Nat.{ℕ, ◌+◌, ◌*◌, ◌-◌, ◌≤◌, ◌<◌}
+use Prim.Native.Nat.{ℕ, ◌+◌, ◌≤◌, ◌<◌}
+use native.Mathlib.Decide.{ℕ_discrete}
 use native.Mathlib.Omega.{arith}
-use borrow.Author.Tests.{lt-ltb, le-ltb, le-leb, lt-leb, eq-eqb, ne_eqb}
-use lib.ListN.{length}
-use lib.Dec.{T, leb, eqb}
+use lib.ListN.{length, get_or}
+use lib.Dec.{leb, ltb, eqb, leb→le}
 use Rattle.book.specs.Choose.{choose}
 use Rattle.book.specs.Bytes.{u8_at, u16_at, u32_at}
 use Rattle.book.specs.Open.{version}
+use Rattle.book.proofs.Choosing.{choose_yes, choose_no, and_left, and_right, true_T}
+use Rattle.book.proofs.Lists.{eq→eqb, ne→neqb}
 use Rattle.kinds.specs.Kinds.{kind_at}
-use Rattle.tree_layout.specs.Sizes.{fields_size, leaf_mark_size}
-use Rattle.book.proofs.Choosing.{choose_yes, choose_no, true_T, false_T, lt-or_ge}
-use Rattle.tree_layout.specs.Values.{Element, Mark, Region, leaf_mark, inner_mark}
-use Rattle.tree_layout.specs.Decode.{read_list, list_part, read_lists, read_spans, read_marks, read_region, size_at}
-use Rattle.tree_layout.specs.Refusal.{all, element_ok, list_ok, mark_ok, children_ok, region_ok}
+use Rattle.tree_layout.specs.Values.{Mark, Region, leaf_mark, inner_mark, no_mark}
+use Rattle.tree_layout.specs.Sizes.{leaf_mark_size}
+use Rattle.tree_layout.specs.Decode.{read_list, list_part, read_region, mark_size, size_at}
+use Rattle.tree_layout.specs.Refusal.{all, list_ok, mark_ok, children_ok, region_ok}
 use Rattle.tree_layout.specs.Reading.{bounded}
-use Rattle.tree_layout.specs.code.Accessors.{fields_at}
+use Rattle.tree_layout.specs.code.Accessors.{fields_at, fields_ok}
+use Rattle.tree_layout.specs.code.Marks.{mark_place, mark_at}
 use Rattle.tree_layout.specs.declared.Fields.{Fields}
-use Rattle.tree_layout.proofs.Places.{mark_size-leaf, mark_size-inner, size-at}
-use Rattle.tree_layout.proofs.Turns.{all_same}
-
--- ---- an element
-
-pub element-far : (e : Element) → 67042305 < e.distance → element_ok e ≡ false
-unfolding element_ok
-element-far e h = simp lt-leb
-
--- within the limit, the test is whether there is a kind
-pub element-near : (e : Element) (ok : Bool) → e.distance ≤ 67042305 → (T ok → 1 ≤ e.kinds) → (1 ≤ e.kinds → T ok) → ok ≡ element_ok e
-unfolding element_ok
-element-near e true h f g = let k = f tt in simp le-leb
-element-near e false h f g = let k : e.kinds < 1 = fewer (lt-or_ge e.kinds 1) in simp (le-leb, lt-leb)
-  where
-    fewer : (e.kinds < 1) ⊎ (1 ≤ e.kinds) → e.kinds < 1
-    fewer (inl l) = l
-    fewer (inr l) = absurd (g l)
+use Rattle.tree_layout.proofs.EachPart.{mark-inside}
+use Rattle.tree_layout.proofs.MarkFields.{leaf-pairs, inner-least, inner-greatest}
+use Rattle.tree_layout.proofs.MarkPlaces.{list_mark, span_mark, leaf_mark_at, inner_mark_at}
+use Rattle.tree_layout.proofs.Places.{mark_size-leaf, mark_size-inner}
+use Rattle.tree_layout.proofs.Sizes.{leaf_mark_are}
+use Rattle.tree_layout.proofs.Reading.{region_first, region_after, region_children, region_yards, region_kinds}
 
 -- ---- a landmark
 
-module _ (r : Region) (k : Mark) (place : ℕ) (e : place ≡ k.place) where
-  -- before the range
-  mark_low : place < r.first → mark_ok r k ≡ false
-  unfolding mark_ok
-  mark_low h = simp (← e, lt-leb)
+and_assoc : (a b c : Bool) → (a && (b && c)) ≡ ((a && b) && c)
+and_assoc true b c = refl
+and_assoc false b c = refl
 
-  -- after the range
-  mark_high : r.first ≤ place → r.after ≤ place → mark_ok r k ≡ false
+module _ (r : Region) (k : Mark) (place : ℕ) (e : place ≡ k.place) where
+  split : mark_ok r k ≡ ((leb r.first place && ltb place r.after) && choose (eqb r.children 0) (list_ok k.list) (leb k.least k.greatest))
   unfolding mark_ok
-  mark_high h l = simp (← e, le-leb, le-ltb)
+  split = rw e (and_assoc (leb r.first k.place) (ltb k.place r.after) _)
+
+  -- outside the range
+  pub mark-outside : (leb r.first place && ltb place r.after) ≡ false → mark_ok r k ≡ false
+  mark-outside h = split ∙ simp h
 
   -- in the range: the list, or least and greatest, decide
-  mark_in : r.first ≤ place → place < r.after → mark_ok r k ≡ choose (eqb r.children 0) (list_ok k.list) (leb k.least k.greatest)
-  unfolding mark_ok
-  mark_in h l = simp (← e, le-leb)
+  pub mark-within : (leb r.first place && ltb place r.after) ≡ true → mark_ok r k ≡ choose (eqb r.children 0) (list_ok k.list) (leb k.least k.greatest)
+  mark-within h = split ∙ simp h
 
--- the landmark of a leaf
-module _ (b : List ℕ) (at first end yards place : ℕ) (e : place ≡ u16_at b at) where
-  pub leaf-low : place < first → mark_ok (bounded first end 0) (leaf_mark (u16_at b at) (read_list (version b) (list_part (version b) b yards (at + 2)) yards 0)) ≡ false
-  unfolding leaf_mark
-  leaf-low h = mark_low _ _ place e h
+-- the landmark at a place, of a region with so many children and yards
+module _ (b : List ℕ) (children yards at : ℕ) where
+  pub leaf-at : children ≡ 0 → mark_at b children yards at ≡ list_mark b yards at
+  unfolding mark_at
+  leaf-at z = choose_yes (eqb children 0) _ _ (eq→eqb children 0 z)
 
-  pub leaf-high : first ≤ place → end ≤ place → mark_ok (bounded first end 0) (leaf_mark (u16_at b at) (read_list (version b) (list_part (version b) b yards (at + 2)) yards 0)) ≡ false
-  unfolding leaf_mark
-  leaf-high h l = mark_high _ _ place e h l
+  pub inner-at : (children ≡ 0 → ⊥) → mark_at b children yards at ≡ span_mark b at
+  unfolding mark_at
+  inner-at z = choose_no (eqb children 0) _ _ (ne→neqb children 0 z)
 
-  -- the list that is handed on is the book's part of so many elements
-  pub leaf-list : first ≤ place → place < end → (v : ℕ) (p : List ℕ) → v ≡ version b → p ≡ list_part (version b) b yards (at + 2)
-      → (ok : Bool) → ok ≡ list_ok (read_list v p yards 0)
-      → ok ≡ mark_ok (bounded first end 0) (leaf_mark (u16_at b at) (read_list (version b) (list_part (version b) b yards (at + 2)) yards 0))
-  unfolding leaf_mark
-  leaf-list h l v p ev ep ok f =
-      let g : ok ≡ list_ok (read_list (version b) (list_part (version b) b yards (at + 2)) yards 0) = rw (← ep, ← ev) f in
-      g ∙ sym (mark_in (bounded first end 0) _ place e h l ∙ choose_yes (eqb 0 0) _ _ tt)
-
--- the landmark of an inner region
-module _ (b : List ℕ) (at first end place : ℕ) (e : place ≡ u16_at b at) where
-  pub inner-low : place < first → mark_ok (bounded first end 1) (inner_mark (u16_at b at) (u32_at b (at + 2)) (u32_at b (at + 6))) ≡ false
-  unfolding inner_mark
-  inner-low h = mark_low _ _ place e h
-
-  pub inner-high : first ≤ place → end ≤ place → mark_ok (bounded first end 1) (inner_mark (u16_at b at) (u32_at b (at + 2)) (u32_at b (at + 6))) ≡ false
-  unfolding inner_mark
-  inner-high h l = mark_high _ _ place e h l
-
-  pub inner-span : first ≤ place → place < end → (least greatest : ℕ) → least ≡ u32_at b (at + 2) → greatest ≡ u32_at b (at + 6)
-      → leb least greatest ≡ mark_ok (bounded first end 1) (inner_mark (u16_at b at) (u32_at b (at + 2)) (u32_at b (at + 6)))
-  unfolding inner_mark
-  inner-span h l least greatest f g =
-      rw (f, g) (sym (mark_in (bounded first end 1) _ place e h l ∙ choose_no (eqb 1 0) _ _ tt))
-
--- the test looks at the range, and whether there are children
-mark_as : (r s : Region) → r.first ≡ s.first → r.after ≡ s.after → eqb r.children 0 ≡ eqb s.children 0 → (k : Mark) → mark_ok r k ≡ mark_ok s k
-unfolding mark_ok
-mark_as r s e f g k = simp (e, f, g)
-
--- ---- a region
-
-module _ (j : ℕ) (r : Region) where
-  empty : r.after ≤ r.first → region_ok j r ≡ false
-  unfolding region_ok
-  empty h = simp le-ltb
-
-  module _ (h : r.first < r.after) where
-    past : j < r.after → region_ok j r ≡ false
-    unfolding region_ok
-    past l = simp (lt-ltb, lt-leb)
-
-    module _ (l : r.after ≤ j) where
-      other-children : children_ok r.children ≡ false → region_ok j r ≡ false
-      unfolding region_ok
-      other-children c = simp (lt-ltb, le-leb, c)
-
-      module _ (c : children_ok r.children ≡ true) where
-        no_yards : r.yards < 1 → region_ok j r ≡ false
-        unfolding region_ok
-        no_yards y = simp (lt-ltb, le-leb, c, lt-leb)
-
-        module _ (y : 1 ≤ r.yards) where
-          no_kinds : r.kinds < 1 → region_ok j r ≡ false
-          unfolding region_ok
-          no_kinds k = simp (lt-ltb, le-leb, c, lt-leb)
-
-          marks_decide : 1 ≤ r.kinds → region_ok j r ≡ all (mark_ok r) r.marks
-          unfolding region_ok
-          marks_decide k = simp (lt-ltb, le-leb, c)
-
--- the region at a place, with its fields as the reader finds them
-module _ (b : List ℕ) (m at j : ℕ) (f : Fields) (e : f ≡ fields_at b at) where
-  e1 : f.first.number ≡ u16_at b at
-  e1 = ap (λ (x : Fields). x.first.number) e
-
-  e2 : f.after ≡ u16_at b (at + 2)
-  e2 = ap (λ (x : Fields). x.after) e
-
-  e3 : f.children ≡ u8_at b (at + 4)
-  e3 = ap (λ (x : Fields). x.children) e
-
-  e4 : f.yards ≡ u16_at b (at + 5)
-  e4 = ap (λ (x : Fields). x.yards) e
-
-  e5 : f.kinds ≡ kind_at (version b) b (at + 7)
-  e5 = ap (λ (x : Fields). x.kinds) e
-
-  pub region_empty : f.after ≤ f.first.number → region_ok j (read_region b m at) ≡ false
-  unfolding read_region
-  region_empty h = empty _ _ (omega (arith, e1, e2))
-
-  module _ (h : f.first.number < f.after) where
-    pub region_past : j < f.after → region_ok j (read_region b m at) ≡ false
-    unfolding read_region
-    region_past l = past _ _ (omega (arith, e1, e2)) (omega (arith, e2))
-
-    module _ (l : f.after ≤ j) where
-      pub region_children : children_ok f.children ≡ false → region_ok j (read_region b m at) ≡ false
-      unfolding read_region
-      region_children c = other-children _ _ (omega (arith, e1, e2)) (omega (arith, e2)) (rw (← e3) c)
-
-      module _ (c : children_ok f.children ≡ true) where
-        pub region_none : f.yards < 1 → region_ok j (read_region b m at) ≡ false
-        unfolding read_region
-        region_none y = no_yards _ _ (omega (arith, e1, e2)) (omega (arith, e2)) (rw (← e3) c) (omega (arith, e4))
-
-        module _ (y : 1 ≤ f.yards) where
-          pub region_kindless : f.kinds < 1 → region_ok j (read_region b m at) ≡ false
-          unfolding read_region
-          region_kindless k = no_kinds _ _ (omega (arith, e1, e2)) (omega (arith, e2)) (rw (← e3) c) (omega (arith, e4)) (omega (arith, e5))
-
-          module _ (k : 1 ≤ f.kinds) where
-            marks : region_ok j (read_region b m at) ≡ all (mark_ok (read_region b m at)) (read_marks b m f.children f.yards (at + fields_size (version b)))
-            unfolding read_region
-            marks =
-                rw (e3, e4) (marks_decide j (read_region b m at) (omega (arith, e1, e2)) (omega (arith, e2)) (rw (← e3) c) (omega (arith, e4)) (omega (arith, e5)))
-
-            pub region_leaf : f.children ≡ 0
-                → region_ok j (read_region b m at) ≡ all (mark_ok (bounded f.first.number f.after 0)) (read_lists b f.yards m (at + fields_size (version b)))
-            unfolding read_region read_marks
-            region_leaf z =
-                marks
-                ∙ ap (λ (x : List Mark). all (mark_ok (read_region b m at)) x) (choose_yes (eqb f.children 0) _ _ (true_T (eq-eqb _ _ z)))
-                ∙ all_same _ _ _ (mark_as _ _ (sym e1) (sym e2) (eq-eqb _ _ (sym e3 ∙ z)))
-
-            pub region_inner : (f.children ≡ 0 → ⊥)
-                → region_ok j (read_region b m at) ≡ all (mark_ok (bounded f.first.number f.after 1)) (read_spans b m (at + fields_size (version b)))
-            unfolding read_region read_marks
-            region_inner z =
-                marks
-                ∙ ap (λ (x : List Mark). all (mark_ok (read_region b m at)) x) (choose_no (eqb f.children 0) _ _ (false_T (ne_eqb _ _ z)))
-                ∙ all_same _ _ _ (mark_as _ _ (sym e1) (sym e2) (ne_eqb _ _ (λ q. z (e3 ∙ q))))
-
--- a record that lies in the book has room for its landmarks
-module _ (b : List ℕ) (m at : ℕ) (f : Fields) (e : f ≡ fields_at b at) where
-  pub leaf_room : f.children ≡ 0 → at + size_at b m at ≤ length b → (at + fields_size (version b)) + m * leaf_mark_size (version b) f.yards ≤ length b
-  leaf_room z h =
-      let s = mark_size-leaf (version b) f.children f.yards z in
-      let t : size_at b m at ≡ fields_size (version b) + m * leaf_mark_size (version b) f.yards =
-      rw (← s, children-is, yards-is) (size-at b m at) in
-      omega (arith, h, t)
+  pub place-at : (mark_at b children yards at).place ≡ u16_at b at
+  unfolding mark_at choose leaf_mark inner_mark
+  place-at = go (eqb children 0)
     where
-      children-is : f.children ≡ u8_at b (at + 4)
-      children-is = ap (λ (x : Fields). x.children) e
+      go : (t : Bool) → (choose t (list_mark b yards at) (span_mark b at)).place ≡ u16_at b at
+      go true = refl
+      go false = refl
 
-      yards-is : f.yards ≡ u16_at b (at + 5)
-      yards-is = ap (λ (x : Fields). x.yards) e
+-- its bytes
+module _ (v children yards : ℕ) where
+  pub leaf-size : children ≡ 0 → mark_size v children yards ≡ leaf_mark_size v yards
+  leaf-size z = mark_size-leaf v children yards z
 
-  pub inner_room : (f.children ≡ 0 → ⊥) → at + size_at b m at ≤ length b → (at + fields_size (version b)) + m * 10 ≤ length b
-  inner_room z h =
-      let s = mark_size-inner (version b) (u8_at b (at + 4)) (u16_at b (at + 5)) (omega (arith, z, ap (λ (x : Fields). x.children) e)) in
-      omega (arith, h, size-at b m at, ap (λ (x : ℕ). m * x) s)
+  pub inner-size : (children ≡ 0 → ⊥) → mark_size v children yards ≡ 10
+  inner-size z = mark_size-inner v children yards (omega arith)
+
+  -- at least its junction's
+  pub least-size : 2 ≤ mark_size v children yards
+  least-size = go (ℕ_discrete children 0)
+    where
+      go : Dec (children ≡ 0) → 2 ≤ mark_size v children yards
+      go (yes z) = omega (arith, leaf-size z, leaf_mark_are v yards)
+      go (no z) = omega (arith, inner-size z)
+
+-- the test of the landmark at a place, in the range of its region
+module _ (b : List ℕ) (f : Fields) (at place : ℕ) (e : place ≡ u16_at b at) where
+  abbrev r : Region
+  r = bounded f.first.number f.after f.children
+
+  abbrev k : Mark
+  k = mark_at b f.children f.yards at
+
+  own : place ≡ k.place
+  own = e ∙ sym (place-at b f.children f.yards at)
+
+  pub test-outside : (leb f.first.number place && ltb place f.after) ≡ false → mark_ok r k ≡ false
+  test-outside h = mark-outside r k place own h
+
+  module _ (h : (leb f.first.number place && ltb place f.after) ≡ true) where
+    pub test-list : f.children ≡ 0 → (v : ℕ) (p : List ℕ) → v ≡ version b → p ≡ list_part (version b) b f.yards (at + 2)
+        → (ok : Bool) → ok ≡ list_ok (read_list v p f.yards 0) → ok ≡ mark_ok r k
+    test-list z v p ev ep ok g =
+        let s : k.list ≡ read_list v p f.yards 0 = rw (leaf-at b f.children f.yards at z, ev, ep) (leaf-pairs _ _) in
+        g ∙ ap list_ok (sym s) ∙ sym (mark-within r k place own h ∙ choose_yes (eqb f.children 0) _ _ (eq→eqb f.children 0 z))
+
+    pub test-span : (f.children ≡ 0 → ⊥) → (least greatest : ℕ) → least ≡ u32_at b (at + 2) → greatest ≡ u32_at b (at + 6)
+        → leb least greatest ≡ mark_ok r k
+    test-span z least greatest l g =
+        let s : k.least ≡ least = rw (inner-at b f.children f.yards at z, l) (inner-least _ _ _) in
+        let t : k.greatest ≡ greatest = rw (inner-at b f.children f.yards at z, g) (inner-greatest _ _ _) in
+        rw (← s, ← t) (sym (mark-within r k place own h ∙ choose_no (eqb f.children 0) _ _ (ne→neqb f.children 0 z)))
+
+-- ---- a region, by the fields of its record
+
+and_apart : (a b c d e g : Bool) → (a && (b && (c && (d && (e && g))))) ≡ ((a && (b && (c && (d && e)))) && g)
+and_apart true true true true e g = refl
+and_apart true true true false e g = refl
+and_apart true true false d e g = refl
+and_apart true false c d e g = refl
+and_apart false b c d e g = refl
+
+module _ (b : List ℕ) (m at j : ℕ) (f : Fields) (e : f ≡ fields_at b at) where
+  parts : region_ok j (read_region b m at) ≡ (fields_ok j f && all (mark_ok (read_region b m at)) (read_region b m at).marks)
+  unfolding region_ok
+  parts =
+      rw (e, region_first b m at, region_after b m at, region_children b m at, region_yards b m at, region_kinds b m at)
+      (and_apart (ltb (u16_at b at) (u16_at b (at + 2))) (leb (u16_at b (at + 2)) j) (children_ok (u8_at b (at + 4))) (leb 1 (u16_at b (at + 5))) (leb 1 (kind_at (version b) b (at + 7))) _)
+
+  -- the fields are out of their ranges
+  pub region-out : fields_ok j f ≡ false → region_ok j (read_region b m at) ≡ false
+  region-out h = parts ∙ simp h
+
+  -- they are in them: the landmarks decide
+  pub region-in : fields_ok j f ≡ true → region_ok j (read_region b m at) ≡ all (mark_ok (read_region b m at)) (read_region b m at).marks
+  region-in h = parts ∙ simp h
+
+  -- and a region of these fields has some yards
+  pub some-yards : fields_ok j f ≡ true → 1 ≤ f.yards
+  some-yards h = leb→le 1 f.yards (and_left (leb 1 f.yards) _ (and_right (children_ok f.children) _ (and_right (leb f.after j) _ (and_right (ltb f.first.number f.after) _ (true_T h)))))
+
+  module _ (i : ℕ) (h : i < m) where
+    -- landmark i is the one that stands at its place, and lies in the book
+    mark-number : get_or (read_region b m at).marks i no_mark ≡ mark_at b f.children f.yards (mark_place b at i)
+    unfolding mark_place
+    mark-number = go (ℕ_discrete (u8_at b (at + 4)) 0)
+      where
+        go : Dec (u8_at b (at + 4) ≡ 0)
+            → get_or (read_region b m at).marks i no_mark ≡ mark_at b f.children f.yards (mark_place b at i)
+        go (yes z) = rw e (leaf_mark_at b m at i (mark_place b at i) no_mark h refl z ∙ sym (leaf-at b (u8_at b (at + 4)) (u16_at b (at + 5)) (mark_place b at i) z))
+        go (no z) = rw e (inner_mark_at b m at i (mark_place b at i) no_mark h refl (omega arith) ∙ sym (inner-at b (u8_at b (at + 4)) (u16_at b (at + 5)) (mark_place b at i) z))
+
+    pub mark-room : at + size_at b m at ≤ length b → mark_place b at i + mark_size (version b) f.children f.yards ≤ length b
+    unfolding mark_place
+    mark-room s = rw e (mark-inside b at m s i h (mark_size (version b) (u8_at b (at + 4)) (u16_at b (at + 5))) refl)
+
+    -- its test is the region's
+    pub mark-told : (r : Bool) → r ≡ mark_ok (bounded f.first.number f.after f.children) (mark_at b f.children f.yards (mark_place b at i))
+        → r ≡ mark_ok (read_region b m at) (get_or (read_region b m at).marks i no_mark)
+    unfolding mark_ok
+    mark-told r g =
+        g ∙ rw (mark-number, e, region_first b m at, region_after b m at, region_children b m at) refl

@@ -1,12 +1,12 @@
 -- Each test of a tree book, one turn of a loop at a time: with k of n turns done, n - k are left. Assumes nothing.
-use mathlib.Core.Path.{◌≡◌, refl}
+use mathlib.Core.Path.{◌≡◌, refl, ◌∙◌}
 use mathlib.Core.Bool.{Bool, true, false, ◌&&◌}
 use mathlib.Core.List.{List, [], ◌∷◌}
-use Prim.Native.Nat.{ℕ, suc, ◌+◌, ◌*◌, ◌-◌, ◌≤◌, ◌<◌}
+use Prim.Native.Nat.{ℕ, zero, suc, ◌+◌, ◌*◌, ◌-◌, ◌≤◌, ◌<◌}
 use native.Mathlib.Nat.{suc-mul}
 use native.Mathlib.Omega.{arith}
 use borrow.Author.Tests.{le-leb, lt-leb}
-use lib.ListN.{length}
+use lib.ListN.{length, get_or, drop, drop_of_length-le}
 use lib.Dec.{T, leb, eqb, leb→le}
 use Rattle.book.specs.Bytes.{u16_at, u32_at}
 use Rattle.book.specs.Open.{version}
@@ -15,7 +15,6 @@ use Rattle.book.proofs.Choosing.{and_left, and_right, true_T, T_true}
 use Rattle.tree_layout.specs.Values.{Element, Mark, Region, leaf_mark, inner_mark}
 use Rattle.tree_layout.specs.Decode.{element_at, read_list, list_part, read_lists, read_spans, read_region, read_regions, size_at}
 use Rattle.tree_layout.specs.Refusal.{all, records_ok, element_ok, comes, rises_from, list_rises, list_ok}
-use Rattle.tree_layout.specs.Reading.{element}
 use Rattle.tree_layout.proofs.Reading.{all_none, list_on, list-none, lists-turn, lists-none}
 use Rattle.tree_layout.proofs.Sizes.{list-zero}
 
@@ -66,21 +65,34 @@ unfolding all
 all_same f g [] h = refl
 all_same f g (x ∷ xs) h = simp (h x, all_same f g xs h)
 
+-- what is left of a list from place k on
+pub drop-next : {A : Type 0} (l : List A) (d : A) (k : ℕ) → k < length l → drop k l ≡ get_or l k d ∷ drop (k + 1) l
+drop-next [] d k h = absurd (omega arith)
+drop-next (x ∷ l) d zero h = refl
+drop-next (x ∷ l) d (suc k) h =
+    let e : suc k + 1 ≡ suc (k + 1) = omega arith in
+    drop-next l d k (omega arith) ∙ rw e refl
+
+module _ {A : Type 0} (f : A → Bool) (xs : List A) (d : A) (k : ℕ) where
+  -- the member passes: the later ones decide
+  pub all_goes : k < length xs → f (get_or xs k d) ≡ true → all f (drop (k + 1) xs) ≡ all f (drop k xs)
+  all_goes h e = rw (drop-next xs d k h) (all_on f _ _ e)
+
+  pub all_stops : k < length xs → f (get_or xs k d) ≡ false → all f (drop k xs) ≡ false
+  all_stops h e = rw (drop-next xs d k h) (all_off f _ _ e)
+
+pub all-ends : {A : Type 0} (f : A → Bool) (xs : List A) (k : ℕ) → length xs ≤ k → all f (drop k xs) ≡ true
+all-ends f xs k h = rw (drop_of_length-le xs h) (all_none f)
+
 -- ---- a list
 
 and_false : (a : Bool) → (a && false) ≡ false
 and_false true = refl
 and_false false = refl
 
--- what is left of a list's test after an element of this distance and yard
-unfoldable pub list_rest : ℕ → ℕ → List Element → Bool
-list_rest d y es = all element_ok es && rises_from (element d y 0) es
-
--- the order looks at distances and yards alone
-rises_as : (e : Element) (es : List Element) → rises_from (element e.distance e.yard 0) es ≡ rises_from e es
-unfolding rises_from comes
-rises_as e [] = refl
-rises_as e (g ∷ gs) = refl
+-- what is left of a list's test after an element
+unfoldable pub list_rest : Element → List Element → Bool
+list_rest e es = all element_ok es && rises_from e es
 
 module _ (v : ℕ) (p : List ℕ) (n : ℕ) (h : 1 ≤ n) (x : Element) (e : x ≡ element_at v p (list_size v 0)) where
   first : read_list v p n 0 ≡ x ∷ read_list v p (n - 1) (list_size v 1)
@@ -94,30 +106,30 @@ module _ (v : ℕ) (p : List ℕ) (n : ℕ) (h : 1 ≤ n) (x : Element) (e : x �
   unfolding list_ok all
   list_bad o = rw first (simp o)
 
-  pub list_start : element_ok x ≡ true → list_rest x.distance x.yard (read_list v p (n - 1) (list_size v 1)) ≡ list_ok (read_list v p n 0)
+  pub list_start : element_ok x ≡ true → list_rest x (read_list v p (n - 1) (list_size v 1)) ≡ list_ok (read_list v p n 0)
   unfolding list_rest list_ok list_rises all
-  list_start o = rw first (simp (o, rises_as x))
+  list_start o = rw first (simp o)
 
-module _ (v : ℕ) (p : List ℕ) (n k d y : ℕ) (h : k < n) (x : Element) (e : x ≡ element_at v p (list_size v k)) where
+module _ (v : ℕ) (p : List ℕ) (n k : ℕ) (last : Element) (h : k < n) (x : Element) (e : x ≡ element_at v p (list_size v k)) where
   split : read_list v p (n - k) (list_size v k) ≡ x ∷ read_list v p (n - (k + 1)) (list_size v (k + 1))
   split = rw e (list_on v p n k h)
 
-  pub list-limit : element_ok x ≡ false → list_rest d y (read_list v p (n - k) (list_size v k)) ≡ false
+  pub list-limit : element_ok x ≡ false → list_rest last (read_list v p (n - k) (list_size v k)) ≡ false
   unfolding list_rest all
   list-limit o = rw split (simp o)
 
-  pub list-order : comes (element d y 0) x ≡ false → list_rest d y (read_list v p (n - k) (list_size v k)) ≡ false
+  pub list-order : comes last x ≡ false → list_rest last (read_list v p (n - k) (list_size v k)) ≡ false
   unfolding list_rest rises_from
   list-order c = rw split (simp (c, and_false))
 
-  pub list-next : element_ok x ≡ true → comes (element d y 0) x ≡ true
-      → list_rest x.distance x.yard (read_list v p (n - (k + 1)) (list_size v (k + 1))) ≡ list_rest d y (read_list v p (n - k) (list_size v k))
+  pub list-next : element_ok x ≡ true → comes last x ≡ true
+      → list_rest x (read_list v p (n - (k + 1)) (list_size v (k + 1))) ≡ list_rest last (read_list v p (n - k) (list_size v k))
   unfolding list_rest all rises_from
-  list-next o c = rw split (simp (o, c, rises_as x))
+  list-next o c = rw split (simp (o, c))
 
-pub list-end : (v : ℕ) (p : List ℕ) (n k d y : ℕ) → n ≤ k → list_rest d y (read_list v p (n - k) (list_size v k)) ≡ true
+pub list-end : (v : ℕ) (p : List ℕ) (n k : ℕ) (last : Element) → n ≤ k → list_rest last (read_list v p (n - k) (list_size v k)) ≡ true
 unfolding list_rest all rises_from
-list-end v p n k d y h = rw (list-none v p n k (list_size v k) h) refl
+list-end v p n k last h = rw (list-none v p n k (list_size v k) h) refl
 
 -- ---- a leaf's landmarks
 

@@ -1,3 +1,4 @@
 pub mod Accessors
 pub mod Formed
 pub mod Marks
+pub mod Every

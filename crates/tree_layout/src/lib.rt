@@ -1,16 +1,16 @@
 #![tactic(auto)]
 // The tree book's layout: tests 1 to 5 and the header.
+pub mod every; // every.rt: a test of each of a tree book's parts
 pub mod landmarks; // landmarks.rt: a region's landmarks
 pub mod records; // records.rt: where a tree book's fields stand
 
 ghost use Rattle.std.specs.Prelude.{◌≡◌, true, ℕ, ◌+◌, ◌*◌, ◌≤◌, length};
 ghost use Rattle.book.specs.Bytes.{u16_at, u32_at};
 ghost use Rattle.book.specs.Open.{version};
-ghost use Rattle.tree_layout.specs.Values.{leaf_mark, inner_mark};
-ghost use Rattle.tree_layout.specs.Sizes.{header_size, fields_size, junction_size, list_size, leaf_mark_size};
-ghost use Rattle.tree_layout.specs.Sizes.{inner_mark_size};
-ghost use Rattle.tree_layout.specs.Decode.{read_list, list_part, read_lists, read_spans};
-ghost use Rattle.tree_layout.specs.Decode.{read_region, read_regions, size_at};
+ghost use Rattle.tree_layout.specs.Sizes.{header_size, fields_size, list_size};
+ghost use Rattle.tree_layout.specs.Decode.{read_list, mark_size, read_region, read_regions, size_at};
+ghost use Rattle.tree_layout.specs.code.Accessors.{fields_ok};
+ghost use Rattle.tree_layout.specs.code.Marks.{mark_at};
 ghost use Rattle.tree_layout.specs.Refusal.{between, all, records_ok, element_ok, comes, list_ok};
 ghost use Rattle.tree_layout.specs.Refusal.{mark_ok, children_ok, region_ok, tree_layout_refusal};
 ghost use Rattle.tree_layout.specs.Reading.{element, bounded, header_of, tree_book, layout_number};
@@ -89,13 +89,11 @@ pub fn number(o: TreeBook) -> u8
 }
 
 // Whether low ≤ x ≤ high.
+#[tactic(auto, unfolding(crate::specs::Refusal::between))]
 fn within(low: u16, high: u16, x: u16) -> bool
     ensures { result ≡ between low high x }
 {
-    if x < low {
-        return false;
-    }
-    x <= high
+    (low..=high).contains(&x)
 }
 
 // The bytes of the record at a place, by its own fields.
@@ -114,8 +112,7 @@ fn records_ok(b: &[u8], m: usize, n: usize) -> bool
     let len = b.len();
     let fields = records::fields_size(book::version(b));
     let mut at = records::FIRST_RECORD;
-    let mut k: usize = 0;
-    while k < n {
+    for _ in 0..n {
         if len - at < fields {
             return false;
         }
@@ -124,32 +121,25 @@ fn records_ok(b: &[u8], m: usize, n: usize) -> bool
             return false;
         }
         at += size;
-        k += 1;
     }
     at == len
 }
 
-// Whether the pair (distance, yard) comes after the pair (d, y).
-fn after(d: u32, y: Junction, distance: u32, yard: Junction) -> bool
-    ensures { (j k : ℕ) → result ≡ comes (element d y.number j) (element distance yard.number k) }
+// Whether element e comes before element g: by distance, and then by yard.
+#[tactic(auto, unfolding(crate::specs::Refusal::comes))]
+fn comes(e: Listed, g: Listed) -> bool
+    ensures { result ≡ comes (element e.distance e.yard.number e.kinds)
+        (element g.distance g.yard.number g.kinds) }
 {
-    if d < distance {
-        return true;
-    }
-    if d != distance {
-        return false;
-    }
-    y.number < yard.number
+    (e.distance, e.yard.number) < (g.distance, g.yard.number)
 }
 
 // Whether an element's distance is within its limit, and its yard has a kind.
+#[tactic(auto, unfolding(crate::specs::Refusal::element_ok))]
 fn element_ok(e: Listed) -> bool
     ensures { result ≡ element_ok (element e.distance e.yard.number e.kinds) }
 {
-    if 67042305 < e.distance {
-        return false;
-    }
-    1 <= e.kinds
+    e.distance <= 67042305 && 1 <= e.kinds
 }
 
 // Whether the values of n elements are in their ranges, and the elements rise.
@@ -157,108 +147,55 @@ fn list_ok(p: &[u8], v: u8, n: usize) -> bool
     requires { (1 ≤ n) × (n ≤ 65535) × (list_size v n ≤ length p.now) }
     ensures { result ≡ list_ok (read_list v p.now n 0) }
 {
-    let first = records::element(p, v, 0);
-    if !element_ok(first) {
+    let mut last = records::element(p, v, 0);
+    if !element_ok(last) {
         return false;
     }
-    let mut d = first.distance;
-    let mut y = first.yard;
-    let mut k: usize = 1;
-    while k < n {
+    for k in 1..n {
         let e = records::element(p, v, k);
-        if !element_ok(e) {
+        if !element_ok(e) || !comes(last, e) {
             return false;
         }
-        if !after(d, y, e.distance, e.yard) {
-            return false;
-        }
-        d = e.distance;
-        y = e.yard;
-        k += 1;
+        last = e;
     }
     true
 }
 
-// Whether the landmark at a place is good for a leaf with this range and so many yards.
-fn leaf_mark_ok(b: &[u8], at: usize, first: u16, end: u16, yards: usize) -> bool
-    requires { (1 ≤ yards) × (yards ≤ 65535) × (header_size ≤ length b.now)
-        × (at + leaf_mark_size (version b.now) yards ≤ length b.now) }
-    ensures { result ≡ mark_ok (bounded first end 0) (leaf_mark (u16_at b.now at)
-        (read_list (version b.now)
-        (list_part (version b.now) b.now yards (at + junction_size)) yards 0)) }
+// Whether the landmark at a place is good for a region with these fields: it lies in their range, and a leaf's list is
+// good, or an inner region's least is not above its greatest.
+fn mark_ok(b: &[u8], at: usize, f: Fields) -> bool
+    requires { (1 ≤ f.yards) × (header_size ≤ length b.now)
+        × (at + mark_size (version b.now) f.children f.yards ≤ length b.now) }
+    ensures { result ≡ mark_ok (bounded f.first.number f.after f.children)
+        (mark_at b.now f.children f.yards at) }
 {
-    let place = book::u16_at(b, at);
-    if place < first {
+    if !(f.first.number..f.after).contains(&book::u16_at(b, at)) {
         return false;
     }
-    if end <= place {
-        return false;
-    }
-    list_ok(records::list(b, at, yards), book::version(b), yards)
-}
-
-// Whether the landmark at a place is good for an inner region with this range.
-fn inner_mark_ok(b: &[u8], at: usize, first: u16, end: u16) -> bool
-    requires { at + inner_mark_size ≤ length b.now }
-    ensures { result ≡ mark_ok (bounded first end 1)
-        (inner_mark (u16_at b.now at) (u32_at b.now (at + 2)) (u32_at b.now (at + 6))) }
-{
-    let place = book::u16_at(b, at);
-    if place < first {
-        return false;
-    }
-    if end <= place {
-        return false;
+    if f.children == 0 {
+        let yards = f.yards as usize;
+        return list_ok(records::list(b, at, yards), book::version(b), yards);
     }
     book::u32_at(b, at + 2) <= book::u32_at(b, at + 6)
 }
 
-// Whether m landmarks from a place on are good for a leaf with this range and so many yards.
-fn lists_ok(b: &[u8], start: usize, m: usize, first: u16, end: u16, yards: usize) -> bool
-    requires { (1 ≤ yards) × (yards ≤ 65535) × (header_size ≤ length b.now)
-        × (start + m * leaf_mark_size (version b.now) yards ≤ length b.now) }
-    ensures { result ≡ all (mark_ok (bounded first end 0)) (read_lists b.now yards m start) }
-{
-    let mut at = start;
-    let mut k: usize = 0;
-    while k < m {
-        if !leaf_mark_ok(b, at, first, end, yards) {
-            return false;
-        }
-        at += records::leaf_mark(book::version(b), yards);
-        k += 1;
-    }
-    true
-}
-
-// Whether m landmarks from a place on are good for an inner region with this range.
-fn spans_ok(b: &[u8], start: usize, m: usize, first: u16, end: u16) -> bool
-    requires { start + m * inner_mark_size ≤ length b.now }
-    ensures { result ≡ all (mark_ok (bounded first end 1)) (read_spans b.now m start) }
-{
-    let mut at = start;
-    let mut k: usize = 0;
-    while k < m {
-        if !inner_mark_ok(b, at, first, end) {
-            return false;
-        }
-        at += records::INNER_MARK;
-        k += 1;
-    }
-    true
-}
-
 // Whether a children count is 0 for a leaf, else 2 to 4.
+#[tactic(auto, unfolding(crate::specs::Refusal::between, crate::specs::Refusal::children_ok))]
 fn children_ok(children: u8) -> bool
     ensures { result ≡ children_ok children }
 {
-    if children == 0 {
-        return true;
-    }
-    if children < 2 {
-        return false;
-    }
-    children <= 4
+    matches!(children, 0 | 2..=4)
+}
+
+// Whether a record's fields are in their ranges.
+fn fields_ok(f: Fields, junctions: u16) -> bool
+    ensures { result ≡ fields_ok junctions f }
+{
+    f.first.number < f.after
+        && f.after <= junctions
+        && children_ok(f.children)
+        && 1 <= f.yards
+        && 1 <= f.kinds
 }
 
 // Whether the values of the record at a place are in their ranges and order.
@@ -267,27 +204,7 @@ fn region_ok(b: &[u8], m: usize, at: usize, junctions: u16) -> bool
     ensures { result ≡ region_ok junctions (read_region b.now m at) }
 {
     let f = records::fields(b, at);
-    let first = f.first.number;
-    if f.after <= first {
-        return false;
-    }
-    if junctions < f.after {
-        return false;
-    }
-    if !children_ok(f.children) {
-        return false;
-    }
-    if f.yards < 1 {
-        return false;
-    }
-    if f.kinds < 1 {
-        return false;
-    }
-    let start = records::marks_at(book::version(b), at);
-    if f.children == 0 {
-        return lists_ok(b, start, m, first, f.after, f.yards as usize);
-    }
-    spans_ok(b, start, m, first, f.after)
+    fields_ok(f, junctions) && every::every_mark(b, at, m, |place| mark_ok(b, place, f))
 }
 
 // Test 5: whether the values of n records from byte 12 on are in their ranges and order.
@@ -295,16 +212,7 @@ fn values_ok(b: &[u8], m: usize, n: usize, junctions: u16) -> bool
     requires { (m ≤ 4) × (header_size ≤ length b.now) × (records_ok b.now m n header_size ≡ true) }
     ensures { result ≡ all (region_ok junctions) (read_regions b.now m n header_size) }
 {
-    let mut at = records::FIRST_RECORD;
-    let mut k: usize = 0;
-    while k < n {
-        if !region_ok(b, m, at, junctions) {
-            return false;
-        }
-        at += size_at(b, m, at);
-        k += 1;
-    }
-    true
+    every::every_record(b, m, n, |at| region_ok(b, m, at, junctions))
 }
 
 // The number of the first of tests 1 to 5 that turns the book back, or 0; test 4 goes over all the book before test 5.

@@ -15,11 +15,11 @@ fields c = c.fields_size-fields.ensures ∙ ap fields_size c.version.ensures
 pub version-requires : goal.version-requires
 version-requires c = omega (arith, c.requires.1)
 
-pub loop-k-init : goal.loop-k-init
-loop-k-init c = (omega arith, omega (arith, c.requires.1), simp sub-zero)
+pub loop-init : goal.loop-init
+loop-init c = (omega (arith, c.requires.1), simp sub-zero)
 
 pub returns-then-len-at : goal.returns-then-len-at
-returns-then-len-at c = sym (records_short _ _ _ _ _ c.loop-k-test.true (omega (arith, c.if-len-at.true, fields (goal.at.returns-then-len-at c).After-fields_size-fields))) ∙ c.loop-k.invariant.2
+returns-then-len-at c = sym (records_short _ _ _ _ _ c.loop-test.true (omega (arith, c.if-len-at.true, fields (goal.at.returns-then-len-at c).After-fields_size-fields))) ∙ c.loop.invariant.1
 
 pub size_at-size-requires : goal.size_at-size-requires
 size_at-size-requires c =
@@ -27,15 +27,14 @@ size_at-size-requires c =
 
 pub returns-then-len-at-2 : goal.returns-then-len-at-2
 returns-then-len-at-2 c =
-    sym (records_cut _ _ _ _ _ _ c.size_at-size.ensures c.loop-k-test.true (omega (arith, c.if-len-at.false, fields (goal.at.returns-then-len-at-2 c).After-fields_size-fields)) (omega (arith, c.if-len-at-2.true)))
-    ∙ c.loop-k.invariant.2
+    sym (records_cut _ _ _ _ _ _ c.size_at-size.ensures c.loop-test.true (omega (arith, c.if-len-at.false, fields (goal.at.returns-then-len-at-2 c).After-fields_size-fields)) (omega (arith, c.if-len-at-2.true)))
+    ∙ c.loop.invariant.1
 
-pub loop-k-preserved : goal.loop-k-preserved
-loop-k-preserved c = (
-  omega arith,
+pub loop-preserved : goal.loop-preserved
+loop-preserved c = (
   omega (arith, c.if-len-at-2.false),
-  records_next _ _ _ _ _ _ c.size_at-size.ensures c.loop-k-test.true (omega (arith, c.if-len-at.false, fields (goal.at.loop-k-preserved c).After-fields_size-fields)) (omega (arith, c.if-len-at-2.false)) ∙ c.loop-k.invariant.2,
+  records_next _ _ _ _ _ _ c.size_at-size.ensures c.loop-test.true (omega (arith, c.if-len-at.false, fields (goal.at.loop-preserved c).After-fields_size-fields)) (omega (arith, c.if-len-at-2.false)) ∙ c.loop.invariant.1,
 )
 
 pub returns : goal.returns
-returns c = sym (records_end _ _ _ _ _ c.loop-k-test.false) ∙ c.loop-k.invariant.2
+returns c = sym (records_end _ _ _ _ _ (omega (arith, c.loop-test.false))) ∙ c.loop.invariant.1

@@ -1,9 +1,10 @@
 -- What the accessors of a tree book's fields give. Assumes nothing: these are definitions.
-use Rattle.std.specs.Prelude.{List, ℕ, ◌+◌}
+use Rattle.std.specs.Prelude.{Bool, ◌&&◌, List, ℕ, ◌+◌, ltb, leb}
 use Rattle.book.specs.Bytes.{u8_at, u16_at, u32_at}
 use Rattle.book.specs.Open.{version}
 use Rattle.kinds.specs.Kinds.{kind_at}
 use Rattle.tree_layout.specs.Sizes.{list_size}
+use Rattle.tree_layout.specs.Refusal.{children_ok}
 use Rattle.tree_layout.specs.declared.Fields.{Fields}
 use Rattle.tree_layout.specs.declared.Listed.{Listed}
 
@@ -25,3 +26,8 @@ listed_at v p k = record {
   yard = record { number = u16_at p (list_size v k + 4) };
   kinds = kind_at v p (list_size v k + 6);
 }
+
+-- the fields of a region are in their ranges
+abbrev pub fields_ok : (junctions : ℕ) → Fields → Bool
+fields_ok junctions f = ltb f.first.number f.after && (leb f.after junctions && (children_ok f.children
+    && (leb 1 f.yards && leb 1 f.kinds)))

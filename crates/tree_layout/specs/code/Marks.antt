@@ -1,16 +1,24 @@
 -- A region's landmarks as they stand in a tree book's record. Assumes nothing: these are definitions.
 use mathlib.Core.List.{List, Memᴰ as Mem}
-use Rattle.std.specs.Prelude.{ℕ, ◌+◌, ◌*◌, ◌≤◌, ◌<◌, length}
-use Rattle.book.specs.Bytes.{u8_at, u16_at}
+use Rattle.std.specs.Prelude.{ℕ, ◌+◌, ◌*◌, ◌≤◌, ◌<◌, length, eqb}
+use Rattle.book.specs.Choose.{choose}
+use Rattle.book.specs.Bytes.{u8_at, u16_at, u32_at}
 use Rattle.book.specs.Open.{version}
-use Rattle.tree_layout.specs.Values.{Mark}
-use Rattle.tree_layout.specs.Sizes.{header_size, fields_size}
-use Rattle.tree_layout.specs.Decode.{mark_size, size_at, read_region, landmark_count}
+use Rattle.tree_layout.specs.Values.{Mark, leaf_mark, inner_mark}
+use Rattle.tree_layout.specs.Sizes.{header_size, fields_size, junction_size}
+use Rattle.tree_layout.specs.Decode.{read_list, list_part, mark_size, size_at, read_region, landmark_count}
 use Rattle.tree_layout.specs.declared.Landmark.{Landmark}
 
 -- where landmark j of the record at a place stands
 unfoldable pub mark_place : List ℕ → ℕ → ℕ → ℕ
 mark_place b at j = (at + fields_size (version b)) + j * mark_size (version b) (u8_at b (at + 4)) (u16_at b (at + 5))
+
+-- the landmark at a place, of a region with so many children and yards
+unfoldable pub mark_at : List ℕ → (children yards at : ℕ) → Mark
+mark_at b children yards at =
+    choose (eqb children 0)
+    (leaf_mark (u16_at b at) (read_list (version b) (list_part (version b) b yards (at + junction_size)) yards 0))
+    (inner_mark (u16_at b at) (u32_at b (at + 2)) (u32_at b (at + 6)))
 
 -- the landmarks of the record at a place
 unfoldable pub marks_at : List ℕ → ℕ → List Mark
