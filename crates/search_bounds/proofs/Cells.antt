@@ -10,6 +10,7 @@ use Rattle.book.proofs.Lists.{ne→neqb}
 use Rattle.road.specs.code.Rows.{cell}
 use Rattle.search_rules.specs.Bounds.{abs_diff}
 use Rattle.search_bounds.specs.code.Rows.{rows_lower, rows_upper}
+use Rattle.std.specs.Int as std
 
 module _ (table : List ℕ) (l q : ℕ) where
   pub lower-none : rows_lower table 0 l q ≡ 0
@@ -45,6 +46,11 @@ module _ (table : List ℕ) (l q : ℕ) where
   pub upper-end : (rows r x : ℕ) → r ≤ rows → rows ≤ r → x ≡ rows_upper table r l q → x ≡ rows_upper table rows l q
   upper-end rows r x h k e = let z : r ≡ rows = omega arith in rw (← z) e
 
--- the difference of two words that are read
-pub abs_diff_read : (a b x y r : ℕ) → x ≡ a → y ≡ b → r ≡ abs_diff x y → r ≡ abs_diff a b
-abs_diff_read a b x y r e f g = rw (← e, ← f) g
+-- the difference, as the library computes it
+pub abs_diff_is : (a b : ℕ) → std.abs_diff a b ≡ abs_diff a b
+unfolding abs_diff
+abs_diff_is a b = refl
+
+-- of two words that are read
+pub abs_diff_read : (a b x y r : ℕ) → x ≡ a → y ≡ b → r ≡ std.abs_diff x y → r ≡ abs_diff a b
+abs_diff_read a b x y r e f g = g ∙ rw (e, f) (abs_diff_is a b)

@@ -21,13 +21,12 @@ one_more j most = rw (add-one j) (suc-mul j most)
 
 -- x is the aggregate of the numbers of the first j crews, none of which is more than some most
 pub record Summed (most code : ℕ) (g : ℕ → ℕ) (qs : List ℕ) (j x : ℕ) : Type 0 where
-  pub done : j ≤ length qs
   pub value : x ≡ aggregate code g (take j qs)
   pub small : x ≤ j * most
 
 module _ (most code : ℕ) (g : ℕ → ℕ) (qs : List ℕ) where
   pub summed_none : Summed most code g qs 0 0
-  summed_none = record { done = omega arith; value = sym (aggregate-none code g); small = omega arith }
+  summed_none = record { value = sym (aggregate-none code g); small = omega arith }
 
   module _ (j x : ℕ) (s : Summed most code g qs j x) where
     -- the next sum of at most sixteen is no more than sixteen times the most
@@ -36,7 +35,6 @@ module _ (most code : ℕ) (g : ℕ → ℕ) (qs : List ℕ) where
 
     pub summed_turn : j < length qs → (w y : ℕ) → w ≤ most → w ≡ g (get_or qs j 0) → y ≡ combine code x w → Summed most code g qs (j + 1) y
     summed_turn h w y k e f = record {
-      done = omega arith;
       value = f ∙ rw (s.value, e, add-one j) (sym (aggregate-take code g qs j h));
       small = omega (arith, combine-most code x w, s.small, one_more j most);
     }
@@ -47,16 +45,15 @@ module _ (most code : ℕ) (g : ℕ → ℕ) (qs : List ℕ) where
 -- ---- over landmarks
 
 -- x is the greatest of the numbers of the first j landmarks
-pub record Greatest (g : Mark → ℕ) (ks : List Mark) (j x : ℕ) : Type 0 where
-  pub done : j ≤ length ks
-  pub value : x ≡ greatest_of g (take j ks)
+abbrev pub Greatest : (g : Mark → ℕ) (ks : List Mark) (j x : ℕ) → Type 0
+Greatest g ks j x = x ≡ greatest_of g (take j ks)
 
 module _ (g : Mark → ℕ) (ks : List Mark) where
   pub greatest_start : Greatest g ks 0 0
-  greatest_start = record { done = omega arith; value = sym (greatest-none g) }
+  greatest_start = sym (greatest-none g)
 
   pub greatest-turn : (j x : ℕ) → Greatest g ks j x → j < length ks → (w y : ℕ) → w ≡ g (get_or ks j no_mark) → y ≡ max x w → Greatest g ks (j + 1) y
-  greatest-turn j x s h w y e f = record { done = omega arith; value = f ∙ rw (s.value, e, add-one j) (sym (greatest-take g ks j h)) }
+  greatest-turn j x s h w y e f = f ∙ rw (s, e, add-one j) (sym (greatest-take g ks j h))
 
   pub greatest-all : (j x : ℕ) → Greatest g ks j x → length ks ≤ j → x ≡ greatest_of g ks
-  greatest-all j x s h = s.value ∙ ap (greatest_of g) (take_all j ks h)
+  greatest-all j x s h = s ∙ ap (greatest_of g) (take_all j ks h)

@@ -1,6 +1,5 @@
 // The landmark that a leaf picks.
-ghost use Rattle.std.specs.Prelude.{◌≡◌, ◌<◌, length, ltb};
-ghost use Rattle.book.specs.Choose.{choose};
+ghost use Rattle.std.specs.Prelude.{◌≡◌, ◌<◌, length};
 ghost use Rattle.tree_layout.specs.Values.{region_at};
 ghost use Rattle.tree_layout.specs.Decode.{decode, landmark_count};
 ghost use Rattle.tree.specs.Arrays.{Laid};
@@ -8,7 +7,7 @@ ghost use Rattle.search_bounds.specs.code.Rows.{Rows};
 ghost use Rattle.tree_layout.specs.code.Marks.{marks_at, RecordAt};
 ghost use Rattle.search_bounds.specs.code.Bounds.{rows_weight, mark_weight, rows_chosen, Crews};
 
-use crate::{numbers, rows};
+use crate::rows;
 use book::Junction;
 use tree_layout::{Region, landmarks, records};
 
@@ -18,12 +17,9 @@ fn weight(table: &[u32], rows: usize, crews: &[u16], l: Junction) -> u64
     ensures { result ≡ rows_weight table.now rows crews.now l.number }
 {
     let mut x: u64 = 0;
-    let mut j: usize = 0;
-    while j < crews.len() {
-        let q = Junction { number: crews[j] };
-        let w = rows::lower(table, rows, l, q);
-        x = numbers::combine64(0, x, w as u64);
-        j += 1;
+    for q in crews {
+        let q = Junction { number: *q };
+        x += u64::from(rows::lower(table, rows, l, q));
     }
     x
 }
@@ -38,32 +34,20 @@ fn mark_weight(tree: &[u8], at: usize, j: usize, table: &[u32], rows: usize, cre
     weight(table, rows, crews, k.place)
 }
 
-// Place j if its weight w is greater than the greatest one before it, which is that of place p; else p: "ties to the
-// first".
-fn first_greater(best: u64, p: usize, w: u64, j: usize) -> usize
-    ensures { result ≡ choose (ltb best w) j p }
-{
-    if best < w {
-        return j;
-    }
-    p
-}
-
-// The number of the landmark that is picked, of the record at a place.
+// The number of the landmark that is picked, of the record at a place: "ties to the first".
 fn pick_at(tree: &[u8], at: usize, table: &[u32], rows: usize, crews: &[u16]) -> usize
     requires { RecordAt tree.now at × Rows table.now rows × Crews crews.now }
     ensures { result ≡ rows_chosen table.now rows crews.now (marks_at tree.now at) }
 {
     let h = records::header(tree);
-    let m = h.landmarks as usize;
     let mut best = mark_weight(tree, at, 0, table, rows, crews);
     let mut p: usize = 0;
-    let mut j: usize = 1;
-    while j < m {
+    for j in 1..h.landmarks as usize {
         let w = mark_weight(tree, at, j, table, rows, crews);
-        p = first_greater(best, p, w, j);
-        best = numbers::greater64(best, w);
-        j += 1;
+        if best < w {
+            best = w;
+            p = j;
+        }
     }
     p
 }

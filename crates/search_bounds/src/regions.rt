@@ -29,13 +29,10 @@ fn crew_region(tree: &[u8], at: usize, table: &[u32], rows: usize, q: Junction) 
     ensures { result ≡ rows_crew table.now rows (marks_at tree.now at) q.number }
 {
     let h = records::header(tree);
-    let m = h.landmarks as usize;
     let mut x: u32 = 0;
-    let mut j: usize = 0;
-    while j < m {
+    for j in 0..h.landmarks as usize {
         let k = landmarks::landmark(tree, at, j);
-        x = numbers::greater(x, mark_bound(table, rows, k, q));
-        j += 1;
+        x = x.max(mark_bound(table, rows, k, q));
     }
     x
 }
@@ -46,12 +43,10 @@ fn record_bound(tree: &[u8], at: usize, table: &[u32], rows: usize, code: u8, cr
     ensures { result ≡ rows_bound table.now rows code crews.now (marks_at tree.now at) }
 {
     let mut x: u64 = 0;
-    let mut j: usize = 0;
-    while j < crews.len() {
-        let q = Junction { number: crews[j] };
-        let w = crew_region(tree, at, table, rows, q);
-        x = numbers::combine64(code, x, w as u64);
-        j += 1;
+    for q in crews {
+        let q = Junction { number: *q };
+        let w = u64::from(crew_region(tree, at, table, rows, q));
+        x = numbers::combine64(code, x, w);
     }
     x
 }

@@ -4,11 +4,8 @@ ghost use Rattle.road.specs.code.Rows.{cell};
 ghost use Rattle.search_rules.specs.Bounds.{abs_diff, crew_bound};
 ghost use Rattle.search_bounds.specs.code.Rows.{rows_lower, rows_upper, Rows};
 
-use crate::numbers;
-use crate::numbers::wide;
 use book::Junction;
 use road::rows::cell;
-use tournament::lesser;
 
 // The difference of row r's words for junctions l and q.
 fn row_abs_diff(table: &[u32], r: usize, l: Junction, q: Junction) -> u32
@@ -16,7 +13,7 @@ fn row_abs_diff(table: &[u32], r: usize, l: Junction, q: Junction) -> u32
     ensures { result
         ≡ abs_diff (cell table.now r l.number) (cell table.now r q.number) }
 {
-    numbers::abs_diff(cell(table, r, l), cell(table, r, q))
+    cell(table, r, l).abs_diff(cell(table, r, q))
 }
 
 // The sum of row r's words for junctions l and q.
@@ -24,7 +21,7 @@ fn row_sum(table: &[u32], r: usize, l: Junction, q: Junction) -> u64
     requires { (length table.now ≡ 4096) × (r < 4) × (l.number < 1024) × (q.number < 1024) }
     ensures { result ≡ cell table.now r l.number + cell table.now r q.number }
 {
-    wide(cell(table, r, l)) + wide(cell(table, r, q))
+    u64::from(cell(table, r, l)) + u64::from(cell(table, r, q))
 }
 
 // "LB(l, q) is the greatest difference .. of sheet values at l and q."
@@ -33,10 +30,8 @@ pub fn lower(table: &[u32], rows: usize, l: Junction, q: Junction) -> u32
     ensures { result ≡ rows_lower table.now rows l.number q.number }
 {
     let mut x: u32 = 0;
-    let mut r: usize = 0;
-    while r < rows {
-        x = numbers::greater(x, row_abs_diff(table, r, l, q));
-        r += 1;
+    for r in 0..rows {
+        x = x.max(row_abs_diff(table, r, l, q));
     }
     x
 }
@@ -47,10 +42,8 @@ pub fn upper(table: &[u32], rows: usize, l: Junction, q: Junction) -> u64
     ensures { result ≡ rows_upper table.now rows l.number q.number }
 {
     let mut x = row_sum(table, 0, l, q);
-    let mut r: usize = 1;
-    while r < rows {
-        x = lesser(x, row_sum(table, r, l, q));
-        r += 1;
+    for r in 1..rows {
+        x = x.min(row_sum(table, r, l, q));
     }
     x
 }
@@ -59,10 +52,7 @@ pub fn upper(table: &[u32], rows: usize, l: Junction, q: Junction) -> u64
 fn beyond(a: u32, ub: u64) -> u32
     ensures { result ≡ a - ub }
 {
-    if ub <= a as u64 {
-        return (a as u64 - ub) as u32;
-    }
-    0
+    u64::from(a).saturating_sub(ub) as u32
 }
 
 // "the crew's bound is LB − B if LB ≥ B, A − UB if UB ≤ A, else 0."

@@ -18,11 +18,9 @@ fn root_places(tree: &[u8], places: &mut [u16])
     requires { RecordAt tree.now 12 × (length places.old ≡ landmark_count tree.now) }
     ensures { places.new ≡ root_places tree.now }
 {
-    let mut r: usize = 0;
-    while r < places.len() {
+    for (r, place) in places.iter_mut().enumerate() {
         let k = landmarks::landmark(tree, records::FIRST_RECORD, r);
-        places[r] = k.place.number;
-        r += 1;
+        *place = k.place.number;
     }
 }
 

@@ -16,10 +16,8 @@ pub fn f_of(out: &[u32], code: u8, distance: u32) -> u32
     ensures { result ≡ f_by code out.now distance }
 {
     let mut total: u32 = 0;
-    let mut j: usize = 0;
-    while j < out.len() {
-        total = numbers::combine(code, total, numbers::abs_diff(out[j], distance));
-        j += 1;
+    for d in out {
+        total = numbers::combine(code, total, d.abs_diff(distance));
     }
     total
 }
@@ -31,10 +29,8 @@ pub fn to_crews(drives: &[u32], crews: &[u16], l: Junction, out: &mut [u32])
         → l.number < junctions road
         → out.new ≡ to_crews road l.number crews.now }
 {
-    let mut j: usize = 0;
-    while j < crews.len() {
-        out[j] = road::rows::cell(drives, j, l);
-        j += 1;
+    for (j, d) in out.iter_mut().enumerate() {
+        *d = road::rows::cell(drives, j, l);
     }
 }
 
@@ -56,7 +52,7 @@ fn crew_abs_diff(
 {
     let q = Junction { number: crews[j] };
     let lb = rows::lower(table, rows, yard, q);
-    numbers::greater(lb, numbers::abs_diff(out[j], distance))
+    lb.max(out[j].abs_diff(distance))
 }
 
 // "A yard's bound takes per crew the greatest of these differences over the landmark table's landmarks and l .., then
@@ -77,11 +73,9 @@ pub fn yard_bound(
         yard.number distance (length crews.now) }
 {
     let mut total: u32 = 0;
-    let mut j: usize = 0;
-    while j < crews.len() {
+    for j in 0..crews.len() {
         let x = crew_abs_diff(table, rows, crews, out, yard, distance, j);
         total = numbers::combine(code, total, x);
-        j += 1;
     }
     total
 }

@@ -10,7 +10,6 @@ ghost use Rattle.search_order.specs.code.Pairs.{entry_in};
 ghost use Rattle.search_held.specs.code.Rules.{rule_of, held_by, count_by, Fits};
 
 use search_first::Held;
-use search_measure::Ceiling;
 use search_order::Entry;
 
 // What a search keeps of the yards that it measures: the first so many, or those within so many seconds.
@@ -91,7 +90,7 @@ pub fn enough(kept: Kept, rule: Rule, least: u64) -> bool
 }
 
 // What the next yard that is measured is held against: the k-th held distance once k are held, or a drive's seconds.
-pub fn ceiling(kept: Kept, rule: Rule) -> Ceiling
+pub fn ceiling(kept: Kept, rule: Rule) -> Option<u32>
     requires { Fits (rule_of rule) kept }
     ensures { (list : List ℕ) → ceiling_of result ≡ ceiling_by (rule_of rule) (held_by (rule_of rule) kept list) }
 {
@@ -99,11 +98,11 @@ pub fn ceiling(kept: Kept, rule: Rule) -> Ceiling
         Rule::Nearest(k) => {
             let held = kept.held;
             if held.count < k as usize {
-                return Ceiling::None;
+                return None;
             }
-            Ceiling::Seconds(search_first::greatest(held))
+            Some(search_first::greatest(held))
         }
-        Rule::InDrive(seconds) => Ceiling::Seconds(seconds),
+        Rule::InDrive(seconds) => Some(seconds),
     }
 }
 

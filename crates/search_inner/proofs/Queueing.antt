@@ -89,7 +89,6 @@ counted tree places h rows firsts e p q = record {
 
 -- k of n children of region v are looked at, and those of a kind p queued, and c is the next one: what is left to do gives the whole
 pub record Queueing (p : ℕ → Bool) (g : ℕ → ℕ) (tree : List ℕ) (r j v n k c : ℕ) (words₀ words : List ℕ) : Type 0 where
-  pub within : k ≤ n
   pub count : length words ≡ word_count r j
   pub there : (d : ℕ) → Mem d (starts (end_of (decode tree).regions) (n - k) c) → d < r
   pub left : put_keys g r j (keep_if p (starts (end_of (decode tree).regions) (n - k) c)) words
@@ -115,7 +114,6 @@ module _ (p : ℕ → Bool) (g : ℕ → ℕ) (tree : List ℕ) (r j v n : ℕ) 
   pub queueing_none : (words : List ℕ) (x : ℕ) → n ≡ (region_at (decode tree).regions v).children → Slots tree r j words v
       → Queueing p g tree r j v n 0 (v + 1) (set words v x) (set words v x)
   queueing_none words x e s = record {
-    within = omega arith;
     count = simp length-set s.count;
     there = λ d m. s.children d (rw all at m);
     left = rw all refl;
@@ -154,7 +152,6 @@ module _ (p : ℕ → Bool) (g : ℕ → ℕ) (tree : List ℕ) (r j v n : ℕ) 
       pub queueing_on : (w s : ℕ) → T (p c) → w ≡ g c → s ≡ firsts_at r j → words' ≡ set (set words c w) (s + c) w
           → Queueing p g tree r j v n (k + 1) d words₀ words'
       queueing_on w s t ew es new = record {
-        within = omega arith;
         count = ap length new ∙ simp (length-set, length-set) q.count;
         there = λ d m. q.there d (rw rest (tail (rw e at m)));
         left = rw (
@@ -171,7 +168,6 @@ module _ (p : ℕ → Bool) (g : ℕ → ℕ) (tree : List ℕ) (r j v n : ℕ) 
       -- one of another kind is not
       pub queueing_over : T (not (p c)) → words' ≡ words → Queueing p g tree r j v n (k + 1) d words₀ words'
       queueing_over t new = record {
-        within = omega arith;
         count = ap length new ∙ q.count;
         there = λ d m. q.there d (rw rest (tail (rw e at m)));
         left = rw (new, e, ← kept_no p c (starts f (n - (k + 1)) (f c)) t, ← rest) q.left;

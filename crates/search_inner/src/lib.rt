@@ -10,7 +10,7 @@ ghost use Rattle.search_bounds.specs.code.Rows.{Rows};
 ghost use Rattle.search_bounds.specs.code.Bounds.{Crews};
 ghost use Rattle.search_inner.specs.code.Children.{wanted_in, key_of, put_keys, Ended, Slots};
 
-use search_bounds::{numbers, regions};
+use search_bounds::regions;
 use search_held::Asked;
 use tree_layout::{Region, records};
 
@@ -40,7 +40,7 @@ fn key(
         ≡ key_of tree.now table.now rows code crews.now parent c.number }
 {
     let x = regions::region_bound(tree, places, table, rows, code, crews, c);
-    numbers::greater64(x, parent)
+    x.max(parent)
 }
 
 // "An inner region queues its children.": region r, whose key is a, leaves the queue, and each child with a wanted bit
@@ -74,10 +74,8 @@ pub fn open_inner(
     let i = r.number as usize;
     words[i] = search_queue::UNQUEUED;
     let f = tree::regions::fields(tree, places, r);
-    let n = f.children;
     let mut c = i + 1;
-    let mut k: u8 = 0;
-    while k < n {
+    for _ in 0..f.children {
         let child = Region { number: c as u16 };
         if wanted(tree, places, asked.wanted, child) {
             let w = key(tree, places, table, rows, asked.aggregate, crews, child, a);
@@ -85,6 +83,5 @@ pub fn open_inner(
             words[firsts + c] = w;
         }
         c = ends[c];
-        k += 1;
     }
 }

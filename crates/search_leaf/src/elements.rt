@@ -15,7 +15,6 @@ ghost use Rattle.search_leaf.specs.code.Leaves.{words_of, f_word, pass_over, lis
 
 use crate::{Form, Next, parts};
 use book::Junction;
-use search_bounds::numbers::wide;
 use search_queue::UNQUEUED;
 use tree_layout::{Header, records};
 
@@ -42,9 +41,7 @@ fn fill(
         (elements_of list.now form) values.old }
 {
     let v = form.version;
-    let n = form.yards;
-    let mut k: usize = 0;
-    while k < n {
+    for k in 0..form.yards {
         let e = records::element(list, v, k);
         let y = e.yard;
         let f = search_bounds::yards::f_of(out, code, e.distance);
@@ -53,7 +50,6 @@ fn fill(
         let bound_place = parts::bound_at(y);
         values[f_place] = f;
         values[bound_place] = bound;
-        k += 1;
     }
 }
 
@@ -65,15 +61,12 @@ pub fn pass_over(list: &[u8], form: Form, wanted: u8, values: &mut [u32])
         ≡ pass_over wanted (elements_of list.now form) values.old }
 {
     let v = form.version;
-    let n = form.yards;
-    let mut k: usize = 0;
-    while k < n {
+    for k in 0..form.yards {
         let e = records::element(list, v, k);
         if !kinds::shares(wanted, e.kinds) {
             let place = parts::f_at(e.yard);
             values[place] = UNWANTED;
         }
-        k += 1;
     }
 }
 
@@ -122,7 +115,7 @@ fn f_word(x: u32) -> u64
     if x == UNWANTED {
         return UNQUEUED;
     }
-    wide(x)
+    u64::from(x)
 }
 
 // A yard's f, or UNQUEUED if it has left or is not wanted.
@@ -156,14 +149,12 @@ pub fn next_element(list: &[u8], yards: usize, h: Header, words: &[u64], values:
     let mut place: usize = 0;
     let v = h.version;
     let mut f = word_of(h, words, values, records::element(list, v, 0).yard);
-    let mut k: usize = 1;
-    while k < yards {
+    for k in 1..yards {
         let w = word_of(h, words, values, records::element(list, v, k).yard);
         if w < f {
             place = k;
             f = w;
         }
-        k += 1;
     }
     Next { place, f }
 }

@@ -8,8 +8,6 @@ ghost use Rattle.search_leaf.specs.code.Leaves.{Near};
 ghost use Rattle.search_leaf.specs.code.Next.{leaf_queued};
 
 use crate::{elements, parts};
-use search_bounds::numbers;
-use search_bounds::numbers::wide;
 use tree_layout::{Header, Region, records};
 
 // The leaf's key when it is queued again: "if any remain, itself, with the greater of its first key and the next f".
@@ -19,7 +17,7 @@ fn again_key(first: u64, next: u64) -> u64
     if next == search_queue::UNQUEUED {
         return search_queue::UNQUEUED;
     }
-    numbers::greater64(first, next)
+    first.max(next)
 }
 
 // "A leaf queues its next yard and, if any remain, itself": leaf r, by its landmark's list of so many yards. "A leaf
@@ -47,11 +45,11 @@ pub fn queue_next(
         return;
     }
     let y = records::element(list, h.version, next.place).yard;
-    let bound = wide(values[parts::bound_at(y)]);
+    let bound = u64::from(values[parts::bound_at(y)]);
     let gone_place = parts::gone_at(h, y);
     words[gone_place] = 0;
     let key_place = parts::key_at(h, y);
-    words[key_place] = numbers::greater64(bound, first);
+    words[key_place] = bound.max(first);
     let after = elements::next_element(list, yards, h, words, values);
     words[r.number as usize] = again_key(first, after.f);
 }

@@ -18,33 +18,20 @@ use Rattle.search_rules.specs.Bounds.{combine}
 use Rattle.search_rules.specs.Ceiling.{Measured, exact}
 use Rattle.search_rules.specs.Ceiling
 use Rattle.search_rules.proofs.Equations.{combine-most}
-use Rattle.search_measure.specs.Way.{budget, Ended, reached, above, way_answer}
+use Rattle.search_measure.specs.Way.{budget, reached, above, way_answer}
 use Rattle.search_measure.specs.Crews.{onward, measure_from, measure_yard, yard_ways, Measures}
-use Rattle.search_measure.specs.declared.Arrival.{Arrival}
-use Rattle.search_measure.specs.declared.Arrival.TheVariants.{Reached, Above}
-use Rattle.search_measure.specs.code.Cases.{ended_of, Steers, Measurable, most_spent}
+use Rattle.search_measure.specs.code.Cases.{Steers, Measurable, most_spent}
 use Rattle.search_measure.proofs.Theorems.{ways_true}
 use Rattle.search_measure.proofs.Measuring.{measures_true}
 
--- ---- what a crew's way answered
-
-pub arrival_above : (r : Arrival) (count : ℕ) (e : Ended) → r ≡ Above count → ended_of r ≡ e → above ≡ e
-arrival_above r count e f g = rw f at g
-
-pub arrival_reached : (r : Arrival) (t count : ℕ) (e : Ended) → r ≡ Reached t count → ended_of r ≡ e → reached t ≡ e
-arrival_reached r t count e f g = rw f at g
-
--- ---- the loop
-
 -- the first j crews come to these numbers, and measuring those that are left answers the whole
 pub record SoFar (road : List ℕ) (code : ℕ) (crews : List ℕ) (ceiling : Option ℕ) (yard total furthest j : ℕ) : Type 0 where
-  pub done : j ≤ length crews
   pub small : total ≤ j * 67042305
   pub left : measure_from road code ceiling yard total furthest (drop j crews) ≡ measure_yard road code crews ceiling yard
 
 pub so_far_start : (road : List ℕ) (code : ℕ) (crews : List ℕ) (ceiling : Option ℕ) (yard : ℕ) → SoFar road code crews ceiling yard 0 0 0
 unfolding measure_yard
-so_far_start road code crews ceiling yard = record { done = omega arith; small = omega arith; left = refl }
+so_far_start road code crews ceiling yard = record { small = omega arith; left = refl }
 
 -- both promises from the run's answer
 module _ {road adj crews rows : List ℕ} {yard : ℕ} (ms : Measurable road adj crews rows yard) where
@@ -110,7 +97,6 @@ module _ {road adj crews rows : List ℕ} {yard : ℕ} (ms : Measurable road adj
 
         pub so_far_on : (x y : ℕ) → x ≡ combine code total t → y ≡ max furthest t → SoFar road code crews ceiling yard x y (j + 1)
         so_far_on x y ex ey = record {
-          done = omega arith;
           small = omega (arith, combine-most code total t, so.small, reached-short, one_more);
           left = rw (ex, ey, add-one j) (rw (← e) at now_left);
         }

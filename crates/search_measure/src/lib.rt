@@ -17,13 +17,6 @@ ghost use Rattle.search_measure.specs.code.Cases.{measured_of, Measurable, IsMea
 use book::Junction;
 use search_bounds::numbers;
 
-// What an aggregate is held against.
-#[derive(Clone, Copy)]
-pub enum Ceiling {
-    None,
-    Seconds(u32),
-}
-
 // The arc by which a least walk comes to a junction: the junction at its other end, and its seconds.
 #[derive(Clone, Copy)]
 pub struct Last {
@@ -31,12 +24,12 @@ pub struct Last {
     pub seconds: u16,
 }
 
-// What a walk comes to: the crew, after so many seconds, or above the ceiling; and how many junctions it has walked on
-// from.
+// What a walk comes to: the crew, after so many seconds, or none of them, above the ceiling; and how many junctions it
+// has walked on from.
 #[derive(Clone, Copy)]
-pub enum Arrival {
-    Reached { seconds: u32, count: usize },
-    Above { count: usize },
+pub struct Arrival {
+    pub seconds: Option<u32>,
+    pub count: usize,
 }
 
 // What a yard's drives come to: their aggregate over the crews, and the furthest crew's.
@@ -46,25 +39,18 @@ pub struct Numbers {
     pub furthest: u32,
 }
 
-// What measuring answers: both true numbers, or that the aggregate exceeds the ceiling.
-#[derive(Clone, Copy)]
-pub enum Measured {
-    Exact(Numbers),
-    Above,
-}
-
-// Whether an aggregate exceeds a ceiling.
-fn exceeds(ceiling: Ceiling, total: u32) -> bool
+// Whether an aggregate exceeds a ceiling, if there is one.
+fn exceeds(ceiling: Option<u32>, total: u32) -> bool
     ensures { result ≡ exceeds (ceiling_of ceiling) total }
 {
     match ceiling {
-        Ceiling::None => false,
-        Ceiling::Seconds(seconds) => seconds < total,
+        None => false,
+        Some(seconds) => seconds < total,
     }
 }
 
 // Whether the aggregate of the crews before and some seconds exceeds a ceiling.
-fn over(code: u8, spent: u32, ceiling: Ceiling, t: u32) -> bool
+fn over(code: u8, spent: u32, ceiling: Option<u32>, t: u32) -> bool
     requires { spent + t ≤ 1072676880 }
     ensures { result ≡ over (budget_of code spent ceiling) t }
 {
@@ -102,7 +88,7 @@ pub fn way(
     yard: Junction,
     code: u8,
     spent: u32,
-    ceiling: Ceiling,
+    ceiling: Option<u32>,
 ) -> Arrival
     requires { IsSteered adj.now row.now crew.number × (yard.number < count_in adj.now)
         × (length row.now ≡ 1024) × (length walked.old ≡ 1024) × (spent ≤ most_spent) }
@@ -120,11 +106,14 @@ pub fn way(
     let mut n: usize = 0;
     loop {
         if over(code, spent, ceiling, t) {
-            return Arrival::Above { count: n };
+            return Arrival {
+                seconds: None,
+                count: n,
+            };
         }
         if v == q {
-            return Arrival::Reached {
-                seconds: t,
+            return Arrival {
+                seconds: Some(t),
                 count: n,
             };
         }
@@ -136,7 +125,8 @@ pub fn way(
     }
 }
 
-// Measures a yard for some crews by a walk for each, to which its row of rows leads. The junctions that the last of the
+// Measures a yard for some crews by a walk for each, to which its row of rows leads: both true numbers, or none, if the
+// aggregate exceeds the ceiling. The junctions that the last of the
 // walks has walked on from stand in walked.
 pub fn measure(
     adj: &[u16],
@@ -144,9 +134,9 @@ pub fn measure(
     crews: &[u16],
     walked: &mut [u16],
     code: u8,
-    ceiling: Ceiling,
+    ceiling: Option<u32>,
     yard: Junction,
-) -> Measured
+) -> Option<Numbers>
     requires { IsMeasurable adj.now crews.now rows.now yard.number × (length walked.old ≡ 1024) }
     ensures measures { (road : List ℕ)
         → Measurable road adj.now crews.now rows.now yard.number
@@ -158,10 +148,9 @@ pub fn measure(
 {
     let mut total: u32 = 0;
     let mut furthest: u32 = 0;
-    let mut j: usize = 0;
-    while j < crews.len() {
+    for (j, crew) in crews.iter().enumerate() {
         let at = j * 1024;
-        let crew = Junction { number: crews[j] };
+        let crew = Junction { number: *crew };
         let arrival = way(
             adj,
             &rows[at..at + 1024],
@@ -172,12 +161,9 @@ pub fn measure(
             total,
             ceiling,
         );
-        let Arrival::Reached { seconds, count: _ } = arrival else {
-            return Measured::Above;
-        };
+        let seconds = arrival.seconds?;
         total = numbers::combine(code, total, seconds);
-        furthest = numbers::greater(furthest, seconds);
-        j += 1;
+        furthest = furthest.max(seconds);
     }
-    Measured::Exact(Numbers { total, furthest })
+    Some(Numbers { total, furthest })
 }

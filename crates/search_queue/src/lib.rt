@@ -4,8 +4,6 @@ ghost use Rattle.std.specs.Prelude.{◌≡◌, ◌+◌, ◌≤◌, length};
 ghost use Rattle.search_rules.specs.Queue.{pick};
 ghost use Rattle.search_queue.specs.code.Eights.{least_of_four, least_of_eight, eight_pass};
 
-use tournament::lesser;
-
 // The word of what is not queued.
 pub const UNQUEUED: u64 = 18446744073709551615;
 
@@ -14,10 +12,8 @@ fn least_of_four(words: &[u64], j: usize) -> u64
     requires { j + 4 ≤ length words.now }
     ensures { result ≡ least_of_four words.now j }
 {
-    lesser(
-        lesser(words[j], words[j + 1]),
-        lesser(words[j + 2], words[j + 3]),
-    )
+    let pair = words[j].min(words[j + 1]);
+    pair.min(words[j + 2].min(words[j + 3]))
 }
 
 // The least of the eight words from number j on.
@@ -25,7 +21,7 @@ fn least_of_eight(words: &[u64], j: usize) -> u64
     requires { j + 8 ≤ length words.now }
     ensures { result ≡ least_of_eight words.now j }
 {
-    lesser(least_of_four(words, j), least_of_four(words, j + 4))
+    least_of_four(words, j).min(least_of_four(words, j + 4))
 }
 
 // Whether there are eight words from number j on and none of them is less than w.

@@ -12,7 +12,7 @@ ghost use Rattle.search_yard.specs.code.Entries.{entry_on};
 
 use book::Junction;
 use search_held::{Asked, Kept};
-use search_measure::Measured;
+use search_measure::Numbers;
 use search_order::Entry;
 
 // What a search has come to beside its words: what it keeps, and the number of the measured yards.
@@ -35,7 +35,7 @@ fn under_ceiling(
     asked: Asked,
     kept: Kept,
     y: Junction,
-) -> Measured
+) -> Option<Numbers>
     requires { IsMeasurable adj.now crews.now drives.now y.number × Fits (rule_of asked.rule) kept
         × (length walked.old ≡ 1024) }
     ensures measures { (list : List ℕ) (road : List ℕ)
@@ -88,7 +88,7 @@ pub fn take(
     let so_far = progress.kept;
     let mut walked = [0u16; JUNCTIONS];
     let answer = under_ceiling(adj, drives, crews, &mut walked, asked, so_far, y);
-    let Measured::Exact(numbers) = answer else {
+    let Some(numbers) = answer else {
         return Progress {
             kept: so_far,
             measured: so_many,

@@ -6,17 +6,17 @@ use Rattle.book.proofs.Choosing.{true_T, false_T}
 use Rattle.tree.proofs.Fielding.{laid-header, laid-few}
 use Rattle.tree.proofs.Recursing.{children-is}
 use Rattle.search_inner.proofs.Queueing.{counted, queueing_none, queueing_on, queueing_over, queueing_all, Next, next_slot, key_rows}
-use Rattle.search_inner.proofs.open_inner.Goals.{In-loop-k, then-wanted, else-wanted}
+use Rattle.search_inner.proofs.open_inner.Goals.{In-loop, then-wanted, else-wanted}
 use Rattle.search_inner.proofs.open_inner.Goals as goal
 
 -- the next child has a place in each array
-next : (c : In-loop-k)
+next : (c : In-loop)
     →
-    Next c.loop-k.c (length c.args.places.now + c.header-h.result.junctions) c.args.places.now
-    c.args.ends.now c.loop-k.words
+    Next c.loop.c (length c.args.places.now + c.header-h.result.junctions) c.args.places.now
+    c.args.ends.now c.loop.words
 next c =
-    let l = c.loop-k in
-    next_slot _ _ _ _ _ _ _ _ _ _ _ l.invariant.1 c.loop-k-test.true _ _ _ _ refl refl c.requires.0 c.requires.1 l.invariant.0
+    let l = c.loop in
+    next_slot _ _ _ _ _ _ _ _ _ _ _ l.invariant.1 c.loop-test.true _ _ _ _ refl refl c.requires.0 c.requires.1 l.invariant.0
 
 pub header-h-requires : goal.header-h-requires
 header-h-requires c = laid-header _ _ c.requires.0
@@ -32,8 +32,8 @@ pub fields-f-requires : goal.fields-f-requires
 fields-f-requires c =
     (c.requires.0, c.requires.4.self)
 
-pub loop-k-init : goal.loop-k-init
-loop-k-init c = (
+pub loop-init : goal.loop-init
+loop-init c = (
   counted _ _ _ _ _ c.header-h.ensures refl refl,
   queueing_none _ _ _ _ _ _ _ _ _ (sym (children-is _ _ _ c.fields-f.ensures)) c.requires.4,
 )
@@ -47,34 +47,34 @@ wanted-requires c = (c.requires.0, (next c).places)
 pub key-w-requires : goal.key-w-requires
 key-w-requires c =
     let s = c.requires in
-    (s.0, (next (goal.at.key-w-requires c).In-loop-k).places, rw c.loop-k.invariant.0.rows_are s.2, s.3)
+    (s.0, (next (goal.at.key-w-requires c).In-loop).places, rw c.loop.invariant.0.rows_are s.2, s.3)
 
 pub offset_bounds-words-c : goal.offset_bounds-words-c
-offset_bounds-words-c c = record { fits = omega (arith, next (goal.at.offset_bounds-words-c c).In-loop-k) }
+offset_bounds-words-c c = record { fits = omega (arith, next (goal.at.offset_bounds-words-c c).In-loop) }
 
 pub bounds-words-c : goal.bounds-words-c
-bounds-words-c c = (next (goal.at.bounds-words-c c).In-loop-k).word
+bounds-words-c c = (next (goal.at.bounds-words-c c).In-loop).word
 
 pub overflow_add-words : goal.overflow_add-words
-overflow_add-words c = record { fits = omega (arith, next (goal.at.overflow_add-words c).In-loop-k) }
+overflow_add-words c = record { fits = omega (arith, next (goal.at.overflow_add-words c).In-loop) }
 
 pub offset_bounds-words-firsts : goal.offset_bounds-words-firsts
-offset_bounds-words-firsts c = record { fits = omega (arith, next (goal.at.offset_bounds-words-firsts c).In-loop-k) }
+offset_bounds-words-firsts c = record { fits = omega (arith, next (goal.at.offset_bounds-words-firsts c).In-loop) }
 
 pub bounds-words-firsts : goal.bounds-words-firsts
-bounds-words-firsts c = simp length-set (next (goal.at.bounds-words-firsts c).In-loop-k).first
+bounds-words-firsts c = simp length-set (next (goal.at.bounds-words-firsts c).In-loop).first
 
 pub offset_bounds-ends-c : goal.offset_bounds-ends-c
-offset_bounds-ends-c c = record { fits = omega (arith, next (goal.at.offset_bounds-ends-c c).In-loop-k) }
+offset_bounds-ends-c c = record { fits = omega (arith, next (goal.at.offset_bounds-ends-c c).In-loop) }
 
 pub bounds-ends-c : goal.bounds-ends-c
-bounds-ends-c c = (next (goal.at.bounds-ends-c c).In-loop-k).ends
+bounds-ends-c c = (next (goal.at.bounds-ends-c c).In-loop).ends
 
-pub loop-k-preserved : goal.loop-k-preserved
-loop-k-preserved c =
-    let l = c.loop-k in
-    let less = c.loop-k-test.true in
-    let end = c.requires.1.held l.c (next (goal.at.loop-k-preserved c).In-loop-k).ends in
+pub loop-preserved : goal.loop-preserved
+loop-preserved c =
+    let l = c.loop in
+    let less = c.loop-test.true in
+    let end = c.requires.1.held l.c (next (goal.at.loop-preserved c).In-loop).ends in
     let wanted = c.wanted.ensures in (
       l.invariant.0,
       elim c.if-wanted.branch [ then-wanted w ↦ queueing_on _ _ _ _ _ _ _ _ _ _ _ l.invariant.1 less _ end _ _ _ (true_T (sym wanted ∙ w.if-wanted.true)) (key_rows _ _ _ _ _ _ _ _ _ w.key-w.ensures l.invariant.0.rows_are) l.invariant.0.firsts_are w.words-is | else-wanted w ↦ queueing_over _ _ _ _ _ _ _ _ _ _ _ l.invariant.1 less _ end _ (false_T (sym wanted ∙ w.if-wanted.false)) w.words-is ],
@@ -82,7 +82,7 @@ loop-k-preserved c =
 
 pub shape_of-words : goal.shape_of-words
 shape_of-words c =
-    c.loop-k.invariant.1.count ∙ sym c.requires.4.count
+    c.loop.invariant.1.count ∙ sym c.requires.4.count
 
 pub returns : goal.returns
-returns c = queueing_all _ _ _ _ _ _ _ _ _ _ _ c.loop-k.invariant.1 c.loop-k-test.false
+returns c = queueing_all _ _ _ _ _ _ _ _ _ _ _ c.loop.invariant.1 c.loop-test.false

@@ -1,9 +1,10 @@
-use mathlib.Core.Path.{refl, sym, ◌∙◌}
+use mathlib.Core.Path.{refl, sym, ap, ◌∙◌}
 use mathlib.Core.List.{List}
 use Prim.Native.Nat.{ℕ}
 use native.Mathlib.Omega.{arith}
 use Rattle.road.proofs.Filling.{part-size}
-use Rattle.search_measure.proofs.Crewing.{so_far_start, measures_by, row_room, row-steers, so_far-end, so_far-room, so_far-above, reached-room, so_far_on, arrival_above, arrival_reached}
+use Rattle.search_measure.specs.code.Cases.{ended_in, measured_of}
+use Rattle.search_measure.proofs.Crewing.{so_far_start, measures_by, row_room, row-steers, so_far-end, so_far-room, so_far-above, reached-room, so_far_on}
 use Rattle.search_measure.proofs.measure.Goals as goal
 
 pub loop-j-init : goal.loop-j-init
@@ -32,16 +33,17 @@ way-arrival-requires c =
       so_far-room m _ _ _ _ _ (c.loop-j.invariant.1 _ m) h,
     )
 
-pub shape_of-walked-in_default : goal.shape_of-walked-in_default
-shape_of-walked-in_default c =
+pub shape_of-walked-in_err-seconds : goal.shape_of-walked-in_err-seconds
+shape_of-walked-in_err-seconds c =
     c.way-arrival.auto.walked ∙ c.loop-j.invariant.0 ∙ sym c.requires.1
 
-pub returns-in_default : goal.returns-in_default
-returns-in_default c =
+pub returns-in_err-seconds : goal.returns-in_err-seconds
+returns-in_err-seconds c =
     let h = c.loop-j-test.true in
     let e : (road : List ℕ) → _ → _ = λ road ms.
-    so_far-above ms _ _ _ _ _ (c.loop-j.invariant.1 road ms) h
-    (arrival_above c.way-arrival.result _ _ c.in_default.is (c.way-arrival.ensures.walk road (row-steers ms _ _ h refl)).0) in record {
+    ap measured_of c.from_residual.ensures
+    ∙ so_far-above ms _ _ _ _ _ (c.loop-j.invariant.1 road ms) h
+    (sym (ap ended_in c.in_err-seconds.was) ∙ (c.way-arrival.ensures.walk road (row-steers ms _ _ h refl)).0) in record {
       measures = (λ road ms. measures_by ms _ _ _ (e road ms));
       run = e;
     }
@@ -51,10 +53,7 @@ combine-total-requires c =
     let h = c.loop-j-test.true in
     let m = c.requires.0.measurable in
     reached-room m _ _ _ _ _ (c.loop-j.invariant.1 _ m) h _
-    (arrival_reached c.way-arrival.result _ _ _ c.in-Reached.is (c.way-arrival.ensures.walk _ (row-steers m _ _ h refl)).0)
-
-pub greater-furthest-requires : goal.greater-furthest-requires
-greater-furthest-requires c = tt
+    (sym (ap ended_in c.in_ok-seconds.was) ∙ (c.way-arrival.ensures.walk _ (row-steers m _ _ h refl)).0)
 
 pub loop-j-preserved : goal.loop-j-preserved
 loop-j-preserved c =
@@ -62,8 +61,8 @@ loop-j-preserved c =
       c.way-arrival.auto.walked ∙ c.loop-j.invariant.0,
       λ road ms.
           so_far_on ms _ _ _ _ _ (c.loop-j.invariant.1 road ms) h _
-          (arrival_reached c.way-arrival.result _ _ _ c.in-Reached.is (c.way-arrival.ensures.walk road (row-steers ms _ _ h refl)).0) _ _
-          (omega (arith, c.combine-total.ensures)) (omega (arith, c.greater-furthest.ensures)),
+          (sym (ap ended_in c.in_ok-seconds.was) ∙ (c.way-arrival.ensures.walk road (row-steers ms _ _ h refl)).0) _ _
+          (omega (arith, c.combine-total.ensures)) (omega (arith, c.max-furthest.ensures)),
     )
 
 pub shape_of-walked : goal.shape_of-walked

@@ -1,6 +1,6 @@
 -- The ceiling, the budget and the answer as the code has them, and what a walk needs. Assumes nothing: these are
 -- definitions.
-use Rattle.std.specs.Prelude.{◌≡◌, ◌≢◌, List, map, ℕ, ◌<◌, length, get_or, take}
+use Rattle.std.specs.Prelude.{◌≡◌, ◌≢◌, List, map, ℕ, ◌<◌, length, get_or, take, Option as Given, Some, None}
 use Rattle.std.proofs.Math.Option.{Option, none, some}
 use Rattle.road_layout.specs.Road.{junctions}
 use Rattle.adjacency.specs.Adjacency.{count_in, Adjacency}
@@ -10,30 +10,29 @@ use Rattle.search_rules.specs.Bounds.{aggregate}
 use Rattle.search_rules.specs.Ceiling as rules
 use Rattle.search_bounds.specs.code.Measures.{Driven}
 use Rattle.search_measure.specs.Way.{Walked, Stand, Budget, budget, Ended, reached, above}
-use Rattle.search_measure.specs.declared.Ceiling.{Ceiling}
-use Rattle.search_measure.specs.declared.Ceiling.TheVariants.{None, Seconds}
 use Rattle.search_measure.specs.declared.Arrival.{Arrival}
-use Rattle.search_measure.specs.declared.Arrival.TheVariants.{Reached, Above}
-use Rattle.search_measure.specs.declared.Measured.{Measured}
-use Rattle.search_measure.specs.declared.Measured.TheVariants as answers
+use Rattle.search_measure.specs.declared.Numbers.{Numbers}
 
 -- the definition's ceiling
-abbrev pub ceiling_of : Ceiling → Option ℕ
+abbrev pub ceiling_of : Given ℕ → Option ℕ
 ceiling_of None = none
-ceiling_of (Seconds s) = some s
+ceiling_of (Some s) = some s
 
 -- the definition's budget
-abbrev pub budget_of : ℕ → ℕ → Ceiling → Budget
+abbrev pub budget_of : ℕ → ℕ → Given ℕ → Budget
 budget_of code spent ceiling = budget code spent (ceiling_of ceiling)
 
--- the definition's answer, and of how many junctions the array has the numbers
-abbrev pub ended_of : Arrival → Ended
-ended_of (Reached seconds count) = reached seconds
-ended_of (Above count) = above
+-- the definition's answer, by the seconds after which the crew is reached, if it is
+abbrev pub ended_in : Given ℕ → Ended
+ended_in None = above
+ended_in (Some seconds) = reached seconds
 
+abbrev pub ended_of : Arrival → Ended
+ended_of a = ended_in a.seconds
+
+-- of how many junctions the array has the numbers
 abbrev pub count_of : Arrival → ℕ
-count_of (Reached seconds count) = count
-count_of (Above count) = count
+count_of a = a.count
 
 -- the most that the aggregate of the crews before may be: of fifteen least walks of 1,023 roads of 65,535 seconds
 abbrev pub most_spent : ℕ
@@ -64,9 +63,9 @@ pub record Written (s : Stand) (count : ℕ) (walked : List ℕ) : Type 0 where
   pub junctions : take count walked ≡ map (λ (m : Walked). m.junction) s.behind
 
 -- what measuring answers, as the definition has it
-abbrev pub measured_of : Measured → rules.Measured
-measured_of (answers.Exact numbers) = rules.exact numbers.total numbers.furthest
-measured_of answers.Above = rules.above
+abbrev pub measured_of : Given Numbers → rules.Measured
+measured_of (Some numbers) = rules.exact numbers.total numbers.furthest
+measured_of None = rules.above
 
 -- each crew has its row beside a road book that passes, an array is its adjacency, and a yard is at one of its junctions
 pub record Measurable (road adj crews rows : List ℕ) (yard : ℕ) : Type 0 where

@@ -28,7 +28,7 @@ pub returns : goal.returns
 returns c =
     let k = c.keep-kept.ensures in
     let m = c.under_ceiling-answer.ensures.measures c.args.list.now in
-    let exact = ap measured_of c.in-Exact.is in record {
+    let exact = ap measured_of c.in-Some.is in record {
       count = refl;
       measured = newest_put c.args.measured.now c.args.progress.measured c.args.y.number (omega (arith, c.requires.1, c.requires.2));
       held = λ road d. held-exact _ road _ _ _ _ _ _ _ (answer-exact d (m road d) _ _ exact) k.held;

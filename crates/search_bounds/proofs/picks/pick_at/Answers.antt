@@ -1,6 +1,7 @@
 use native.Mathlib.Omega.{arith}
-use Rattle.search_bounds.proofs.Picking.{picked_first, picked-turn, picked_all}
+use Rattle.search_bounds.proofs.Picking.{picked_first, picked_greater, picked_same}
 use Rattle.search_bounds.proofs.Bounding.{count_read, count-marks, chosen_made}
+use Rattle.search_bounds.proofs.picks.pick_at.Goals.{then-best-w, else-best-w}
 use Rattle.search_bounds.proofs.picks.pick_at.Goals as goal
 
 pub header-h-requires : goal.header-h-requires
@@ -11,8 +12,7 @@ mark_weight-best-requires c =
     (c.requires.0, omega (arith, c.requires.0.landmarks.0), c.requires.1, c.requires.2)
 
 pub loop-j-init : goal.loop-j-init
-loop-j-init c =
-    picked_first _ _ (omega (arith, count_read _ _ c.header-h.ensures, c.requires.0.landmarks.0)) _ c.mark_weight-best.ensures
+loop-j-init c = picked_first _ _ c.mark_weight-best.ensures
 
 pub mark_weight-w-requires : goal.mark_weight-w-requires
 mark_weight-w-requires c =
@@ -20,10 +20,11 @@ mark_weight-w-requires c =
 
 pub loop-j-preserved : goal.loop-j-preserved
 loop-j-preserved c =
-    picked-turn _ _ _ _ _ _ _ _ c.loop-j.invariant c.loop-j-test.true
-    c.mark_weight-w.ensures c.first_greater-p.ensures c.greater64-best.ensures
+    let i = c.loop-j.invariant in
+    let e = c.mark_weight-w.ensures in
+    elim c.if-best-w.branch [ then-best-w w ↦ rw (w.p-is, w.best-is) (picked_greater _ _ _ _ _ i e w.if-best-w.true) | else-best-w w ↦ rw (w.p-is, w.best-is) (picked_same _ _ _ _ _ i e w.if-best-w.false) ]
 
 pub returns : goal.returns
 returns c =
-    chosen_made _ _ _ _ _ _ (count-marks _ _ c.header-h.ensures _)
-    (picked_all _ _ _ _ _ c.loop-j.invariant c.loop-j-test.false)
+    let k = count-marks _ _ c.header-h.ensures c.args.at in
+    chosen_made _ _ _ _ _ _ (omega (arith, k, c.requires.0.landmarks.0, count_read _ _ c.header-h.ensures)) c.loop-j.invariant.place

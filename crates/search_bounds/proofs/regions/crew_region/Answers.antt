@@ -1,4 +1,5 @@
 use native.Mathlib.Omega.{arith}
+use Rattle.tree_layout.specs.code.Marks.{marks_at}
 use Rattle.search_bounds.proofs.Folds.{greatest_start, greatest-turn, greatest-all}
 use Rattle.search_bounds.proofs.Bounding.{count_read, count-marks, place-there, mark_read, crew_made}
 use Rattle.search_bounds.proofs.regions.crew_region.Goals as goal
@@ -7,7 +8,7 @@ pub header-h-requires : goal.header-h-requires
 header-h-requires c = omega (arith, c.requires.0.header)
 
 pub loop-j-init : goal.loop-j-init
-loop-j-init c = greatest_start _ _
+loop-j-init c = greatest_start _ (marks_at c.args.tree.now c.args.at)
 
 pub landmark-k-requires : goal.landmark-k-requires
 landmark-k-requires c =
@@ -21,7 +22,7 @@ pub loop-j-preserved : goal.loop-j-preserved
 loop-j-preserved c =
     greatest-turn _ _ _ _ c.loop-j.invariant
     (omega (arith, count-marks _ _ c.header-h.ensures c.args.at)) _ _
-    (mark_read _ _ _ _ _ _ c.landmark-k.ensures c.mark_bound.ensures) c.greater-x.ensures
+    (mark_read _ _ _ _ _ _ c.landmark-k.ensures c.mark_bound.ensures) c.max-x.ensures
 
 pub returns : goal.returns
 returns c =

@@ -1,4 +1,3 @@
-use Prim.Native.Nat.{◌-◌}
 use Rattle.tree_layout.specs.code.Marks.{marks_at}
 use Rattle.search_bounds.specs.code.Bounds.{rows_mark}
 use Rattle.search_bounds.proofs.Folds.{Greatest}
@@ -6,6 +5,3 @@ use Rattle.search_bounds.proofs.regions.crew_region.Given as goal
 
 abbrev pub invariant-loop-j : goal.invariant-loop-j
 invariant-loop-j l = Greatest (rows_mark l.table l.rows l.q.number) (marks_at l.tree l.at) l.j l.x
-
-abbrev pub decreases-loop-j : goal.decreases-loop-j
-decreases-loop-j l = l.m - l.j

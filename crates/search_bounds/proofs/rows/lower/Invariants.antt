@@ -1,10 +1,6 @@
 use mathlib.Core.Path.{◌≡◌}
-use Prim.Native.Nat.{◌-◌, ◌≤◌}
 use Rattle.search_bounds.specs.code.Rows.{rows_lower}
 use Rattle.search_bounds.proofs.rows.lower.Given as goal
 
 abbrev pub invariant-loop-r : goal.invariant-loop-r
-invariant-loop-r l = (l.r ≤ l.rows) × (l.x ≡ rows_lower l.table l.r l.l.number l.q.number)
-
-abbrev pub decreases-loop-r : goal.decreases-loop-r
-decreases-loop-r l = l.rows - l.r
+invariant-loop-r l = l.x ≡ rows_lower l.table l.r l.l.number l.q.number

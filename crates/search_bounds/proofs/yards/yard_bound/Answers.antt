@@ -19,4 +19,4 @@ loop-j-preserved c =
     bounding_more _ _ _ _ _ _ _ _ _ c.loop-j.invariant _ _ less e short c.combine-total.ensures
 
 pub returns : goal.returns
-returns c = bounding_all _ _ _ _ _ _ _ _ _ c.loop-j.invariant c.loop-j-test.false
+returns c = bounding_all _ _ _ _ _ _ _ _ _ c.loop-j.invariant (omega arith)

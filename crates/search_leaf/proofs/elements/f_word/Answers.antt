@@ -7,4 +7,4 @@ pub returns-then-x-eq-UNWANTED : goal.returns-then-x-eq-UNWANTED
 returns-then-x-eq-UNWANTED c = sym (mark_word _ (omega (arith, c.if-x-eq-UNWANTED.true)))
 
 pub returns : goal.returns
-returns c = c.wide.ensures.0 ∙ sym (other_word _ (λ e. omega (arith, e, c.if-x-eq-UNWANTED.false)))
+returns c = c.from.ensures ∙ sym (other_word _ (λ e. omega (arith, e, c.if-x-eq-UNWANTED.false)))

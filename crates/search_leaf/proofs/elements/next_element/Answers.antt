@@ -14,7 +14,7 @@ word_of-f-requires c =
 
 pub loop-k-init : goal.loop-k-init
 loop-k-init c =
-    (c.requires.0, scanned_first _ _ (words_by _ _ _ _ _ 0 _ _ c.requires.0 c.element.ensures c.word_of-f.ensures))
+    scanned_first _ _ (words_by _ _ _ _ _ 0 _ _ c.requires.0 c.element.ensures c.word_of-f.ensures)
 
 pub element-requires-in-loop-k : goal.element-requires-in-loop-k
 element-requires-in-loop-k c =
@@ -27,10 +27,8 @@ word_of-w-requires c =
 pub loop-k-preserved : goal.loop-k-preserved
 loop-k-preserved c =
     let l = c.loop-k in
-    let e = words_by _ _ _ _ _ l.k _ _ c.loop-k-test.true c.element-in-loop-k.ensures c.word_of-w.ensures in (
-      omega arith,
-      elim c.if-w-f.branch [ then-w-f w ↦ scanned_on l.invariant.1 _ e _ _ w.place-is w.f-is (omega (arith, w.if-w-f.true)) | else-w-f w ↦ scanned_still l.invariant.1 _ e _ _ w.place-is w.f-is (omega (arith, w.if-w-f.false)) ],
-    )
+    let e = words_by _ _ _ _ _ l.k _ _ c.loop-k-test.true c.element-in-loop-k.ensures c.word_of-w.ensures in
+    elim c.if-w-f.branch [ then-w-f w ↦ scanned_on l.invariant _ e _ _ w.place-is w.f-is (omega (arith, w.if-w-f.true)) | else-w-f w ↦ scanned_still l.invariant _ e _ _ w.place-is w.f-is (omega (arith, w.if-w-f.false)) ]
 
 pub returns : goal.returns
-returns c = scanned_all _ _ _ _ _ c.loop-k.invariant.1 c.loop-k.invariant.0 c.loop-k-test.false
+returns c = scanned_all _ _ _ _ _ c.loop-k.invariant (omega arith) (omega arith)

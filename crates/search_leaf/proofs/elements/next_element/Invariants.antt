@@ -1,4 +1,3 @@
-use Prim.Native.Nat.{◌-◌, ◌≤◌}
 use Rattle.tree_layout.specs.Decode.{read_list}
 use Rattle.search_state.specs.code.State.{fs_in, gone_in}
 use Rattle.search_leaf.specs.code.Leaves.{words_of}
@@ -6,7 +5,4 @@ use Rattle.search_leaf.proofs.Scanning.{Scanned}
 use Rattle.search_leaf.proofs.elements.next_element.Given as goal
 
 abbrev pub invariant-loop-k : goal.invariant-loop-k
-invariant-loop-k l = (l.k ≤ l.yards) × Scanned (words_of (fs_in l.h.junctions l.values) (gone_in l.h.regions l.h.junctions l.words) (read_list l.v l.list l.yards 0)) l.k l.place l.f
-
-abbrev pub decreases-loop-k : goal.decreases-loop-k
-decreases-loop-k l = l.yards - l.k
+invariant-loop-k l = Scanned (words_of (fs_in l.h.junctions l.values) (gone_in l.h.regions l.h.junctions l.words) (read_list l.v l.list l.yards 0)) l.k l.place l.f

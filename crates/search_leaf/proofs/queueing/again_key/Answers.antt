@@ -6,4 +6,4 @@ pub returns-then-next-eq-UNQUEUED : goal.returns-then-next-eq-UNQUEUED
 returns-then-next-eq-UNQUEUED c = again_end _ _ c.if-next-eq-UNQUEUED.true
 
 pub returns : goal.returns
-returns c = again_on _ _ _ c.if-next-eq-UNQUEUED.false (omega arith) c.greater64.ensures
+returns c = again_on _ _ _ c.if-next-eq-UNQUEUED.false (omega arith) c.max.ensures

@@ -53,5 +53,5 @@ returns c =
     c.if-next.false (omega (arith, c.struct_known-1.given)) _
     (leaving-is _ _ _ _ _ w c.args.values.now c.requires.0 _ first.0 _ c.element.ensures)
     _ _ _ _ c.first_at.ensures c.bound_at.ensures c.gone_at-gone_place.ensures c.key_at-key_place.ensures _
-    (rw c.wide-bound.ensures.0 at c.greater64.ensures)
+    (rw c.from-bound.ensures at c.max.ensures)
     _ _ _ again.0 again.1 c.again_key.ensures
