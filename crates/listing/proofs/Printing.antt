@@ -1,11 +1,10 @@
 -- What is printed, by the numbers that a search returns. Assumes nothing.
-use mathlib.Core.Path.{◌≡◌, sym, ap, ◌∙◌}
+use mathlib.Core.Path.{◌≡◌, ap, ◌∙◌}
 use mathlib.Core.Option.{Option}
-use mathlib.Core.List.{List, ◌++◌}
+use mathlib.Core.List.{List, ◌++◌, append_assoc}
 use Prim.Native.Nat.{ℕ}
 use lib.ListN.{length}
 use lib.Dec.{eqb}
-use Rattle.book.specs.Choose.{choose}
 use Rattle.book.proofs.Choosing.{choose_yes, choose_no}
 use Rattle.book.proofs.Lists.{eq→eqb, ne→neqb}
 use Rattle.text.specs.Text.{in_turn, refused_text}
@@ -33,20 +32,23 @@ module _ (f : Found) (results : List ℕ) where
 module _ (r : Returned) (results : List ℕ) where
   same : (t : List ℕ)
       → answer_text (record { refusal = r.refusal; settled = r.settled; listed = r.listed; taken = r.taken; measured = r.measured }) results ≡ t
-      → t ≡ answer_text (found_of r) results
-  same t e = sym (ap (λ (f : Found). answer_text f results) (returned r) ∙ e)
+      → answer_text (found_of r) results ≡ t
+  same t e = ap (λ (f : Found). answer_text f results) (returned r) ∙ e
 
-  pub refused-is : (r.refusal ≡ 0 → ⊥) → refused_text r.refusal ≡ answer_text (found_of r) results
-  refused-is h = same _ (refused_text_lem _ results h)
+  pub refused_is : (r.refusal ≡ 0 → ⊥) → answer_text (found_of r) results ≡ refused_text r.refusal
+  refused_is h = same _ (refused_text_lem _ results h)
 
-  pub spent-is : r.refusal ≡ 0 → r.settled ≡ 0 → word_spent ++ counts_line r.measured r.taken ≡ answer_text (found_of r) results
+  pub spent_is : r.refusal ≡ 0 → r.settled ≡ 0 → answer_text (found_of r) results ≡ word_spent ++ counts_line r.measured r.taken
   unfolding spent_text
-  spent-is e s = same _ (spent_text_lem _ results e s)
+  spent_is e s = same _ (spent_text_lem _ results e s)
 
   pub settled_is : r.refusal ≡ 0 → (r.settled ≡ 0 → ⊥)
-      → (heading ++ in_turn (listed_line results) r.listed) ++ counts_line r.measured r.taken ≡ answer_text (found_of r) results
+      → answer_text (found_of r) results ≡ (heading ++ in_turn (listed_line results) r.listed) ++ counts_line r.measured r.taken
   unfolding settled_text
   settled_is e s = same _ (settled_text_lem _ results e s)
+
+-- what a search's answer asks
+pub ruleset answers = (refused_is, spent_is, settled_is, append_assoc)
 
 -- what the answer to a search by books leads to is what is printed for them
 pub printed : (s : List ℕ) (drive : Option ℕ) (results later : List ℕ) (r : Returned) → found_of r ≡ found_in s drive (length results)

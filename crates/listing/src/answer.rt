@@ -1,64 +1,65 @@
 // A search's answer as text.
-ghost use Rattle.std.specs.Prelude.{◌≡◌, ◌+◌, ◌*◌, ◌≤◌, length, take};
-ghost use Rattle.text.specs.Text.{in_turn, Appended};
+ghost use Rattle.std.specs.Prelude.{◌≡◌, ◌++◌, ◌+◌, ◌*◌, ◌≤◌, length};
+ghost use Rattle.text.specs.Text.{in_turn};
 ghost use Rattle.search_tree.specs.Found.{found_of};
 ghost use Rattle.listing.specs.Output.{yard_line, counts_line, listed_line, answer_text};
 
 use search_tree::Found;
+use text::Text;
 
 // Puts a line for a yard and its distance.
-fn line(out: &mut [u8], at: usize, yard: u32, seconds: u32) -> usize
-    requires { at + 42 ≤ length out.old }
-    ensures added { Appended out.old at (yard_line yard seconds) out.new result }
-    ensures short { result ≤ at + 42 }
+#[tactic(auto, unfolding(crate::specs::Output::yard_line))]
+fn line<const N: usize>(out: &mut Text<N>, yard: u32, seconds: u32)
+    requires { length out.old + 42 ≤ N }
+    ensures added { out.new ≡ out.old ++ yard_line yard seconds }
+    ensures short { length out.new ≤ length out.old + 42 }
 {
-    let next = text::put_number(out, at, yard as u64, b" ");
-    text::put_number(out, next, seconds as u64, b"\n")
+    out.put_number(yard as u64, b" ");
+    out.put_number(seconds as u64, b"\n");
 }
 
 // Puts a line for each yard listed.
-fn lines(out: &mut [u8], at: usize, results: &[u32], listed: usize) -> usize
-    requires { (2 * listed ≤ length results.now) × (at + 42 * listed ≤ length out.old) }
-    ensures added { Appended out.old at (in_turn (listed_line results.now) listed)
-        out.new result }
-    ensures short { result ≤ at + 42 * listed }
+#[tactic(auto, using(text::proofs::Appending::turns))]
+fn lines<const N: usize>(out: &mut Text<N>, results: &[u32], listed: usize)
+    requires { (2 * listed ≤ length results.now) × (length out.old + 42 * listed ≤ N) }
+    ensures added { out.new ≡ out.old ++ in_turn (listed_line results.now) listed }
+    ensures short { length out.new ≤ length out.old + 42 * listed }
 {
-    let mut i: usize = 0;
-    let mut end = at;
-    while i < listed {
-        end = line(out, end, results[2 * i], results[2 * i + 1]);
-        i += 1;
+    for i in 0..listed {
+        line(out, results[2 * i], results[2 * i + 1]);
     }
-    end
 }
 
 // Puts how many yards were measured and how many steps were taken.
-fn counts(out: &mut [u8], at: usize, found: Found) -> usize
-    requires { at + 57 ≤ length out.old }
-    ensures added { Appended out.old at (counts_line found.measured found.taken)
-        out.new result }
-    ensures short { result ≤ at + 57 }
+#[tactic(auto, unfolding(crate::specs::Output::counts_line))]
+fn counts<const N: usize>(out: &mut Text<N>, found: Found)
+    requires { length out.old + 57 ≤ N }
+    ensures added { out.new ≡ out.old ++ counts_line found.measured found.taken }
+    ensures short { length out.new ≤ length out.old + 57 }
 {
-    let first = text::put(out, at, b"measured ");
-    let second = text::put_number(out, first, found.measured as u64, b" taken ");
-    text::put_number(out, second, found.taken as u64, b"\n")
+    out.put(b"measured ");
+    out.put_number(found.measured as u64, b" taken ");
+    out.put_number(found.taken as u64, b"\n");
 }
 
-// Puts what a search's answer and its result words lead to at the start of an array.
-pub fn put(found: Found, results: &[u32], out: &mut [u8]) -> usize
+// Puts what a search's answer and its result words lead to.
+#[tactic(auto, using(crate::proofs::Printing::answers))]
+pub fn put<const N: usize>(found: Found, results: &[u32], out: &mut Text<N>)
     requires { (2 * found.listed ≤ length results.now) × (length results.now ≤ 512)
-        × (65536 ≤ length out.old) }
-    ensures text { take result out.new ≡ answer_text (found_of found) results.now }
-    ensures fits { result ≤ 65536 }
+        × (length out.old + 65536 ≤ N) }
+    ensures text { out.new ≡ out.old ++ answer_text (found_of found) results.now }
+    ensures fits { length out.new ≤ length out.old + 65536 }
 {
     if found.refusal != 0 {
-        return text::put_refused(out, 0, found.refusal);
+        out.put_refused(found.refusal);
+        return;
     }
     if found.settled == 0 {
-        let next = text::put(out, 0, b"spent ");
-        return counts(out, next, found);
+        out.put(b"spent ");
+        counts(out, found);
+        return;
     }
-    let first = text::put(out, 0, b"yard seconds\n");
-    let second = lines(out, first, results, found.listed as usize);
-    counts(out, second, found)
+    out.put(b"yard seconds\n");
+    lines(out, results, found.listed as usize);
+    counts(out, found);
 }

@@ -1,6 +1,6 @@
 -- Numbers in decimal, by running the definition. Assumes nothing.
 use mathlib.Core.Path.{◌≡◌, refl}
-use mathlib.Core.List.{List, [], ◌∷◌}
+use mathlib.Core.List.{[], ◌∷◌}
 use Rattle.book.specs.Choose.{choose}
 use Rattle.text.specs.Text.{decimal_within, decimal}
 

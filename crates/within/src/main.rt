@@ -4,25 +4,27 @@
 // then written.
 mod line; // line.rt: the seconds in the first line
 
-ghost use Rattle.std.specs.Prelude.{◌≡◌, ◌≤◌, length, take};
+ghost use Rattle.std.specs.Prelude.{◌≡◌, ◌++◌, ◌+◌, ◌≤◌, length};
 ghost use Rattle.within.specs.Output.{within_text};
 
 use line::Seconds;
 use search_tree::Goal;
 use streams::Read;
+use text::Text;
 
-// Makes the text that the input leads to, at the start of an array, and answers its length.
-fn text_of(input: &[u8], out: &mut [u8]) -> usize
-    requires { 65536 ≤ length out.old }
-    ensures text { take result out.new ≡ within_text input.now }
-    ensures fits { result ≤ 65536 }
+// Puts the text that the input leads to.
+fn text_of<const N: usize>(input: &[u8], out: &mut Text<N>)
+    requires { length out.old + 65536 ≤ N }
+    ensures text { out.new ≡ out.old ++ within_text input.now }
+    ensures fits { length out.new ≤ length out.old + 65536 }
 {
     let Seconds::Given(seconds) = line::seconds_in(input) else {
-        return text::put_refused(out, 0, 1);
+        out.put_refused(1);
+        return;
     };
     let start = line::line_length(input) + 1;
     let mut results = [0u32; 512];
-    listing::put(&input[start..], Goal::InDrive(seconds), &mut results, out)
+    listing::put(&input[start..], Goal::InDrive(seconds), &mut results, out);
 }
 
 fn main(rt: HostRuntime) {
@@ -30,7 +32,7 @@ fn main(rt: HostRuntime) {
     let Read::Bytes(n) = streams::read_input(&rt, &mut rt.stdin(), &mut input) else {
         return;
     };
-    let mut out = [0u8; 65536];
-    let end = text_of(&input[..n], &mut out);
-    streams::write_output(&rt, &mut rt.stdout(), &out[..end]);
+    let mut out: Text<65536> = Text::new();
+    text_of(&input[..n], &mut out);
+    streams::write_output(&rt, &mut rt.stdout(), out.as_bytes());
 }
