@@ -11,19 +11,19 @@ use Rattle.book.specs.declared.refusal.Refusal.TheVariants.{Length, Version, Hea
 pub refusal_some : (why : Refusal) → 1 ≤ refusal_number why
 refusal_some why =
     elim why as (λ w. 1 ≤ refusal_number w) [
-      Length ↦ omega arith
-    | Version ↦ omega arith
-    | Header ↦ omega arith
-    | Records ↦ omega arith
-    | Value ↦ omega arith
-    | Unreached ↦ omega arith
-    | Shape ↦ omega arith
-    | Disagree ↦ omega arith
-    | Distance ↦ omega arith
-    | Crews ↦ omega arith
-    | Number ↦ omega arith
-    | Area ↦ omega arith
-    | Wanted ↦ omega arith
+      | Length ↦ omega arith
+      | Version ↦ omega arith
+      | Header ↦ omega arith
+      | Records ↦ omega arith
+      | Value ↦ omega arith
+      | Unreached ↦ omega arith
+      | Shape ↦ omega arith
+      | Disagree ↦ omega arith
+      | Distance ↦ omega arith
+      | Crews ↦ omega arith
+      | Number ↦ omega arith
+      | Area ↦ omega arith
+      | Wanted ↦ omega arith
     ]
 
 -- a refusal that a `?` passes on is the callee's

@@ -87,7 +87,5 @@ pub fn answer(
         rule,
         wanted,
     };
-    Ok(accepted::search(
-        adj, tree, places, ends, query, given, work, results,
-    ))
+    Ok(accepted::search(adj, tree, places, ends, query, given, work, results))
 }

@@ -10,12 +10,7 @@ ghost use Rattle.search_tree.specs.code.District.{district_refusal, District};
 use book::refusal::Refusal;
 
 // The first of a tree book's tests that turns it back beside a road book with n junctions, if one does.
-fn read_tree(
-    tree: &[u8],
-    n: u16,
-    places: &mut [usize],
-    ends: &mut [usize],
-) -> Result<(), Refusal>
+fn read_tree(tree: &[u8], n: u16, places: &mut [usize], ends: &mut [usize]) -> Result<(), Refusal>
     requires { (511 ≤ length places.old) × (511 ≤ length ends.old) }
     ensures answer { answer_number result ≡ tree_refusal_in tree.now n }
     ensures places { places.new ≡ places_after tree.now places.old }
