@@ -3,6 +3,7 @@ pub mod Choosing
 pub mod Filling
 pub mod Laws
 pub mod Opening
+pub mod Refusals
 pub mod Lists
 pub mod Writing
 pub mod FirstFailing

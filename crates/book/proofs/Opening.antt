@@ -1,19 +1,15 @@
 -- Which facts lead to which answer of `open_refusal`, and what a book that opens is. Assumes nothing.
-use mathlib.Core.Path.{◌≡◌, refl, sym, ap, ◌∙◌}
-use mathlib.Core.Logic.{◌⊎◌, inl, inr}
-use mathlib.Core.Bool.{not}
+use mathlib.Core.Path.{◌≡◌, refl}
 use mathlib.Core.List.{List, []}
 use Prim.Native.Nat.{ℕ, zero, suc, ◌+◌, ◌≤◌, ◌<◌}
 use native.Mathlib.Omega.{arith}
 use borrow.Author.Tests.{le-leb, lt-leb, eq-eqb, ne_eqb}
 use lib.ListN.{length}
-use lib.Dec.{T, leb, eqb, leb→le, eqb→eq}
+use lib.Dec.{leb→le, eqb→eq}
 use Rattle.book.specs.Choose.{refuse, choose}
 use Rattle.book.specs.Bytes.{u8_at, u32_at}
 use Rattle.book.specs.Cases.{case_of}
-use Rattle.book.specs.Open.{Opens, version, open_refusal, opened, opened_case, opened_number}
-use Rattle.book.specs.declared.Opened.{Opened}
-use Rattle.book.specs.declared.Opened.TheVariants.{Body, Refused}
+use Rattle.book.specs.Open.{Opens, version, open_refusal, Body, Refused, opened, opened_case}
 use Rattle.book.proofs.Choosing.{passed, refuse_case}
 
 -- where the version stands
@@ -93,15 +89,3 @@ pub opened_case_lem : (n : ℕ) → opened_case (opened n) ≡ case_of n []
 unfolding opened opened_case
 opened_case_lem zero = refl
 opened_case_lem (suc n) = refl
-
-pub opened-number : (n : ℕ) → opened_number (opened n) ≡ n
-unfolding opened opened_case opened_number
-opened-number zero = refl
-opened-number (suc n) = refl
-
--- the number of a book that is turned back
-pub number_why : (n : ℕ) (o : Opened) (why r : ℕ) → o ≡ opened n → o ≡ Refused why → r ≡ opened_number o → (n ≡ r) × (1 ≤ r)
-number_why n o why r e f g =
-    let q = opened-refused n why (sym e ∙ f) in
-    let z : r ≡ n = g ∙ ap opened_number e ∙ opened-number n in
-    (sym z, omega (arith, q.0, q.1))

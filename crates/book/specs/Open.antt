@@ -1,11 +1,11 @@
 -- The opening that every book shares: "a 4-byte count of the bytes after it, a version byte .., then fields". Assumes
 -- nothing: these are definitions.
-use Rattle.std.specs.Prelude.{◌≡◌, ℕ, zero, suc, ◌+◌, ◌≤◌, List, [], length, leb, eqb}
+use Rattle.std.specs.Prelude.{◌≡◌, ℕ, zero, suc, ◌+◌, ◌≤◌, List, [], length, leb, eqb, Result, Ok, Err}
 use Rattle.book.specs.Choose.{refuse}
 use Rattle.book.specs.Bytes.{u8_at, u32_at}
 use Rattle.book.specs.Cases.{Case, accepted, refused}
-use Rattle.book.specs.declared.Opened.{Opened}
-use Rattle.book.specs.declared.Opened.TheVariants.{Body, Refused}
+use Rattle.book.specs.Refusals.{refusal_number}
+use Rattle.book.specs.declared.refusal.Refusal.{Refusal}
 
 -- the version byte
 unfoldable pub version : List ℕ → ℕ
@@ -31,6 +31,11 @@ open_refusal b latest header =
     -- 3: "The header is incomplete"
     (refuse (leb (5 + header) (length b)) 3 0))))
 
+-- what opening a book finds: its body, or the number of the test that turns it back
+pub data Opened : Type 0 where
+  Body : Opened
+  Refused : ℕ → Opened
+
 -- a refusal's number as the answer: 0 opens the body
 unfoldable pub opened : ℕ → Opened
 opened zero = Body
@@ -41,6 +46,7 @@ unfoldable pub opened_case : Opened → Case
 opened_case Body = accepted []
 opened_case (Refused why) = refused why 0
 
--- the number of an answer
-unfoldable pub opened_number : Opened → ℕ
-opened_number o = (opened_case o).number
+-- what `book::open` answers, in the paper's numbers
+abbrev pub opened_answer : Result (Unit {0}) Refusal → Opened
+opened_answer (Ok x) = Body
+opened_answer (Err why) = Refused (refusal_number why)

@@ -1,8 +1,12 @@
 #![tactic(auto)]
 
+pub mod refusal; // refusal.rt: why a call is refused
+
 ghost use Rattle.std.specs.Prelude.{◌≡◌, ℕ, ◌+◌, ◌≤◌, ◌<◌, length};
 ghost use Rattle.book.specs.Bytes.{u8_at, u16_at, u32_at, put_u16, put_u32};
-ghost use Rattle.book.specs.Open.{version, open_refusal, opened, opened_number};
+ghost use Rattle.book.specs.Open.{version, open_refusal, opened, opened_answer};
+
+use refusal::Refusal;
 
 // A junction's number: a vertex of the road graph, counted from 0. Never a tree region's number.
 #[derive(Clone, Copy, Debug, PartialEq, Eq, PartialOrd, Ord)]
@@ -50,23 +54,6 @@ pub fn put_u32(d: &mut [u8], i: usize, x: u32)
     d[i..i + 4].copy_from_slice(&x.to_be_bytes());
 }
 
-// What opening a book finds: its body, or the number of the test that turns it back.
-#[derive(Clone, Copy)]
-pub enum Opened {
-    Body,
-    Refused(u8),
-}
-
-// The number of an answer, 0 for a book that opens.
-pub fn number(o: Opened) -> u8
-    ensures { result ≡ opened_number o }
-{
-    match o {
-        Opened::Body => 0,
-        Opened::Refused(why) => why,
-    }
-}
-
 // The version byte.
 pub fn version(b: &[u8]) -> u8
     requires { 5 ≤ length b.now }
@@ -77,25 +64,25 @@ pub fn version(b: &[u8]) -> u8
 
 // Opens a book of versions up to `latest` whose header has `header` bytes after the version: tests 1, 2 and the
 // incomplete header of 3.
-pub fn open(b: &[u8], latest: u8, header: usize) -> Opened
-    ensures { result ≡ opened (open_refusal b.now latest header) }
+pub fn open(b: &[u8], latest: u8, header: usize) -> Result<(), Refusal>
+    ensures { opened_answer result ≡ opened (open_refusal b.now latest header) }
 {
     let n = b.len();
     if n < 5 {
-        return Opened::Refused(1);
+        return Err(Refusal::Length);
     }
     if u32_at(b, 0) as usize != n - 4 {
-        return Opened::Refused(1);
+        return Err(Refusal::Length);
     }
     let given = version(b);
     if given < 1 {
-        return Opened::Refused(2);
+        return Err(Refusal::Version);
     }
     if latest < given {
-        return Opened::Refused(2);
+        return Err(Refusal::Version);
     }
     if n - 5 < header {
-        return Opened::Refused(3);
+        return Err(Refusal::Header);
     }
-    Opened::Body
+    Ok(())
 }

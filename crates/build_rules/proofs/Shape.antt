@@ -12,8 +12,7 @@ use lib.ListN.{length, length-append}
 use lib.Dec.{T}
 use Rattle.tree_layout.specs.Values.{Region, region_at}
 use Rattle.tree_layout.proofs.MarkFields.{region_seam}
-use Rattle.tree.specs.declared.shape.End.{End}
-use Rattle.tree.specs.Shape.{end_at, siblings, subtree, levels}
+use Rattle.tree.specs.Shape.{End, end_at, siblings, subtree, levels}
 use Rattle.tree.specs.Yards.{end_of, yards_below}
 use Rattle.tree.proofs.Forest.{siblings-next, siblings-step, siblings-end, siblings-ended, subtree-leaf, subtree-inner, end_is}
 use Rattle.tree.proofs.ForestLaws.{Sane, span, span_split, span_none, span-leaf, span-inner, below_span}

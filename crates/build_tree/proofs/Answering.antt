@@ -15,15 +15,11 @@ use Rattle.book.proofs.Lists.{eq→eqb, ne→neqb}
 use Rattle.work_area.specs.Work.{work_words, work_refusal, zeroed, work_after}
 use Rattle.work_area.proofs.Zeroing.{work-short, work-enough, enough-work, accepted-zeroed, refused-kept}
 use Rattle.road_layout.specs.Road.{junctions, road_count}
-use Rattle.road_layout.specs.Layout.{told, road_number as road-number}
-use Rattle.road_layout.specs.declared.RoadBook.{RoadBook}
-use Rattle.road_layout.specs.declared.RoadBook.TheVariants.{Sound, Refused}
-use Rattle.road_layout.proofs.Reading.{told_why, told_sound, number-told}
+use Rattle.road_layout.specs.Layout.{Sound, Refused, told}
 use Rattle.road.specs.Refusal.{road_refusal}
-use Rattle.yard.specs.Yards.{yard_count, yard_refusal_in, yard_book, yard_number}
-use Rattle.yard.specs.declared.YardBook.{YardBook}
-use Rattle.yard.specs.declared.YardBook.TheVariants.{Yards, Refused as yard-refused}
-use Rattle.yard.proofs.Answering.{yards-number, refused-number, number_is}
+use Rattle.road.proofs.Answering.{read_sound, read_refused}
+use Rattle.yard.specs.Yards.{yard_count, yard_refusal_in, Yards, Refused as yard-refused, yard_book}
+use Rattle.yard.proofs.Answering.{yards-number, refused-number}
 use Rattle.yard.proofs.YardLayout.{passes-alone, five}
 use Rattle.tree_encode.specs.Encode.{encode, tree_room}
 use Rattle.build_tree.specs.Build.{range_refusal, room_refusal, build_answer, built_tree, built_length, tree_after}
@@ -92,8 +88,8 @@ module _ (v words room : ℕ) where
       record { work = enough-work words a.0; tree = leb→le (tree_room v) room (passed _ _ _ a.1 (omega arith)).0 }
 
 -- a yard book that is read has a version byte
-pub yard_five : (yard : List ℕ) (n count : ℕ) (y : YardBook) → y ≡ yard_book (yard_refusal_in yard n) (yard_count yard) → y ≡ Yards count → 5 ≤ length yard
-yard_five yard n count y g p = five yard (passes-alone yard n (yards-number (yard_refusal_in yard n) (yard_count yard) count (sym g ∙ p)).0)
+pub yard_five : (yard : List ℕ) (n count : ℕ) → Yards count ≡ yard_book (yard_refusal_in yard n) (yard_count yard) → 5 ≤ length yard
+yard_five yard n count g = five yard (passes-alone yard n (yards-number (yard_refusal_in yard n) (yard_count yard) count (sym g)).0)
 
 -- ---- the whole answer
 
@@ -128,64 +124,53 @@ module _ (road yard : List ℕ) (m limit words room : ℕ) where
   yard_turned e h = first-later _ _ e ∙ first-earlier (yard_refusal_in yard (junctions road)) _ h
 
   -- what reading the road book found
-  module _ (o : RoadBook) (e : o ≡ told (road_refusal road) (junctions road) (road_count road)) where
-    pub build_road : (why r : ℕ) → o ≡ Refused why → r ≡ road-number o → r ≡ build_answer road yard m limit words room
-    build_road why r f p =
-        let q = told_why (road_refusal road) (junctions road) (road_count road) why (sym e ∙ f) in
-        let z : r ≡ road_refusal road = p ∙ ap road-number e ∙ number-told (road_refusal road) (junctions road) (road_count road) in
-        z ∙ sym (road_turned (omega (arith, q.0, q.1)))
+  pub build_road : (why : ℕ) → Refused why ≡ told (road_refusal road) (junctions road) (road_count road) → why ≡ build_answer road yard m limit words room
+  build_road why e = let q = read_refused road why e in sym (road_turned (omega (arith, q.0, q.1)) ∙ q.0)
 
-    module _ (n k : ℕ) (f : o ≡ Sound n k) where
-      road_sound : (road_refusal road ≡ 0) × (n ≡ junctions road)
-      road_sound =
-          let q = told_sound (road_refusal road) (junctions road) (road_count road) n k (sym e ∙ f) in
-          (q.0, q.1)
+  module _ (n k : ℕ) (e : Sound n k ≡ told (road_refusal road) (junctions road) (road_count road)) where
+    road_sound : (road_refusal road ≡ 0) × (n ≡ junctions road)
+    road_sound = let q = read_sound road n k e in (q.0, q.1)
 
-      -- and the yard book
-      module _ (y : YardBook) (g : y ≡ yard_book (yard_refusal_in yard n) (yard_count yard)) where
-        on : y ≡ yard_book (yard_refusal_in yard (junctions road)) (yard_count yard)
-        on = rw (← road_sound.1) g
+    -- and the yard book
+    pub build_yard : (why : ℕ) → yard-refused why ≡ yard_book (yard_refusal_in yard n) (yard_count yard) → why ≡ build_answer road yard m limit words room
+    build_yard why g =
+        let x = rw road_sound.1 at (refused-number (yard_refusal_in yard n) (yard_count yard) why (sym g)) in
+        sym (yard_turned road_sound.0 (omega (arith, x.0, x.1)) ∙ x.0)
 
-        pub build_yard : (why r : ℕ) → y ≡ yard-refused why → r ≡ yard_number y → r ≡ build_answer road yard m limit words room
-        build_yard why r p q =
-            let x = refused-number (yard_refusal_in yard (junctions road)) (yard_count yard) why (sym on ∙ p) in
-            let z : r ≡ yard_refusal_in yard (junctions road) = q ∙ ap yard_number on ∙ number_is (yard_refusal_in yard (junctions road)) (yard_count yard) in
-            z ∙ sym (yard_turned road_sound.0 (omega (arith, x.0, x.1)))
+    module _ (count : ℕ) (g : Yards count ≡ yard_book (yard_refusal_in yard n) (yard_count yard)) where
+      yard_sound : yard_refusal_in yard (junctions road) ≡ 0
+      yard_sound = rw (← road_sound.1) (yards-number (yard_refusal_in yard n) (yard_count yard) count (sym g)).0
 
-        module _ (count : ℕ) (p : y ≡ Yards count) (r : ℕ) (q : r ≡ range_refusal m limit) where
-          yard_sound : yard_refusal_in yard (junctions road) ≡ 0
-          yard_sound = (yards-number (yard_refusal_in yard (junctions road)) (yard_count yard) count (sym on ∙ p)).0
+      pub build_range : (why : ℕ) → why ≡ range_refusal m limit → 1 ≤ why → why ≡ build_answer road yard m limit words room
+      build_range why q h = q ∙ sym (call_tests road_sound.0 yard_sound ∙ first-earlier (range_refusal m limit) _ (omega (arith, q)))
 
-          pub build_range : (r ≡ 0 → ⊥) → r ≡ build_answer road yard m limit words room
-          build_range z = q ∙ sym (call_tests road_sound.0 yard_sound ∙ first-earlier (range_refusal m limit) _ (omega (arith, q)))
+      module _ (q : 0 ≡ range_refusal m limit) where
+        tests : build_answer road yard m limit words room ≡ room_refusal (version yard) words room
+        tests = area_tests_lem road_sound.0 yard_sound (sym q)
 
-          module _ (z : r ≡ 0) where
-            tests : build_answer road yard m limit words room ≡ room_refusal (version yard) words room
-            tests = area_tests_lem road_sound.0 yard_sound (sym q ∙ z)
+        pub build_work : words < work_words → 12 ≡ build_answer road yard m limit words room
+        build_work h = short-work (version yard) words room h ∙ sym tests
 
-            pub build_work : words < work_words → 12 ≡ build_answer road yard m limit words room
-            build_work h = short-work (version yard) words room h ∙ sym tests
+        -- beside the bytes that the area must have, by the version that is read
+        module _ (v size : ℕ) (ev : v ≡ version yard) (es : size ≡ tree_room v) where
+          needed : size ≡ tree_room (version yard)
+          needed = es ∙ ap tree_room ev
 
-            -- beside the bytes that the area must have, by the version that is read
-            module _ (v size : ℕ) (ev : v ≡ version yard) (es : size ≡ tree_room v) where
-              needed : size ≡ tree_room (version yard)
-              needed = es ∙ ap tree_room ev
+          pub build_room : work_words ≤ words → room < size → 12 ≡ build_answer road yard m limit words room
+          build_room h k = short-tree (version yard) words room h (omega (arith, needed)) ∙ sym tests
 
-              pub build_room : work_words ≤ words → room < size → 12 ≡ build_answer road yard m limit words room
-              build_room h k = short-tree (version yard) words room h (omega (arith, needed)) ∙ sym tests
-
-              pub build_passes : work_words ≤ words → size ≤ room → 0 ≡ build_answer road yard m limit words room
-              build_passes h k = long_enough (version yard) words room h (omega (arith, needed)) ∙ sym tests
+          pub build_passes : work_words ≤ words → size ≤ room → 0 ≡ build_answer road yard m limit words room
+          build_passes h k = long_enough (version yard) words room h (omega (arith, needed)) ∙ sym tests
 
 -- ---- the length and the areas after a call
 
-module _ (road yard : List ℕ) (m limit : ℕ) (work tree : List ℕ) (why : ℕ) (e : why ≡ build_answer road yard m limit (length work) (length tree)) where
+module _ (road yard : List ℕ) (m limit : ℕ) (work tree : List ℕ) where
   abbrev answer : ℕ
   answer = build_answer road yard m limit (length work) (length tree)
 
-  module _ (h : why ≡ 0 → ⊥) where
+  module _ (why : ℕ) (e : why ≡ build_answer road yard m limit (length work) (length tree)) (h : 1 ≤ why) where
     turned : answer ≢ 0
-    turned z = h (e ∙ z)
+    turned z = omega (arith, e, z)
 
     pub turned_length : 0 ≡ built_length road yard m limit (length work) (length tree)
     unfolding built_length
@@ -198,12 +183,9 @@ module _ (road yard : List ℕ) (m limit : ℕ) (work tree : List ℕ) (why : �
     unfolding tree_after
     turned_tree = sym (choose_no (eqb answer 0) _ tree (ne→neqb answer 0 turned))
 
-  module _ (z : why ≡ 0) where
+  module _ (e : 0 ≡ build_answer road yard m limit (length work) (length tree)) where
     taken : answer ≡ 0
-    taken = sym e ∙ z
-
-    pub taken-answer : 0 ≡ build_answer road yard m limit (length work) (length tree)
-    taken-answer = sym taken
+    taken = sym e
 
     pub taken-facts : AcceptedBuild road yard m limit (length work) (length tree)
     taken-facts = accepted-facts road yard m limit (length work) (length tree) taken

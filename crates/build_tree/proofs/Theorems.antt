@@ -111,9 +111,9 @@ module _ (road yard : List ℕ) (m limit words room : ℕ) where
 module _ (road yard : List ℕ) (m limit : ℕ) (work tree : List ℕ) where
   kept : build_answer road yard m limit (length work) (length tree) ≢ 0 → Kept road yard m limit work tree
   kept h = record {
-    length_none = sym (turned_length road yard m limit work tree (build_answer road yard m limit (length work) (length tree)) refl h);
-    tree-kept = sym (turned_tree road yard m limit work tree (build_answer road yard m limit (length work) (length tree)) refl h);
-    work-kept = sym (turned_work road yard m limit work tree (build_answer road yard m limit (length work) (length tree)) refl h);
+    length_none = sym (turned_length road yard m limit work tree _ refl (omega (arith, h)));
+    tree-kept = sym (turned_tree road yard m limit work tree _ refl (omega (arith, h)));
+    work-kept = sym (turned_work road yard m limit work tree _ refl (omega (arith, h)));
   }
 
   module _ (z : build_answer road yard m limit (length work) (length tree) ≡ 0) where
@@ -125,11 +125,11 @@ module _ (road yard : List ℕ) (m limit : ℕ) (work tree : List ℕ) where
 
     length-is : built_length road yard m limit (length work) (length tree) ≡ length (encode (built_tree road yard m limit))
     length-is =
-        sym (taken-length road yard m limit work tree (build_answer road yard m limit (length work) (length tree)) refl z (length (encode t)) refl)
+        sym (taken-length road yard m limit work tree (sym z) (length (encode t)) refl)
 
     tree_is : tree_after road yard m limit (length work) tree ≡ write tree 0 (encode (built_tree road yard m limit))
     tree_is =
-        sym (taken-tree road yard m limit work tree (build_answer road yard m limit (length work) (length tree)) refl z (write tree 0 (encode t)) refl)
+        sym (taken-tree road yard m limit work tree (sym z) (write tree 0 (encode t)) refl)
 
     fits : length (encode (built_tree road yard m limit)) ≤ length tree
     fits = omega (arith, short road yard m limit (length work) (length tree) acc, acc.areas.tree)

@@ -1,8 +1,9 @@
 -- A build's answer, the tree that it writes, and the tree area after it. Assumes nothing: these are definitions.
-use Rattle.std.specs.Prelude.{List, ℕ, length, leb, eqb}
+use Rattle.std.specs.Prelude.{List, ℕ, length, leb, eqb, Result, Ok, Err}
 use Rattle.book.specs.Choose.{choose, refuse, first_of}
 use Rattle.book.specs.Open.{version}
 use Rattle.book.specs.Writing.{write}
+use Rattle.book.specs.declared.refusal.Refusal.{Refusal}
 use Rattle.work_area.specs.Work.{work_refusal}
 use Rattle.road_layout.specs.Road.{junctions}
 use Rattle.road.specs.Refusal.{road_refusal}
@@ -44,6 +45,11 @@ built_tree road yard m limit = cut_tree (given road yard m limit) (junctions roa
 unfoldable pub built_length : (road yard : List ℕ) (m limit words room : ℕ) → ℕ
 built_length road yard m limit words room =
     choose (eqb (build_answer road yard m limit words room) 0) (length (encode (built_tree road yard m limit))) 0
+
+-- the length that the code answers, in the paper's numbers
+abbrev pub answer_length : Result ℕ Refusal → ℕ
+answer_length (Ok n) = n
+answer_length (Err why) = 0
 
 -- the tree area after a build: the tree's book at its start, and "Bytes after a built tree stay.";
 -- a refusal "changes no lent byte or word"

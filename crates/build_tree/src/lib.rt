@@ -2,19 +2,19 @@
 // Build: the tree that is cut from a road book and a yard book, written into a lent area.
 ghost use Rattle.std.specs.Prelude.{◌≡◌, List, ℕ, length};
 ghost use Rattle.book.specs.Writing.{write};
+ghost use Rattle.book.specs.Refusals.{answer_number};
 ghost use Rattle.work_area.specs.Work.{work_words, work_after};
 ghost use Rattle.adjacency.specs.Adjacency.{adjacency_words, Adjacency};
 ghost use Rattle.road.specs.Refusal.{road_refusal};
 ghost use Rattle.tree_encode.specs.Encode.{encode, tree_room};
-ghost use Rattle.build_tree.specs.Build.{range_refusal, build_answer, built_tree, built_length, tree_after};
+ghost use Rattle.build_tree.specs.Build.{range_refusal, build_answer, built_tree, built_length, answer_length, tree_after};
 ghost use Rattle.build_tree.specs.Facts.{AcceptedBy};
 
 use book::Junction;
+use book::refusal::Refusal;
 use build_cuts::Plan;
-use road_layout::RoadBook;
 use tree_layout::Header;
 use tree_layout::records::FIRST_RECORD;
-use yard::YardBook;
 
 // The bytes of the longest built tree of version 1, and of version 2.
 pub const TREE_BYTES: usize = 21981;
@@ -32,31 +32,23 @@ const CUTS: usize = 5;
 // The bytes of a book's count of the bytes after it.
 const COUNT_SIZE: usize = 4;
 
-// What a build returns: the number of the test that turns it back, or 0 and the tree's length.
-#[repr(C)]
-#[derive(Clone, Copy)]
-pub struct Built {
-    pub refusal: u32,
-    pub length: u32,
-}
-
-// 11 if m or the leaf limit is outside its range, else 0.
-fn range_refusal(m: u32, limit: u32) -> u8
-    ensures { result ≡ range_refusal m limit }
+// Test 11: m and the leaf limit.
+fn range_refusal(m: u32, limit: u32) -> Result<(), Refusal>
+    ensures { answer_number result ≡ range_refusal m limit }
 {
     if m < 1 {
-        return 11;
+        return Err(Refusal::Number);
     }
     if MOST_LANDMARKS < m {
-        return 11;
+        return Err(Refusal::Number);
     }
     if limit < 1 {
-        return 11;
+        return Err(Refusal::Number);
     }
     if MOST_YARDS < limit {
-        return 11;
+        return Err(Refusal::Number);
     }
-    0
+    Ok(())
 }
 
 // The bytes that the area of a built tree of a version must have.
@@ -69,8 +61,8 @@ fn tree_room(version: u8) -> usize
     TREE_BYTES_2
 }
 
-// The number of the first test that turns a build back, with so many work words and so much room for the tree, or 0;
-// the road book's adjacency is kept.
+// The first test that turns a build back, with so many work words and so much room for the tree, if one does; the road
+// book's adjacency is kept.
 fn refusal(
     road: &[u8],
     yard: &[u8],
@@ -79,31 +71,22 @@ fn refusal(
     words: usize,
     room: usize,
     adj: &mut [u16],
-) -> u8
+) -> Result<(), Refusal>
     requires { length adj.old ≡ adjacency_words }
-    ensures answer { result ≡ build_answer road.now yard.now m limit words room }
+    ensures answer { answer_number result ≡ build_answer road.now yard.now m limit words room }
     ensures adjacency { road_refusal road.now ≡ 0
         → Adjacency road.now adj.new }
 {
-    let r = road::read(road, adj);
-    let RoadBook::Sound { junctions, roads } = r else {
-        return road_layout::number(r);
-    };
-    let y = yard::read_in(yard, junctions);
-    let YardBook::Yards(count) = y else {
-        return yard::number(y);
-    };
-    let why = range_refusal(m, limit);
-    if why != 0 {
-        return why;
-    }
+    let counts = road::read(road, adj)?;
+    yard::read_in(yard, counts.junctions)?;
+    range_refusal(m, limit)?;
     if words < work_area::WORDS {
-        return 12;
+        return Err(Refusal::Area);
     }
     if room < tree_room(book::version(yard)) {
-        return 12;
+        return Err(Refusal::Area);
     }
-    0
+    Ok(())
 }
 
 // Writes the tree of an accepted call, the regions first and then the header, and returns its length.
@@ -140,10 +123,10 @@ pub fn build(
     limit: u32,
     work: &mut [u32],
     tree: &mut [u8],
-) -> Built
-    ensures refusal { result.refusal ≡ build_answer road.now yard.now m limit
+) -> Result<u32, Refusal>
+    ensures refusal { answer_number result ≡ build_answer road.now yard.now m limit
         (length work.old) (length tree.old) }
-    ensures length { result.length ≡ built_length road.now yard.now m limit
+    ensures length { answer_length result ≡ built_length road.now yard.now m limit
         (length work.old) (length tree.old) }
     ensures work { work.new ≡ work_after (build_answer road.now yard.now m limit
         (length work.old) (length tree.old)) work.old }
@@ -151,21 +134,12 @@ pub fn build(
         (length work.old) tree.old }
 {
     let mut adj = [0u16; adjacency::WORDS];
-    let why = refusal(road, yard, m, limit, work.len(), tree.len(), &mut adj);
-    if why != 0 {
-        return Built {
-            refusal: why as u32,
-            length: 0,
-        };
-    }
+    refusal(road, yard, m, limit, work.len(), tree.len(), &mut adj)?;
     let plan = Plan {
         landmarks: m as usize,
         limit: limit as usize,
     };
     let end = put_tree(&adj, yard, plan, tree);
     work_area::zero_words(work);
-    Built {
-        refusal: 0,
-        length: end as u32,
-    }
+    Ok(end as u32)
 }

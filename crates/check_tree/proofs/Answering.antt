@@ -12,18 +12,14 @@ use Rattle.book.proofs.Choosing.{passes_if, fails_if, first-earlier, first-later
 use Rattle.work_area.specs.Work.{work_words, work_refusal, zeroed, work_after}
 use Rattle.work_area.proofs.Zeroing.{work-short, work-enough, enough-work, accepted-zeroed, refused-kept}
 use Rattle.road_layout.specs.Road.{junctions, road_count}
-use Rattle.road_layout.specs.Layout.{told, road_number as road-number}
-use Rattle.road_layout.specs.declared.RoadBook.{RoadBook}
-use Rattle.road_layout.specs.declared.RoadBook.TheVariants.{Sound, Refused}
-use Rattle.road_layout.proofs.Reading.{told_why, told_sound, number-told}
+use Rattle.road_layout.specs.Layout.{Sound, Refused, told}
 use Rattle.adjacency.specs.Adjacency.{count_in, Adjacency, IsAdjacency}
 use Rattle.road.specs.Dijkstra.{dist}
 use Rattle.road.specs.Refusal.{road_refusal}
-use Rattle.yard.specs.Yards.{yards_of, yard_count, kind_of, yard_refusal, yard_refusal_in, yard_book, yard_number}
-use Rattle.yard.specs.declared.YardBook.{YardBook}
-use Rattle.yard.specs.declared.YardBook.TheVariants.{Yards, Refused as yard-refused}
+use Rattle.road.proofs.Answering.{read_sound, read_refused}
+use Rattle.yard.specs.Yards.{yards_of, yard_count, kind_of, yard_refusal, yard_refusal_in, Yards, Refused as yard-refused, yard_book}
 use Rattle.yard.proofs.YardLayout.{passes-alone}
-use Rattle.yard.proofs.Answering.{yards-number, refused-number, number_is}
+use Rattle.yard.proofs.Answering.{yards-number, refused-number}
 use Rattle.tree_layout.specs.Decode.{junction_count, decode}
 use Rattle.tree_layout.specs.Decode as Book
 use Rattle.tree_layout.specs.Refusal.{tree_layout_refusal}
@@ -33,11 +29,9 @@ use Rattle.tree_layout.proofs.Accepting.{facts-layout}
 use Rattle.tree_layout.proofs.Reading.{header-junctions, header-yards}
 use Rattle.tree.specs.Shape.{tree_refusal}
 use Rattle.tree.specs.Yards.{tree_yards}
-use Rattle.tree.specs.Answer.{tree_of, tree_number as tree-number}
-use Rattle.tree.specs.declared.Tree.{Tree}
-use Rattle.tree.specs.declared.Tree.TheVariants.{Shaped, Refused as tree-refused}
+use Rattle.tree.specs.Answer.{Shaped, Refused as tree-refused, tree_of}
 use Rattle.tree.proofs.Theorems.{tree-facts}
-use Rattle.tree.proofs.Answering.{shaped-answer, shaped-found, number_is as tree-number-is}
+use Rattle.tree.proofs.Answering.{shaped-found, turned_back}
 use Rattle.check_rules.specs.Truth.{true_tree, true_beside, kinds_tree, kinds_beside}
 use Rattle.check_rules.specs.Facts.{Same}
 use Rattle.check_distances.specs.code.Beside.{Beside}
@@ -51,18 +45,9 @@ use Rattle.check_tree.proofs.Matching.{counted_same, counts_differ}
 
 module _ (road yard tree : List ℕ) where
   -- its own tests turn it back
-  pub tree_own : (o : Tree) (why r : ℕ) → o ≡ tree_of tree → o ≡ tree-refused why → r ≡ tree-number o → r ≡ tree_refusal_beside road yard tree
+  pub tree_own : (why : ℕ) → tree-refused why ≡ tree_of tree → why ≡ tree_refusal_beside road yard tree
   unfolding tree_refusal_beside
-  tree_own o why r e f g =
-      let n : r ≡ tree_refusal tree = g ∙ tree-number-is tree o e in
-      n ∙ sym (first-earlier (tree_refusal tree) _ (some (tree_refusal tree) refl))
-    where
-      some : (n : ℕ) → n ≡ tree_refusal tree → 1 ≤ tree_refusal tree
-      some zero q =
-          let s : Shaped (header_of tree) ≡ tree-refused why = shaped-answer tree 0 (header_of tree) q refl refl ∙ sym e ∙ f in
-          let z : ◌≡◌ {A = ℕ} 0 1 = cc in
-          absurd (omega arith)
-      some (suc n) q = omega arith
+  tree_own why e = let n = turned_back tree why e in sym (first-earlier (tree_refusal tree) _ (omega (arith, n.0, n.1)) ∙ n.0)
 
   module _ (ok : tree_refusal tree ≡ 0) where
     pub junctions_differ : (junction_count tree ≡ junctions road → ⊥) → 8 ≡ tree_refusal_beside road yard tree
@@ -93,16 +78,15 @@ module _ (road yard tree : List ℕ) where
 
 -- ---- the steps of the tree book's tests, from what the reader found
 
-module _ (adj yard tree : List ℕ) (roads : IsAdjacency adj) (alone : yard_refusal yard ≡ 0) (o : Tree) (h : Header) (e : o ≡ tree_of tree)
-    (f : o ≡ Shaped h) where
+module _ (adj yard tree : List ℕ) (roads : IsAdjacency adj) (alone : yard_refusal yard ≡ 0) (h : Header) (e : Shaped h ≡ tree_of tree) where
   ok : tree_refusal tree ≡ 0
-  ok = (shaped-found tree o h e f).0
+  ok = (shaped-found tree h e).0
 
   junctions_are : h.junctions ≡ junction_count tree
-  junctions_are = ap (λ (x : Header). x.junctions) (sym (shaped-found tree o h e f).1) ∙ header-junctions tree
+  junctions_are = ap (λ (x : Header). x.junctions) (sym (shaped-found tree h e).1) ∙ header-junctions tree
 
   yards_are : h.yards ≡ Book.tree_yard_count tree
-  yards_are = ap (λ (x : Header). x.yards) (sym (shaped-found tree o h e f).1) ∙ header-yards tree
+  yards_are = ap (λ (x : Header). x.yards) (sym (shaped-found tree h e).1) ∙ header-yards tree
 
   -- the yards are looked up in a yard book and a tree book of sound layout
   pub step_needs : (yard_refusal yard ≡ 0) × (tree_layout_refusal tree ≡ 0)
@@ -155,86 +139,69 @@ module _ (adj yard tree : List ℕ) (roads : IsAdjacency adj) (alone : yard_refu
 
 -- ---- what the readers of the road book and the yard book found
 
-module _ (road : List ℕ) (o : RoadBook) (e : o ≡ told (road_refusal road) (junctions road) (road_count road)) where
-  road-refused : (why r : ℕ) → o ≡ Refused why → r ≡ road-number o → (r ≡ road_refusal road) × (1 ≤ road_refusal road)
-  road-refused why r f g =
-      let q = told_why (road_refusal road) (junctions road) (road_count road) why (sym e ∙ f) in
-      (g ∙ ap road-number e ∙ number-told (road_refusal road) (junctions road) (road_count road), omega (arith, q.0, q.1))
+module _ (road : List ℕ) (n m : ℕ) (e : Sound n m ≡ told (road_refusal road) (junctions road) (road_count road)) where
+  road_sound : (road_refusal road ≡ 0) × (n ≡ junctions road)
+  road_sound = let q = read_sound road n m e in (q.0, q.1)
 
-  module _ (n m : ℕ) (f : o ≡ Sound n m) where
-    road_sound : (road_refusal road ≡ 0) × (n ≡ junctions road)
-    road_sound =
-        let q = told_sound (road_refusal road) (junctions road) (road_count road) n m (sym e ∙ f) in
-        (q.0, q.1)
+  -- the adjacency that the reader keeps
+  module _ (adj : List ℕ) (k : road_refusal road ≡ 0 → Adjacency road adj) where
+    pub road-kept : Adjacency road adj
+    road-kept = k road_sound.0
 
-    -- the adjacency that the reader keeps
-    module _ (adj : List ℕ) (k : road_refusal road ≡ 0 → Adjacency road adj) where
-      pub road-kept : Adjacency road adj
-      road-kept = k road_sound.0
+    pub road-adjacent : IsAdjacency adj
+    road-adjacent = record { book = road; adjacent = road-kept }
 
-      pub road-adjacent : IsAdjacency adj
-      road-adjacent = record { book = road; adjacent = road-kept }
+  module _ (yard : List ℕ) where
+    yard_refuses : (why : ℕ) → yard-refused why ≡ yard_book (yard_refusal_in yard n) (yard_count yard)
+        → (yard_refusal_in yard (junctions road) ≡ why) × (1 ≤ why)
+    yard_refuses why g = rw (← road_sound.1) (refused-number (yard_refusal_in yard n) (yard_count yard) why (sym g))
 
-    module _ (yard : List ℕ) (y : YardBook) (g : y ≡ yard_book (yard_refusal_in yard n) (yard_count yard)) where
-      on : y ≡ yard_book (yard_refusal_in yard (junctions road)) (yard_count yard)
-      on = rw (← road_sound.1) g
+    module _ (count : ℕ) (g : Yards count ≡ yard_book (yard_refusal_in yard n) (yard_count yard)) where
+      yard_in : yard_refusal_in yard (junctions road) ≡ 0
+      yard_in = rw (← road_sound.1) (yards-number (yard_refusal_in yard n) (yard_count yard) count (sym g)).0
 
-      yard_refuses : (why r : ℕ) → y ≡ yard-refused why → r ≡ yard_number y
-          → (r ≡ yard_refusal_in yard (junctions road)) × (1 ≤ yard_refusal_in yard (junctions road))
-      yard_refuses why r p q =
-          let x = refused-number (yard_refusal_in yard (junctions road)) (yard_count yard) why (sym on ∙ p) in
-          (q ∙ ap yard_number on ∙ number_is (yard_refusal_in yard (junctions road)) (yard_count yard), omega (arith, x.0, x.1))
-
-      module _ (count : ℕ) (p : y ≡ Yards count) where
-        yard_in : yard_refusal_in yard (junctions road) ≡ 0
-        yard_in = (yards-number (yard_refusal_in yard (junctions road)) (yard_count yard) count (sym on ∙ p)).0
-
-        pub yard_sound : yard_refusal yard ≡ 0
-        yard_sound = passes-alone yard (junctions road) yard_in
+      pub yard_sound : yard_refusal yard ≡ 0
+      yard_sound = passes-alone yard (junctions road) yard_in
 
 -- ---- the whole answer
 
-module _ (road yard tree : List ℕ) (words : ℕ) (o : RoadBook) (e : o ≡ told (road_refusal road) (junctions road) (road_count road)) where
-  pub check_road : (why r : ℕ) → o ≡ Refused why → r ≡ road-number o → r ≡ check_answer road yard tree words
+module _ (road yard tree : List ℕ) (words : ℕ) where
+  pub check_road : (why : ℕ) → Refused why ≡ told (road_refusal road) (junctions road) (road_count road) → why ≡ check_answer road yard tree words
   unfolding check_answer
-  check_road why r f g =
-      let q = road-refused road o e why r f g in
-      q.0 ∙ sym (first-earlier (road_refusal road) _ q.1)
+  check_road why e = let q = read_refused road why e in sym (first-earlier (road_refusal road) _ (omega (arith, q.0, q.1)) ∙ q.0)
 
-  module _ (n m : ℕ) (f : o ≡ Sound n m) (y : YardBook) (g : y ≡ yard_book (yard_refusal_in yard n) (yard_count yard)) where
-    pub check_yard : (why r : ℕ) → y ≡ yard-refused why → r ≡ yard_number y → r ≡ check_answer road yard tree words
+  module _ (n m : ℕ) (e : Sound n m ≡ told (road_refusal road) (junctions road) (road_count road)) where
+    pub check_yard : (why : ℕ) → yard-refused why ≡ yard_book (yard_refusal_in yard n) (yard_count yard) → why ≡ check_answer road yard tree words
     unfolding check_answer
-    check_yard why r p q =
-        let x = yard_refuses road o e n m f yard y g why r p q in
-        x.0 ∙ sym (first-later _ _ (road_sound road o e n m f).0 ∙ first-earlier (yard_refusal_in yard (junctions road)) _ x.1)
+    check_yard why g =
+        let x = yard_refuses road n m e yard why g in
+        sym (first-later _ _ (road_sound road n m e).0 ∙ first-earlier (yard_refusal_in yard (junctions road)) _ (omega (arith, x.0, x.1)) ∙ x.0)
 
-    module _ (count : ℕ) (p : y ≡ Yards count) where
+    module _ (count : ℕ) (g : Yards count ≡ yard_book (yard_refusal_in yard n) (yard_count yard)) where
       rest : check_answer road yard tree words ≡ first_of (tree_refusal_beside road yard tree) (work_refusal words)
       unfolding check_answer
-      rest = first-later _ _ (road_sound road o e n m f).0 ∙ first-later _ _ (yard_in road o e n m f yard y g count p)
+      rest = first-later _ _ (road_sound road n m e).0 ∙ first-later _ _ (yard_in road n m e yard count g)
 
-      module _ (r : ℕ) (q : r ≡ tree_refusal_beside road yard tree) where
-        pub check_tree_lem : (r ≡ 0 → ⊥) → r ≡ check_answer road yard tree words
-        check_tree_lem z = q ∙ sym (rest ∙ first-earlier (tree_refusal_beside road yard tree) _ (omega (arith, q)))
+      pub check_tree_lem : (why : ℕ) → why ≡ tree_refusal_beside road yard tree → 1 ≤ why → why ≡ check_answer road yard tree words
+      check_tree_lem why q h = q ∙ sym (rest ∙ first-earlier (tree_refusal_beside road yard tree) _ (omega (arith, q)))
 
-        pub check_short : r ≡ 0 → words < work_words → 12 ≡ check_answer road yard tree words
-        check_short z h = sym (rest ∙ first-later _ _ (sym q ∙ z) ∙ work-short words h)
+      module _ (q : 0 ≡ tree_refusal_beside road yard tree) where
+        pub check_short : words < work_words → 12 ≡ check_answer road yard tree words
+        check_short h = sym (rest ∙ first-later _ _ (sym q) ∙ work-short words h)
 
-        pub check_passes : r ≡ 0 → work_words ≤ words → 0 ≡ check_answer road yard tree words
-        check_passes z h = sym (rest ∙ first-later _ _ (sym q ∙ z) ∙ work-enough words h)
+        pub check_passes : work_words ≤ words → 0 ≡ check_answer road yard tree words
+        check_passes h = sym (rest ∙ first-later _ _ (sym q) ∙ work-enough words h)
 
 -- ---- the work area
 
-module _ (road yard tree work : List ℕ) (why : ℕ) (e : why ≡ check_answer road yard tree (length work)) where
-  pub work-kept : (why ≡ 0 → ⊥) → work ≡ work_after (check_answer road yard tree (length work)) work
-  work-kept h = sym (refused-kept (check_answer road yard tree (length work)) work (λ q. h (e ∙ q)))
+module _ (road yard tree work : List ℕ) where
+  pub work-kept : (why : ℕ) → why ≡ check_answer road yard tree (length work) → 1 ≤ why → work ≡ work_after (check_answer road yard tree (length work)) work
+  work-kept why e h = sym (refused-kept (check_answer road yard tree (length work)) work (λ q. omega (arith, e, q)))
 
-  pub work-enough_for : why ≡ 0 → work_words ≤ length work
-  unfolding check_answer
-  work-enough_for z = enough-work (length work) (first-none _ _ (first-none _ _ (first-none _ _ (sym e ∙ z)).1).1).1
+  module _ (e : 0 ≡ check_answer road yard tree (length work)) where
+    pub work-enough_for : work_words ≤ length work
+    unfolding check_answer
+    work-enough_for = enough-work (length work) (first-none _ _ (first-none _ _ (first-none _ _ (sym e)).1).1).1
 
-  pub answer-none : why ≡ 0 → 0 ≡ check_answer road yard tree (length work)
-  answer-none z = sym z ∙ e
-
-  pub work-zeroed : why ≡ 0 → (after : List ℕ) → after ≡ zeroed work_words work → after ≡ work_after (check_answer road yard tree (length work)) work
-  work-zeroed z after f = f ∙ sym (accepted-zeroed (check_answer road yard tree (length work)) work (sym e ∙ z))
+    pub work-zeroed : (after : List ℕ) → after ≡ zeroed work_words work → after ≡ work_after (check_answer road yard tree (length work)) work
+    work-zeroed after f = f ∙ sym (accepted-zeroed (check_answer road yard tree (length work)) work (sym e))

@@ -9,7 +9,7 @@ ghost use Rattle.search_call.specs.Call.{want_nearest, want_within};
 ghost use Rattle.search_tree.specs.Found.{found_of};
 ghost use Rattle.client.specs.Calls.{call_of, areas_of, InTurn};
 
-use build_tree::Built;
+use finder::Built;
 use search_tree::Found;
 
 // What is asked for: the landmarks of each region and the leaf limit of the tree, the kinds that both searches want,

@@ -10,10 +10,7 @@ use Rattle.book.proofs.Lists.{eq→eqb, ne→neqb}
 use Rattle.text.specs.Text.{in_turn, refused_text, Appended}
 use Rattle.text.proofs.Appending.{append_as, append_then, append-whole}
 use Rattle.road_layout.specs.Road.{junctions, road_count}
-use Rattle.road_layout.specs.Layout.{told, road_number}
-use Rattle.road_layout.specs.declared.RoadBook.{RoadBook}
-use Rattle.road_layout.specs.declared.RoadBook.TheVariants.{Sound, Refused}
-use Rattle.road_layout.proofs.Reading.{number-told}
+use Rattle.road_layout.specs.Layout.{Sound, Refused, told}
 use Rattle.adjacency.specs.Arcs.{net}
 use Rattle.road.specs.Dijkstra.{distances}
 use Rattle.road.specs.Refusal.{road_refusal}
@@ -27,19 +24,18 @@ pub row_is : (b ds : List ℕ) (n u f t : ℕ) → ds ≡ distances (net b) (jun
 unfolding row_text
 row_is b ds n u f t d e g h = cc
 
-module _ (b : List ℕ) (o : RoadBook) (read : o ≡ told (road_refusal b) (junctions b) (road_count b)) where
+module _ (b : List ℕ) where
   -- what is printed of a book that is refused
-  pub refused-is : (w why : ℕ) → o ≡ Refused w → why ≡ road_number o → refused_text why ≡ eccentricity_text b
+  pub refused-is : (why : ℕ) → Refused why ≡ told (road_refusal b) (junctions b) (road_count b) → refused_text why ≡ eccentricity_text b
   unfolding eccentricity_text
-  refused-is w why e number =
-      let r = read_refused b o w read e in
-      let same : why ≡ road_refusal b = number ∙ (ap road_number read ∙ number-told (road_refusal b) (junctions b) (road_count b)) in
-      ap refused_text same ∙ sym (choose_no (eqb (road_refusal b) 0) _ _ (ne→neqb (road_refusal b) 0 (λ z. omega (arith, r.0, r.1))))
+  refused-is why e =
+      let r = read_refused b why e in
+      ap refused_text (sym r.0) ∙ sym (choose_no (eqb (road_refusal b) 0) _ _ (ne→neqb (road_refusal b) 0 (λ z. omega (arith, r.0, r.1))))
 
   -- and of one that passes
-  module _ (n r : ℕ) (sound : o ≡ Sound n r) where
+  module _ (n r : ℕ) (e : Sound n r ≡ told (road_refusal b) (junctions b) (road_count b)) where
     pub none-refused : road_refusal b ≡ 0
-    none-refused = (read_sound b o n r read sound).0
+    none-refused = (read_sound b n r e).0
 
     pub table_is : heading ++ in_turn (row_text b) (junctions b) ≡ eccentricity_text b
     unfolding eccentricity_text

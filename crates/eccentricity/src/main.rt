@@ -9,7 +9,6 @@ ghost use Rattle.eccentricity.specs.Rows.{furthest_of, row_total};
 ghost use Rattle.eccentricity.specs.Output.{heading, row_text, eccentricity_text};
 
 use book::Junction;
-use road_layout::RoadBook;
 use streams::Read;
 
 fn wide(x: u32) -> u64
@@ -91,11 +90,10 @@ fn report(b: &[u8], out: &mut [u8]) -> usize
     ensures fits { result ≤ 65536 }
 {
     let mut adj = [0u16; adjacency::WORDS];
-    let o = road::read(b, &mut adj);
-    let RoadBook::Sound { junctions, roads } = o else {
-        return text::put_refused(out, 0, road_layout::number(o) as u32);
-    };
-    rows(out, &adj)
+    match road::read(b, &mut adj) {
+        Ok(_) => rows(out, &adj),
+        Err(why) => text::put_refused(out, 0, why.number() as u32),
+    }
 }
 
 fn main(rt: HostRuntime) {

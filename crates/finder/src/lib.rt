@@ -2,15 +2,49 @@
 // The calls of the planner, as functions; `finder_c` exports them to C under the same names, with the same clauses.
 ghost use Rattle.std.specs.Prelude.{◌≡◌, length};
 ghost use Rattle.book.specs.Bytes.{Bytes};
+ghost use Rattle.book.specs.Refusals.{answer_number};
 ghost use Rattle.work_area.specs.Work.{work_after};
 ghost use Rattle.check_tree.specs.Check.{check_answer};
-ghost use Rattle.build_tree.specs.Build.{build_answer, built_length, tree_after};
+ghost use Rattle.build_tree.specs.Build.{build_answer, built_length, answer_length, tree_after};
 ghost use Rattle.search_call.specs.Call.{want_nearest, want_within, search_refusal, search_found, results_after};
 ghost use Rattle.search_tree.specs.Found.{found_of};
 ghost use Rattle.finder.specs.Version.{version_number};
 
-use build_tree::Built;
+use book::refusal::Refusal;
 use search_tree::{Found, Goal, Want};
+
+// What a build returns: the number of the test that turns it back, or 0 and the tree's length.
+#[repr(C)]
+#[derive(Clone, Copy)]
+pub struct Built {
+    pub refusal: u32,
+    pub length: u32,
+}
+
+// An answer in C's numbers: 0, or the number of the test that failed.
+fn number(answer: Result<(), Refusal>) -> u32
+    ensures { result ≡ answer_number answer }
+{
+    match answer {
+        Ok(()) => 0,
+        Err(why) => why.number() as u32,
+    }
+}
+
+// A build's answer in C's numbers.
+impl From<Result<u32, Refusal>> for Built {
+    ghost from_gives = { λ answer built. (built.refusal ≡ answer_number answer) × (built.length ≡ answer_length answer) };
+
+    fn from(answer: Result<u32, Refusal>) -> Built {
+        match answer {
+            Ok(length) => Built { refusal: 0, length },
+            Err(why) => Built {
+                refusal: why.number() as u32,
+                length: 0,
+            },
+        }
+    }
+}
 
 // Checks a tree book beside a road book and a yard book: 0, or the number of the first test that fails. An accepted
 // call zeroes the first 16,384 work words.
@@ -20,7 +54,7 @@ pub fn finder_check(road: &[u8], yard: &[u8], tree: &[u8], work: &mut [u32]) -> 
         ≡ work_after (check_answer road.now yard.now tree.now (length work.old)) work.old }
     ensures bytes { Bytes road.now × Bytes yard.now × Bytes tree.now }
 {
-    check_tree::check(road, yard, tree, work) as u32
+    number(check_tree::check(road, yard, tree, work))
 }
 
 // Builds the tree of a road book and a yard book, with m landmarks for each region, into a lent area: 0 and the tree's
@@ -44,7 +78,7 @@ pub fn finder_build(
         (length work.old) tree.old }
     ensures bytes { Bytes road.now × Bytes yard.now }
 {
-    build_tree::build(road, yard, m, limit, work, tree)
+    Built::from(build_tree::build(road, yard, m, limit, work, tree))
 }
 
 // Searches a tree book beside a road book for what a query book asks, by steps up to its limit: settled, with the list

@@ -10,7 +10,7 @@ ghost use Rattle.search_call.specs.Call.{want_nearest, want_within, search_refus
 ghost use Rattle.search_tree.specs.Found.{found_of};
 ghost use Rattle.finder.specs.Version.{version_number};
 
-use build_tree::Built;
+use finder::Built;
 use search_tree::Found;
 
 // Checks a tree book beside a road book and a yard book: 0, or the number of the first test that fails. An accepted

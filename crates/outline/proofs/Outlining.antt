@@ -15,24 +15,22 @@ use Rattle.tree_layout.specs.Reading.{header_of}
 use Rattle.tree_layout.specs.declared.Header.{Header}
 use Rattle.tree_layout.specs.declared.Fields.{Fields}
 use Rattle.tree_layout.proofs.Reading.{header-regions}
-use Rattle.tree.specs.declared.Tree.{Tree}
-use Rattle.tree.specs.declared.Tree.TheVariants.{Shaped, Refused}
 use Rattle.tree.specs.Shape.{tree_refusal}
 use Rattle.tree.specs.Arrays.{Laid, fields_of}
 use Rattle.tree.specs.Yards.{end_of, level_by}
 use Rattle.tree.proofs.Reaching.{level_is}
-use Rattle.tree.specs.Answer.{tree_of, tree_number, places_after, ends_after}
-use Rattle.tree.proofs.Answering.{shaped-found, shaped-answer, accepted-laid, accepted_slots, accepted-room, accepted-ends, number_is}
+use Rattle.tree.specs.Answer.{Shaped, Refused, tree_of, places_after, ends_after}
+use Rattle.tree.proofs.Answering.{shaped-found, turned_back, accepted-laid, accepted_slots, accepted-room, accepted-ends}
 use Rattle.outline.specs.Known.{Known}
 use Rattle.outline.specs.Output.{columns, columns_kinds, columns_of, header_text, line_end_of, line_of, region_text, outline_text}
 use Rattle.outline.proofs.Levels.{level_same}
 
-module _ (b : List ℕ) (o : Tree) (h : Header) (read : o ≡ tree_of b) (shaped : o ≡ Shaped h) where
+module _ (b : List ℕ) (h : Header) (read : Shaped h ≡ tree_of b) where
   accepted : tree_refusal b ≡ 0
-  accepted = (shaped-found b o h read shaped).0
+  accepted = (shaped-found b h read).0
 
   count : h.regions ≡ region_count b
-  count = sym (ap (λ (x : Header). x.regions) (shaped-found b o h read shaped).1) ∙ header-regions b
+  count = sym (ap (λ (x : Header). x.regions) (shaped-found b h read).1) ∙ header-regions b
 
   module _ (old new : List ℕ) (wide : 511 ≤ length old) (filled : new ≡ places_after b old) where
     pub place-room : h.regions ≤ length new
@@ -63,7 +61,7 @@ module _ (b : List ℕ) (o : Tree) (h : Header) (read : o ≡ tree_of b) (shaped
   pub shaped_text : header_text h ++ in_turn (region_text b) h.regions ≡ outline_text b
   unfolding outline_text
   shaped_text =
-      let same = (shaped-found b o h read shaped).1 in
+      let same = (shaped-found b h read).1 in
       cc (
         choose_yes (eqb (tree_refusal b) 0) (header_text (header_of b) ++ in_turn (region_text b) (region_count b)) (refused_text (tree_refusal b))
             (eq→eqb (tree_refusal b) 0 accepted),
@@ -72,11 +70,11 @@ module _ (b : List ℕ) (o : Tree) (h : Header) (read : o ≡ tree_of b) (shaped
       )
 
 -- the text of one that is refused
-pub refused_text_lem : (b : List ℕ) (o : Tree) (w why : ℕ) → o ≡ tree_of b → o ≡ Refused w → why ≡ tree_number o → refused_text why ≡ outline_text b
+pub refused_text_lem : (b : List ℕ) (why : ℕ) → Refused why ≡ tree_of b → refused_text why ≡ outline_text b
 unfolding outline_text
-refused_text_lem b o w why read told number =
-    let none : tree_refusal b ≡ 0 → ⊥ = λ e. let s = shaped-answer b (tree_refusal b) (header_of b) refl e refl in let z : ◌≡◌ {A = ℕ} 0 1 = cc in omega arith in
-    ap refused_text (number ∙ number_is b o read) ∙ sym (choose_no (eqb (tree_refusal b) 0) _ _ (ne→neqb (tree_refusal b) 0 none))
+refused_text_lem b why read =
+    let r = turned_back b why read in
+    ap refused_text (sym r.0) ∙ sym (choose_no (eqb (tree_refusal b) 0) _ _ (ne→neqb (tree_refusal b) 0 (λ z. omega (arith, r.0, r.1))))
 
 -- a region's line, by its level among the ends and its fields
 pub region_is : (b places ends : List ℕ) (i level : ℕ) (f : Fields) → Known b places ends → i < length places → f ≡ fields_of b i

@@ -7,7 +7,6 @@ ghost use Rattle.outline.specs.Output.{columns_of, header_text, line_end_of, lin
 ghost use Rattle.outline.specs.Known.{Known};
 
 use streams::Read;
-use tree::Tree;
 use tree_layout::{Fields, Header, Region};
 
 // Puts the names of the columns: a version 2 tree's regions have kinds.
@@ -100,9 +99,9 @@ fn report(b: &[u8], out: &mut [u8]) -> usize
 {
     let mut places = [0usize; tree::REGIONS];
     let mut ends = [0usize; tree::REGIONS];
-    let o = tree::read(b, &mut places, &mut ends);
-    let Tree::Shaped(h) = o else {
-        return text::put_refused(out, 0, tree::number(o) as u32);
+    let h = match tree::read(b, &mut places, &mut ends) {
+        Ok(h) => h,
+        Err(why) => return text::put_refused(out, 0, why.number() as u32),
     };
     let at = header(out, h);
     let n = h.regions as usize;

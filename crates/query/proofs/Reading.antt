@@ -11,16 +11,12 @@ use lib.Dec.{leb, eqb, leb→le, le→leb, eqb→eq}
 use Rattle.book.specs.Choose.{refuse}
 use Rattle.book.specs.Cases.{case_of}
 use Rattle.book.specs.Bytes.{u8_at, u32_at}
-use Rattle.book.specs.Open.{open_refusal, opened, opened_number}
-use Rattle.book.specs.declared.Opened.{Opened}
-use Rattle.book.specs.declared.Opened.TheVariants.{Refused as unread}
+use Rattle.book.specs.Open.{open_refusal, opened, Refused as unread}
 use Rattle.book.proofs.Choosing.{first-none, first-later, first-earlier, passes, passed, passes_if, fails_if, eq→eqb}
-use Rattle.book.proofs.Opening.{number_why, opens, open_zero}
-use Rattle.query.specs.Query.{aggregate_of, k_of, limit_of, crew_count, crews_of, inside, value_refusal, query_body_refusal, query_refusal, query_of, query_book}
-use Rattle.query.specs.Query.{query_values, query_case, query_number, QueryLayout}
+use Rattle.book.proofs.Opening.{opened-refused, opens, open_zero}
+use Rattle.query.specs.Query.{aggregate_of, k_of, limit_of, crew_count, crews_of, inside, value_refusal, query_body_refusal, query_refusal, query_of, Asked, Refused, query_book}
+use Rattle.query.specs.Query.{query_values, query_case, QueryLayout}
 use Rattle.query.specs.declared.Query.{Query}
-use Rattle.query.specs.declared.QueryBook.{QueryBook}
-use Rattle.query.specs.declared.QueryBook.TheVariants.{Asked, Refused}
 use Rattle.query.proofs.CrewList.{each-inside, inside-all}
 
 -- ---- test 11
@@ -75,27 +71,25 @@ module _ (b : List ℕ) (n : ℕ) (o : open_refusal b 1 7 ≡ 0) (crews : ℕ) (
 
 -- ---- answers
 
-refused-is : (x : ℕ) (q : Query) → (x ≡ 0 → ⊥) → Refused x ≡ query_book x q
+refused-is : (x : ℕ) (q : Query) → 1 ≤ x → Refused x ≡ query_book x q
 unfolding query_book
-refused-is zero q z = absurd (z refl)
-refused-is (suc x) q z = refl
+refused-is zero q h = absurd (omega arith)
+refused-is (suc x) q h = refl
 
-pub answer-refused : (b : List ℕ) (n why : ℕ) → why ≡ query_refusal b n → (why ≡ 0 → ⊥) → Refused why ≡ query_book (query_refusal b n) (query_of b)
-answer-refused b n why e z = rw (← e) (refused-is why (query_of b) z)
+pub answer-refused : (b : List ℕ) (n why : ℕ) → why ≡ query_refusal b n → 1 ≤ why → Refused why ≡ query_book (query_refusal b n) (query_of b)
+answer-refused b n why e h = rw (← e) (refused-is why (query_of b) h)
 
 -- of a book that does not open
-pub not_opened : (b : List ℕ) (n : ℕ) (o : Opened) (why r : ℕ) → o ≡ opened (open_refusal b 1 7) → o ≡ unread why → r ≡ opened_number o
-    → Refused r ≡ query_book (query_refusal b n) (query_of b)
+pub not_opened : (b : List ℕ) (n why : ℕ) → unread why ≡ opened (open_refusal b 1 7) → Refused why ≡ query_book (query_refusal b n) (query_of b)
 unfolding query_refusal
-not_opened b n o why r e f g =
-    let p = number_why (open_refusal b 1 7) o why r e f g in
+not_opened b n why e =
+    let p = opened-refused (open_refusal b 1 7) why (sym e) in
     let s = first-earlier (open_refusal b 1 7) (query_body_refusal b n) (omega (arith, p.0, p.1)) ∙ p.0 in
-    answer-refused b n r (sym s) (omega (arith, p.1))
+    answer-refused b n why (sym s) p.1
 
-pub answer-asked : (b : List ℕ) (n why : ℕ) (q : Query) → why ≡ query_refusal b n → why ≡ 0 → q ≡ query_of b
-    → Asked q ≡ query_book (query_refusal b n) (query_of b)
+pub answer-asked : (b : List ℕ) (n : ℕ) (q : Query) → 0 ≡ query_refusal b n → q ≡ query_of b → Asked q ≡ query_book (query_refusal b n) (query_of b)
 unfolding query_book
-answer-asked b n why q e z f = rw (← e, z, f) refl
+answer-asked b n q e f = rw (← e, f) refl
 
 -- for callers: what the reader's answer says
 pub read_asked : (x : ℕ) (q r : Query) → query_book x q ≡ Asked r → (x ≡ 0) × (q ≡ r)
@@ -147,12 +141,6 @@ module _ (b : List ℕ) (q : Query) (e : q ≡ query_of b) where
 
   pub its_crews : q.crews ≡ crew_count b
   its_crews = ap (λ (r : Query). r.crews) e ∙ asked-crews b
-
--- the number that an answer has
-pub number_is : (x : ℕ) (q : Query) → query_number (query_book x q) ≡ x
-unfolding query_case query_number query_book
-number_is zero q = refl
-number_is (suc x) q = refl
 
 -- an answer in the paper's numbers
 pub case_is : (x : ℕ) (q : Query) → query_case (query_book x q) ≡ case_of x (query_values q)

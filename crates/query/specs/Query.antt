@@ -1,13 +1,13 @@
 -- The query book: "aggregate u8, k u8 (1 to 64), step limit u32, crews u8 (1 to 16), then crew junctions u16." Assumes
 -- nothing: these are definitions.
-use Rattle.std.specs.Prelude.{◌≡◌, Bool, true, ◌&&◌, List, [], ◌∷◌, ℕ, zero, suc, ◌+◌, ◌*◌, ◌≤◌, ◌<◌, length, leb, ltb, eqb}
+use Rattle.std.specs.Prelude.{◌≡◌, Bool, true, ◌&&◌, List, [], ◌∷◌, ℕ, zero, suc, ◌+◌, ◌*◌, ◌≤◌, ◌<◌, length, leb, ltb, eqb, Result, Ok, Err}
 use Rattle.book.specs.Choose.{refuse, first_of}
 use Rattle.book.specs.Bytes.{u8_at, u16_at, u32_at}
 use Rattle.book.specs.Open.{Opens, open_refusal}
 use Rattle.book.specs.Cases.{Case, accepted, refused}
+use Rattle.book.specs.Refusals.{refusal_number}
+use Rattle.book.specs.declared.refusal.Refusal.{Refusal}
 use Rattle.query.specs.declared.Query.{Query}
-use Rattle.query.specs.declared.QueryBook.{QueryBook}
-use Rattle.query.specs.declared.QueryBook.TheVariants.{Asked, Refused}
 
 -- the header's fields, after the count and the version
 unfoldable pub aggregate_of : List ℕ → ℕ
@@ -66,6 +66,11 @@ query_refusal b junctions = first_of (open_refusal b 1 7) (query_body_refusal b 
 unfoldable pub query_of : List ℕ → Query
 query_of b = record { aggregate = aggregate_of b; k = k_of b; limit = limit_of b; crews = crew_count b }
 
+-- what reading a query book finds: what it asks, or the number of the test that turns it back
+pub data QueryBook : Type 0 where
+  Asked : Query → QueryBook
+  Refused : ℕ → QueryBook
+
 -- the answer for a refusal's number: 0 gives what is asked
 unfoldable pub query_book : ℕ → Query → QueryBook
 query_book zero q = Asked q
@@ -80,9 +85,10 @@ unfoldable pub query_case : QueryBook → Case
 query_case (Asked q) = accepted (query_values q)
 query_case (Refused why) = refused why 4
 
--- the number of an answer: "The number of an accepted call is 0."
-unfoldable pub query_number : QueryBook → ℕ
-query_number o = (query_case o).number
+-- what the code answers, in the paper's numbers
+abbrev pub query_answer : Result Query Refusal → QueryBook
+query_answer (Ok q) = Asked q
+query_answer (Err why) = Refused (refusal_number why)
 
 -- a query book that no test turns back, sentence by sentence
 pub record QueryLayout (b : List ℕ) (junctions : ℕ) : Type 0 where

@@ -2,10 +2,12 @@
 // The query book: its reader and its crews.
 ghost use Rattle.std.specs.Prelude.{◌≡◌, ◌+◌, ◌*◌, ◌≤◌, ◌<◌, length, take};
 ghost use Rattle.book.specs.Open.{open_refusal};
+ghost use Rattle.book.specs.Refusals.{answer_number};
 ghost use Rattle.query.specs.Query.{crew_count, crew_at, crews_of, inside};
-ghost use Rattle.query.specs.Query.{value_refusal, query_refusal, query_of, query_book, query_number};
+ghost use Rattle.query.specs.Query.{value_refusal, query_refusal, query_of, query_book, query_answer};
 
-use book::{Junction, Opened};
+use book::Junction;
+use book::refusal::Refusal;
 
 // What a query asks: the aggregate's code, k (how many yards), the limit of steps, and how many crews there are.
 #[derive(Clone, Copy)]
@@ -14,23 +16,6 @@ pub struct Query {
     pub k: u8,
     pub limit: u32,
     pub crews: u8,
-}
-
-// What reading a query book finds: what it asks, or the number of the test that turns it back.
-#[derive(Clone, Copy)]
-pub enum QueryBook {
-    Asked(Query),
-    Refused(u8),
-}
-
-// The number of an answer, 0 for a query that is accepted.
-pub fn number(o: QueryBook) -> u8
-    ensures { result ≡ query_number o }
-{
-    match o {
-        QueryBook::Asked(_) => 0,
-        QueryBook::Refused(why) => why,
-    }
 }
 
 // What a book asks, by its header.
@@ -90,54 +75,48 @@ fn crews_inside(b: &[u8], count: usize, n: u16) -> bool
 }
 
 // Test 11: the aggregate's code and k.
-fn values(aggregate: u8, k: u8) -> u8
-    ensures { result ≡ value_refusal aggregate k }
+fn values(aggregate: u8, k: u8) -> Result<(), Refusal>
+    ensures { answer_number result ≡ value_refusal aggregate k }
 {
     if 1 < aggregate {
-        return 11;
+        return Err(Refusal::Number);
     }
     if k < 1 {
-        return 11;
+        return Err(Refusal::Number);
     }
     if 64 < k {
-        return 11;
+        return Err(Refusal::Number);
     }
-    0
+    Ok(())
 }
 
-// The number of the first test that turns back a book that opens and asks q, beside a road book with n junctions, or 0.
-fn refusal(b: &[u8], q: Query, n: u16) -> u8
+// The first test that turns back a book that opens and asks q, beside a road book with n junctions, if one does.
+fn refusal(b: &[u8], q: Query, n: u16) -> Result<(), Refusal>
     requires { (open_refusal b.now 1 7 ≡ 0) × (q ≡ query_of b.now) }
-    ensures { result ≡ query_refusal b.now n }
+    ensures { answer_number result ≡ query_refusal b.now n }
 {
     let count = q.crews as usize;
     if b.len() != 12 + 2 * count {
-        return 4;
+        return Err(Refusal::Records);
     }
     if count < 1 {
-        return 10;
+        return Err(Refusal::Crews);
     }
     if 16 < count {
-        return 10;
+        return Err(Refusal::Crews);
     }
     if !crews_inside(b, count, n) {
-        return 10;
+        return Err(Refusal::Crews);
     }
     values(q.aggregate, q.k)
 }
 
-// Reads a query book beside a road book with n junctions: tests 1 to 4, then 10 and 11.
-pub fn read(b: &[u8], n: u16) -> QueryBook
-    ensures { result ≡ query_book (query_refusal b.now n) (query_of b.now) }
+// Reads a query book beside a road book with n junctions: tests 1 to 4, then 10 and 11. It answers what the book asks.
+pub fn read(b: &[u8], n: u16) -> Result<Query, Refusal>
+    ensures { query_answer result ≡ query_book (query_refusal b.now n) (query_of b.now) }
 {
-    let o = book::open(b, 1, 7);
-    let Opened::Body = o else {
-        return QueryBook::Refused(book::number(o));
-    };
+    book::open(b, 1, 7)?;
     let q = header(b);
-    let why = refusal(b, q, n);
-    if why != 0 {
-        return QueryBook::Refused(why);
-    }
-    QueryBook::Asked(q)
+    refusal(b, q, n)?;
+    Ok(q)
 }

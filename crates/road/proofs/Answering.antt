@@ -6,9 +6,7 @@ use Prim.Native.Nat.{ℕ, ◌≤◌}
 use native.Mathlib.Omega.{arith}
 use Rattle.book.proofs.Choosing.{first-earlier, first-later, first-none, passes_if, fails_if}
 use Rattle.road_layout.specs.Road.{junctions, road_count}
-use Rattle.road_layout.specs.Layout.{road_layout_refusal, told}
-use Rattle.road_layout.specs.declared.RoadBook.{RoadBook}
-use Rattle.road_layout.specs.declared.RoadBook.TheVariants.{Sound, Refused}
+use Rattle.road_layout.specs.Layout.{road_layout_refusal, Sound, Refused, told}
 use Rattle.road_layout.proofs.Reading.{told-refused, told-zero, told_sound, told_why}
 use Rattle.adjacency.specs.Arcs.{net}
 use Rattle.road.specs.Dijkstra.{distances}
@@ -16,24 +14,24 @@ use Rattle.road.specs.Refusal.{all_reached, road_refusal}
 
 module _ (b : List ℕ) where
   -- a layout that is refused
-  pub layout-refused : (o : RoadBook) (why : ℕ) → o ≡ told (road_layout_refusal b) (junctions b) (road_count b) → o ≡ Refused why
-      → o ≡ told (road_refusal b) (junctions b) (road_count b)
-  unfolding road_refusal
-  layout-refused o why e f =
-      let p = told_why (road_layout_refusal b) (junctions b) (road_count b) why (sym e ∙ f) in
-      e ∙ ap (λ (x : ℕ). told x (junctions b) (road_count b)) (sym (first-earlier (road_layout_refusal b) _ (omega (arith, p.0, p.1))))
+  module _ (why : ℕ) (e : Refused why ≡ told (road_layout_refusal b) (junctions b) (road_count b)) where
+    pub layout-refused : Refused why ≡ told (road_refusal b) (junctions b) (road_count b)
+    unfolding road_refusal
+    layout-refused =
+        let p = told_why (road_layout_refusal b) (junctions b) (road_count b) why (sym e) in
+        e ∙ ap (λ (x : ℕ). told x (junctions b) (road_count b)) (sym (first-earlier (road_layout_refusal b) _ (omega (arith, p.0, p.1))))
 
-  -- and then the book does not pass
-  pub layout_fails : (o : RoadBook) (why : ℕ) → o ≡ told (road_layout_refusal b) (junctions b) (road_count b) → o ≡ Refused why → road_refusal b ≡ 0 → ⊥
-  unfolding road_refusal
-  layout_fails o why e f z =
-      let p = told_why (road_layout_refusal b) (junctions b) (road_count b) why (sym e ∙ f) in
-      omega (arith, p.0, p.1, (first-none (road_layout_refusal b) _ z).0)
+    -- and then the book does not pass
+    pub layout_fails : road_refusal b ≡ 0 → ⊥
+    unfolding road_refusal
+    layout_fails z =
+        let p = told_why (road_layout_refusal b) (junctions b) (road_count b) why (sym e) in
+        omega (arith, p.0, p.1, (first-none (road_layout_refusal b) _ z).0)
 
   -- a sound layout, and what it counts
-  pub layout_sound : (o : RoadBook) (n r : ℕ) → o ≡ told (road_layout_refusal b) (junctions b) (road_count b) → o ≡ Sound n r
+  pub layout_sound : (n r : ℕ) → Sound n r ≡ told (road_layout_refusal b) (junctions b) (road_count b)
       → (road_layout_refusal b ≡ 0) × (n ≡ junctions b) × (r ≡ road_count b)
-  layout_sound o n r e f = told_sound (road_layout_refusal b) (junctions b) (road_count b) n r (sym e ∙ f)
+  layout_sound n r e = told_sound (road_layout_refusal b) (junctions b) (road_count b) n r (sym e)
 
   module _ (z : road_layout_refusal b ≡ 0) where
     pub cut_off : all_reached (distances (net b) (junctions b) 0) (junctions b) ≡ false → Refused 6 ≡ told (road_refusal b) (junctions b) (road_count b)
@@ -50,10 +48,9 @@ module _ (b : List ℕ) where
 -- ---- for callers: what the reader's answer says
 
 module _ (b : List ℕ) where
-  pub read_sound : (o : RoadBook) (n r : ℕ) → o ≡ told (road_refusal b) (junctions b) (road_count b) → o ≡ Sound n r
+  pub read_sound : (n r : ℕ) → Sound n r ≡ told (road_refusal b) (junctions b) (road_count b)
       → (road_refusal b ≡ 0) × (n ≡ junctions b) × (r ≡ road_count b)
-  read_sound o n r e f = told_sound (road_refusal b) (junctions b) (road_count b) n r (sym e ∙ f)
+  read_sound n r e = told_sound (road_refusal b) (junctions b) (road_count b) n r (sym e)
 
-  pub read_refused : (o : RoadBook) (why : ℕ) → o ≡ told (road_refusal b) (junctions b) (road_count b) → o ≡ Refused why
-      → (road_refusal b ≡ why) × (1 ≤ why)
-  read_refused o why e f = told_why (road_refusal b) (junctions b) (road_count b) why (sym e ∙ f)
+  pub read_refused : (why : ℕ) → Refused why ≡ told (road_refusal b) (junctions b) (road_count b) → (road_refusal b ≡ why) × (1 ≤ why)
+  read_refused why e = told_why (road_refusal b) (junctions b) (road_count b) why (sym e)

@@ -5,14 +5,15 @@ pub mod walk; // walk.rt: least distances from a source, by Dijkstra's rounds
 
 ghost use Rattle.std.specs.Prelude.{◌≡◌, List, ℕ, ◌≤◌, length};
 ghost use Rattle.road_layout.specs.Road.{junctions, road_count};
-ghost use Rattle.road_layout.specs.Layout.{told};
+ghost use Rattle.road_layout.specs.Layout.{told, road_answer};
 ghost use Rattle.adjacency.specs.Arcs.{net};
 ghost use Rattle.adjacency.specs.Adjacency.{adjacency_words, Adjacency, IsAdjacency};
 ghost use Rattle.road.specs.Dijkstra.{distances};
 ghost use Rattle.road.specs.Refusal.{all_reached, road_refusal};
 
 use book::Junction;
-use road_layout::RoadBook;
+use book::refusal::Refusal;
+use road_layout::Counts;
 
 // Whether each of the first n distances is one, and not FAR.
 fn all_reached(ds: &[u32], n: usize) -> bool
@@ -41,19 +42,16 @@ fn connected(adj: &[u16]) -> bool
 }
 
 // Reads a road book through tests 1 to 6, and keeps its adjacency.
-pub fn read(b: &[u8], adj: &mut [u16]) -> RoadBook
+pub fn read(b: &[u8], adj: &mut [u16]) -> Result<Counts, Refusal>
     requires { length adj.old ≡ adjacency_words }
-    ensures answer { result
+    ensures answer { road_answer result
         ≡ told (road_refusal b.now) (junctions b.now) (road_count b.now) }
     ensures adjacency { road_refusal b.now ≡ 0 → Adjacency b.now adj.new }
 {
-    let layout = road_layout::read(b);
-    let RoadBook::Sound { junctions, roads } = layout else {
-        return layout;
-    };
+    let counts = road_layout::read(b)?;
     adjacency::fill(b, adj);
     if !connected(adj) {
-        return RoadBook::Refused(6);
+        return Err(Refusal::Unreached);
     }
-    RoadBook::Sound { junctions, roads }
+    Ok(counts)
 }

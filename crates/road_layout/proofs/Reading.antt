@@ -9,14 +9,11 @@ use lib.ListN.{length}
 use lib.Dec.{leb, eqb}
 use Rattle.book.specs.Choose.{refuse}
 use Rattle.book.specs.Cases.{case_of}
-use Rattle.book.specs.Open.{open_refusal, opened, opened_number}
-use Rattle.book.specs.declared.Opened.{Opened}
-use Rattle.book.specs.declared.Opened.TheVariants.{Refused as unread}
+use Rattle.book.specs.Open.{open_refusal, opened, Refused as unread}
 use Rattle.book.proofs.Choosing.{first-later, first-earlier, passes_if, fails_if}
-use Rattle.book.proofs.Opening.{number_why}
+use Rattle.book.proofs.Opening.{opened-refused}
 use Rattle.road_layout.specs.Road.{junctions, road_count}
-use Rattle.road_layout.specs.Layout.{roads_ok, road_layout_refusal, told, road_case, road_number}
-use Rattle.road_layout.specs.declared.RoadBook.TheVariants.{Sound, Refused}
+use Rattle.road_layout.specs.Layout.{roads_ok, road_layout_refusal, Sound, Refused, told, road_case}
 
 -- a refusal's number is what is told
 pub told-refused : (x j r : ℕ) → 1 ≤ x → told x j r ≡ Refused x
@@ -42,12 +39,11 @@ told_sound zero j r n m e = (refl, cc, cc)
 told_sound (suc x) j r n m e = let z : ◌≡◌ {A = ℕ} 0 1 = cc in absurd (omega arith)
 
 -- a book that does not open
-pub unopened : (b : List ℕ) (o : Opened) (why r : ℕ) → o ≡ opened (open_refusal b 1 4) → o ≡ unread why → r ≡ opened_number o
-    → Refused r ≡ told (road_layout_refusal b) (junctions b) (road_count b)
+pub unopened : (b : List ℕ) (why : ℕ) → unread why ≡ opened (open_refusal b 1 4) → Refused why ≡ told (road_layout_refusal b) (junctions b) (road_count b)
 unfolding road_layout_refusal
-unopened b o why r e f g =
-    let p = number_why (open_refusal b 1 4) o why r e f g in
-    rw (first-earlier (open_refusal b 1 4) _ (omega (arith, p.0, p.1)), p.0) (sym (told-refused r (junctions b) (road_count b) p.1))
+unopened b why e =
+    let p = opened-refused (open_refusal b 1 4) why (sym e) in
+    rw (first-earlier (open_refusal b 1 4) _ (omega (arith, p.0, p.1)), p.0) (sym (told-refused why (junctions b) (road_count b) p.1))
 
 module _ (b : List ℕ) (o : open_refusal b 1 4 ≡ 0) (n count : ℕ) (en : n ≡ junctions b) (ec : count ≡ road_count b) where
   -- an answer, from the number that the tests give
@@ -86,12 +82,6 @@ module _ (b : List ℕ) (o : open_refusal b 1 4 ≡ 0) (n count : ℕ) (en : n �
 
     pub right : count ≤ 4096 → length b ≡ 9 + 6 * count → roads_ok b n count 0 0 0 ≡ true → road_layout_refusal b ≡ 0
     right r s t = counted ∙ passes_if _ _ _ (le-leb _ _ r) ∙ passes_if _ _ _ (eq-eqb _ _ s) ∙ passes_if _ _ _ t
-
--- the number that an answer has
-pub number-told : (x j r : ℕ) → road_number (told x j r) ≡ x
-unfolding road_case road_number told
-number-told zero j r = refl
-number-told (suc x) j r = refl
 
 -- an answer in the paper's numbers
 pub told_case : (x j r : ℕ) → road_case (told x j r) ≡ case_of x (j ∷ r ∷ [])

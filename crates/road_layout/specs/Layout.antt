@@ -1,11 +1,12 @@
 -- The road book's tests 1 to 5. Assumes nothing: these are definitions.
-use Rattle.std.specs.Prelude.{ℕ, zero, suc, ◌+◌, ◌*◌, Bool, true, ◌&&◌, ◌||◌, List, [], ◌∷◌, length, ltb, leb, eqb}
+use Rattle.std.specs.Prelude.{ℕ, zero, suc, ◌+◌, ◌*◌, Bool, true, ◌&&◌, ◌||◌, List, [], ◌∷◌, length, ltb, leb, eqb, Result, Ok, Err}
 use Rattle.book.specs.Choose.{refuse, first_of}
 use Rattle.book.specs.Open.{open_refusal}
 use Rattle.book.specs.Cases.{Case, accepted, refused}
+use Rattle.book.specs.Refusals.{refusal_number}
+use Rattle.book.specs.declared.refusal.Refusal.{Refusal}
 use Rattle.road_layout.specs.Road.{Road, junctions, road_count, road_at}
-use Rattle.road_layout.specs.declared.RoadBook.{RoadBook}
-use Rattle.road_layout.specs.declared.RoadBook.TheVariants.{Sound, Refused}
+use Rattle.road_layout.specs.declared.Counts.{Counts}
 
 -- "pairs rise strictly": the pair (low, high) comes after the pair (l, h)
 unfoldable pub after : ℕ → ℕ → ℕ → ℕ → Bool
@@ -36,6 +37,11 @@ road_layout_refusal b =
     -- 5: "A record's value is outside its range or order." The pair (0, 0) comes before every road's.
     (refuse (roads_ok b (junctions b) (road_count b) 0 0 0) 5 0)))))
 
+-- what reading a road book finds: its counts, or the number of the test that turns it back
+pub data RoadBook : Type 0 where
+  Sound : (junctions roads : ℕ) → RoadBook
+  Refused : ℕ → RoadBook
+
 -- what a reader answers for a refusal's number: 0 is a sound book, with its counts
 unfoldable pub told : ℕ → ℕ → ℕ → RoadBook
 told zero j r = Sound j r
@@ -47,6 +53,7 @@ unfoldable pub road_case : RoadBook → Case
 road_case (Sound j r) = accepted (j ∷ r ∷ [])
 road_case (Refused why) = refused why 2
 
--- the number of an answer: "The number of an accepted call is 0."
-unfoldable pub road_number : RoadBook → ℕ
-road_number o = (road_case o).number
+-- what the code answers, in the paper's numbers
+abbrev pub road_answer : Result Counts Refusal → RoadBook
+road_answer (Ok counts) = Sound counts.junctions counts.roads
+road_answer (Err why) = Refused (refusal_number why)

@@ -2,28 +2,16 @@
 
 ghost use Rattle.std.specs.Prelude.{◌≡◌, ◌+◌, ◌*◌, ◌≤◌, length};
 ghost use Rattle.road_layout.specs.Road.{junctions, road_count, road_at};
-ghost use Rattle.road_layout.specs.Layout.{road_ok, roads_ok, road_layout_refusal, told, road_number};
+ghost use Rattle.road_layout.specs.Layout.{road_ok, roads_ok, road_layout_refusal, told, road_answer};
 
-use book::{Junction, Opened};
+use book::Junction;
+use book::refusal::Refusal;
 
-// What reading a road book finds: its counts, or the number of the test that turns it back.
-#[derive(Clone, Copy)]
-pub enum RoadBook {
-    Sound { junctions: u16, roads: u16 },
-    Refused(u8),
-}
-
-// The number of an answer, 0 for a book that is read.
-pub fn number(o: RoadBook) -> u8
-    ensures { result ≡ road_number o }
-{
-    match o {
-        RoadBook::Sound {
-            junctions: _,
-            roads: _,
-        } => 0,
-        RoadBook::Refused(why) => why,
-    }
+// What a road book's header counts.
+#[derive(Clone, Copy, Debug, PartialEq, Eq)]
+pub struct Counts {
+    pub junctions: u16,
+    pub roads: u16,
 }
 
 // A road: its low end, its high end and its seconds.
@@ -114,35 +102,32 @@ fn roads_ok(b: &[u8], count: usize, n: u16) -> bool
     true
 }
 
-// Reads a road book through tests 1 to 5.
-pub fn read(b: &[u8]) -> RoadBook
-    ensures { result
+// Reads a road book through tests 1 to 5: its counts.
+pub fn read(b: &[u8]) -> Result<Counts, Refusal>
+    ensures { road_answer result
         ≡ told (road_layout_refusal b.now) (junctions b.now) (road_count b.now) }
 {
-    let o = book::open(b, 1, 4);
-    let Opened::Body = o else {
-        return RoadBook::Refused(book::number(o));
-    };
+    book::open(b, 1, 4)?;
     let n = junction_count(b);
     let roads = road_count(b);
     if n < 1 {
-        return RoadBook::Refused(3);
+        return Err(Refusal::Header);
     }
     if 1024 < n {
-        return RoadBook::Refused(3);
+        return Err(Refusal::Header);
     }
     if 4096 < roads {
-        return RoadBook::Refused(3);
+        return Err(Refusal::Header);
     }
     let count = roads as usize;
     if b.len() != 9 + 6 * count {
-        return RoadBook::Refused(4);
+        return Err(Refusal::Records);
     }
     if !roads_ok(b, count, n) {
-        return RoadBook::Refused(5);
+        return Err(Refusal::Value);
     }
-    RoadBook::Sound {
+    Ok(Counts {
         junctions: n,
         roads,
-    }
+    })
 }

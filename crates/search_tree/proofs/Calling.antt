@@ -4,7 +4,7 @@ use mathlib.Core.Logic.{◌⊎◌, inl, inr}
 use mathlib.Core.Bool.{not}
 use mathlib.Core.List.{List}
 use mathlib.Core.Option.{Option}
-use Prim.Native.Nat.{ℕ}
+use Prim.Native.Nat.{ℕ, ◌≤◌}
 use native.Mathlib.Omega.{arith}
 use lib.ListN.{length}
 use lib.Dec.{T}
@@ -13,11 +13,9 @@ use Rattle.work_area.specs.Work.{work_words, zeroed, work_after}
 use Rattle.work_area.proofs.Zeroing.{accepted-zeroed, refused-kept}
 use Rattle.adjacency.specs.Adjacency.{count_in}
 use Rattle.road_layout.specs.Road.{junctions}
-use Rattle.query.specs.Query.{aggregate_of, k_of, query_refusal, query_of, query_book, query_number}
+use Rattle.query.specs.Query.{aggregate_of, k_of, query_refusal, query_of, Asked, Refused, query_book}
 use Rattle.query.specs.declared.Query.{Query}
-use Rattle.query.specs.declared.QueryBook.{QueryBook}
-use Rattle.query.specs.declared.QueryBook.TheVariants.{Asked, Refused}
-use Rattle.query.proofs.Reading.{read_asked, read_refused, number_is, its_aggregate, its_k}
+use Rattle.query.proofs.Reading.{read_asked, read_refused, its_aggregate, its_k}
 use Rattle.tree_layout.specs.Decode.{tree_yard_count}
 use Rattle.tree_layout.specs.Reading.{header_of}
 use Rattle.tree_layout.specs.declared.Header.{Header}
@@ -33,38 +31,29 @@ use Rattle.search_tree.specs.Found.{written_by}
 
 -- ---- a query's tests over a district
 
-module _ {road tree adj places ends : List ℕ} (d : District road tree adj places ends) (query : List ℕ) (want : Want) (work results : ℕ) (n : ℕ) (count : n ≡ count_in adj)
-    (b : QueryBook) (e : b ≡ query_book (query_refusal query n) (query_of query)) where
+module _ {road tree adj places ends : List ℕ} (d : District road tree adj places ends) (query : List ℕ) (want : Want) (work results : ℕ) (n : ℕ) (count : n ≡ count_in adj) where
   n_is : n ≡ junctions road
   n_is = count ∙ d.adjacent.count
 
   tree-none : tree_refusal_in tree (junctions road) ≡ 0
   tree-none = counts_agree tree (junctions road) d.shape d.counts
 
-  on_query : b ≡ query_book (query_refusal query (junctions road)) (query_of query)
-  on_query = e ∙ ap (λ (x : ℕ). query_book (query_refusal query x) (query_of query)) n_is
-
   -- its own turn it back
-  pub query-back : (why s : ℕ) → b ≡ Refused why → s ≡ query_number b → (s ≡ search_refusal road tree query want work results) × (s ≡ 0 → ⊥)
-  query-back why s p h =
-      let x = read_refused (query_refusal query (junctions road)) (query_of query) why (sym on_query ∙ p) in
-      let q : s ≡ query_refusal query (junctions road) =
-      h ∙ ap query_number on_query ∙ number_is (query_refusal query (junctions road)) (query_of query) in
-      (q ∙ sym (by_query road tree query want work results d.roads tree-none (omega (arith, x.0, x.1))), λ z. omega (arith, q, x.0, x.1))
+  pub query-back : (why : ℕ) → Refused why ≡ query_book (query_refusal query n) (query_of query) → why ≡ search_refusal road tree query want work results
+  query-back why e =
+      let x = rw n_is at (read_refused (query_refusal query n) (query_of query) why (sym e)) in
+      sym (by_query road tree query want work results d.roads tree-none (omega (arith, x.0, x.1)) ∙ x.0)
 
-  module _ (asked : Query) (p : b ≡ Asked asked) where
+  module _ (asked : Query) (e : Asked asked ≡ query_book (query_refusal query n) (query_of query)) where
     found : (query_refusal query (junctions road) ≡ 0) × (query_of query ≡ asked)
-    found = read_asked (query_refusal query (junctions road)) (query_of query) asked (sym on_query ∙ p)
+    found = rw n_is at (read_asked (query_refusal query n) (query_of query) asked (sym e))
 
     pub asked_of : asked ≡ query_of query
     asked_of = sym found.1
 
     -- a wanted byte of 0 does
-    pub kinds-back : want.kinds ≡ 0 → (13 ≡ search_refusal road tree query want work results) × (◌≡◌ {A = ℕ} 13 0 → ⊥)
-    kinds-back z = (
-      sym (by_kinds road tree query want work results d.roads tree-none found.0 (omega (arith, z))),
-      λ e. omega (arith, e),
-    )
+    pub kinds-back : want.kinds ≡ 0 → 13 ≡ search_refusal road tree query want work results
+    kinds-back z = sym (by_kinds road tree query want work results d.roads tree-none found.0 (omega (arith, z)))
 
     -- the areas' are left
     pub areas_last : (want.kinds ≡ 0 → ⊥) → (m s : ℕ) → m ≡ most_by asked.k (tree_yard_count tree) want.drive → s ≡ areas_refusal m work results → s ≡ search_refusal road tree query want work results
@@ -79,14 +68,14 @@ most_of tree h k m drive e l = l ∙ ap (λ (y : ℕ). most_by k y drive) (its_y
 
 -- ---- the call
 
-module _ (road tree query : List ℕ) (want : Want) (work results : List ℕ) (why : ℕ) where
+module _ (road tree query : List ℕ) (want : Want) (work results : List ℕ) where
   -- that is turned back
-  module _ (b : (why ≡ search_refusal road tree query want (length work) (length results)) × (why ≡ 0 → ⊥)) where
+  module _ (why : ℕ) (e : why ≡ search_refusal road tree query want (length work) (length results)) (h : 1 ≤ why) where
     turned : search_refusal road tree query want (length work) (length results) ≡ 0 → ⊥
-    turned z = b.1 (b.0 ∙ z)
+    turned z = omega (arith, e, z)
 
-    pub turned_found : (f : Found) → f ≡ refused why → f ≡ search_found road tree query want (length work) (length results)
-    turned_found f g = g ∙ ap refused b.0 ∙ sym (found-refused road tree query want (length work) (length results) turned)
+    pub turned_found : refused why ≡ search_found road tree query want (length work) (length results)
+    turned_found = ap refused e ∙ sym (found-refused road tree query want (length work) (length results) turned)
 
     pub turned_work : work ≡ work_after (search_refusal road tree query want (length work) (length results)) work
     turned_work = sym (refused-kept (search_refusal road tree query want (length work) (length results)) work turned)
@@ -95,9 +84,9 @@ module _ (road tree query : List ℕ) (want : Want) (work results : List ℕ) (w
     turned_results = sym (refused_keeps road tree query want (length work) results turned)
 
   -- that is accepted
-  module _ (e : why ≡ search_refusal road tree query want (length work) (length results)) (z : why ≡ 0) where
+  module _ (e : 0 ≡ search_refusal road tree query want (length work) (length results)) where
     none : search_refusal road tree query want (length work) (length results) ≡ 0
-    none = sym e ∙ z
+    none = sym e
 
     pub taken-facts : (a : Asking) → a ≡ asking_by query want → AcceptedBy road tree query a (length work) (length results)
     taken-facts a e = record {

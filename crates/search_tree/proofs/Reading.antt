@@ -5,12 +5,12 @@ use Prim.Native.Nat.{ℕ, zero, suc, ◌≤◌}
 use native.Mathlib.Omega.{arith}
 use lib.ListN.{length, take}
 use lib.Seq.{length-take-le}
+use Rattle.std.specs.Prelude.{Result, Ok, Err, OnOk}
+use Rattle.book.specs.Refusals.{answer_number}
+use Rattle.book.specs.declared.refusal.Refusal.{Refusal}
 use Rattle.book.proofs.Choosing.{first-earlier, first-later}
 use Rattle.road_layout.specs.Road.{junctions, road_count}
-use Rattle.road_layout.specs.Layout.{told, road_number}
-use Rattle.road_layout.specs.declared.RoadBook.{RoadBook}
-use Rattle.road_layout.specs.declared.RoadBook.TheVariants.{Sound, Refused}
-use Rattle.road_layout.proofs.Reading.{number-told}
+use Rattle.road_layout.specs.Layout.{Sound, Refused, told}
 use Rattle.adjacency.specs.Adjacency.{Adjacency}
 use Rattle.road.specs.Refusal.{road_refusal}
 use Rattle.road.proofs.Answering.{read_sound, read_refused}
@@ -20,53 +20,46 @@ use Rattle.tree_layout.specs.Reading.{header_of}
 use Rattle.tree_layout.specs.declared.Header.{Header}
 use Rattle.tree_layout.proofs.Reading.{header-junctions, header-regions}
 use Rattle.tree.specs.Shape.{tree_refusal}
-use Rattle.tree.specs.Answer.{tree_of, tree_number as tree-number, places_after, ends_after}
-use Rattle.tree.specs.declared.Tree.{Tree}
-use Rattle.tree.specs.declared.Tree.TheVariants.{Shaped, Refused as tree-refused}
-use Rattle.tree.proofs.Answering.{shaped-answer, shaped-found, number_is, accepted-laid, accepted-room, accepted-ends}
+use Rattle.tree.specs.Answer.{Shaped, Refused as tree-refused, tree_of, places_after, ends_after}
+use Rattle.tree.proofs.Answering.{shaped-found, turned_back, accepted-laid, accepted-room, accepted-ends}
 use Rattle.search_call.specs.Call.{Want, tree_refusal_in, search_refusal}
 use Rattle.search_call.proofs.Refusing.{tree_turned_back, counts_differ, counts_agree, tree-passed, by_road, by_tree}
 use Rattle.search_tree.specs.code.District.{district_refusal, District}
 
+-- what follows of the number 0 holds of an accepted answer
+pub on_accepted : {P : Type 0} (r : Result (Unit {0}) Refusal) → (answer_number r ≡ 0 → P) → OnOk r P
+on_accepted (Ok x) f = f refl
+on_accepted (Err why) f = tt
+
 -- ---- the tree book's tests
 
-module _ (tree : List ℕ) (n : ℕ) (o : Tree) (e : o ≡ tree_of tree) where
+module _ (tree : List ℕ) (n : ℕ) where
   -- its own tests turn it back
-  pub tree_own : (why r : ℕ) → o ≡ tree-refused why → r ≡ tree-number o → r ≡ tree_refusal_in tree n
-  tree_own why r f g = g ∙ number_is tree o e ∙ sym (tree_turned_back tree n (some (tree_refusal tree) refl))
-    where
-      some : (x : ℕ) → x ≡ tree_refusal tree → 1 ≤ tree_refusal tree
-      some zero q =
-          let s : Shaped (header_of tree) ≡ tree-refused why = shaped-answer tree 0 (header_of tree) q refl refl ∙ sym e ∙ f in
-          let z : ◌≡◌ {A = ℕ} 0 1 = cc in
-          absurd (omega arith)
-      some (suc x) q = omega arith
+  pub tree_own : (why : ℕ) → tree-refused why ≡ tree_of tree → why ≡ tree_refusal_in tree n
+  tree_own why e = let x = turned_back tree why e in sym (tree_turned_back tree n (omega (arith, x.0, x.1)) ∙ x.0)
 
-  module _ (h : Header) (f : o ≡ Shaped h) where
+  module _ (h : Header) (e : Shaped h ≡ tree_of tree) where
     junctions_are : h.junctions ≡ junction_count tree
-    junctions_are = ap (λ (x : Header). x.junctions) (sym (shaped-found tree o h e f).1) ∙ header-junctions tree
+    junctions_are = ap (λ (x : Header). x.junctions) (sym (shaped-found tree h e).1) ∙ header-junctions tree
 
     pub tree_differs : (h.junctions ≡ n → ⊥) → 8 ≡ tree_refusal_in tree n
-    tree_differs d = sym (counts_differ tree n (shaped-found tree o h e f).0 (λ q. d (junctions_are ∙ q)))
+    tree_differs d = sym (counts_differ tree n (shaped-found tree h e).0 (λ q. d (junctions_are ∙ q)))
 
     pub tree_agrees : h.junctions ≡ n → 0 ≡ tree_refusal_in tree n
-    tree_agrees q = sym (counts_agree tree n (shaped-found tree o h e f).0 (sym junctions_are ∙ q))
+    tree_agrees q = sym (counts_agree tree n (shaped-found tree h e).0 (sym junctions_are ∙ q))
 
 -- ---- both books' tests
 
-module _ (road tree : List ℕ) (o : RoadBook) (e : o ≡ told (road_refusal road) (junctions road) (road_count road)) where
+module _ (road tree : List ℕ) where
   -- the road book's turn it back
-  pub road-back : (why s : ℕ) → o ≡ Refused why → s ≡ road_number o → (s ≡ district_refusal road tree) × (s ≡ 0 → ⊥)
+  pub road-back : (why : ℕ) → Refused why ≡ told (road_refusal road) (junctions road) (road_count road) → why ≡ district_refusal road tree
   unfolding district_refusal
-  road-back why s f g =
-      let q = read_refused road o why e f in
-      let n : s ≡ road_refusal road = g ∙ ap road_number e ∙ number-told (road_refusal road) (junctions road) (road_count road) in
-      (n ∙ sym (first-earlier (road_refusal road) _ (omega (arith, q.0, q.1))), λ z. omega (arith, n, q.0, q.1))
+  road-back why e = let q = read_refused road why e in sym (first-earlier (road_refusal road) _ (omega (arith, q.0, q.1)) ∙ q.0)
 
   -- the tree book's tests are left
-  module _ (n m : ℕ) (f : o ≡ Sound n m) (s : ℕ) (g : s ≡ tree_refusal_in tree n) where
+  module _ (n m : ℕ) (e : Sound n m ≡ told (road_refusal road) (junctions road) (road_count road)) (s : ℕ) (g : s ≡ tree_refusal_in tree n) where
     roads : (road_refusal road ≡ 0) × (n ≡ junctions road)
-    roads = let x = read_sound road o n m e f in (x.0, x.1)
+    roads = let x = read_sound road n m e in (x.0, x.1)
 
     pub tree_last : s ≡ district_refusal road tree
     unfolding district_refusal
@@ -94,20 +87,15 @@ module _ (road tree : List ℕ) (o : RoadBook) (e : o ≡ told (road_refusal roa
 
 -- ---- for the call: a district that is turned back turns the call back
 
-pub district-back : (road tree query : List ℕ) (want : Want) (work results why : ℕ) → why ≡ district_refusal road tree → (why ≡ 0 → ⊥)
-    → (why ≡ search_refusal road tree query want work results) × (why ≡ 0 → ⊥)
+pub district-back : (road tree query : List ℕ) (want : Want) (work results why : ℕ) → why ≡ district_refusal road tree → 1 ≤ why
+    → why ≡ search_refusal road tree query want work results
 unfolding district_refusal
-district-back road tree query want work results why e h = (go (road_refusal road) refl, h)
+district-back road tree query want work results why e h = go (road_refusal road) refl
   where
     go : (x : ℕ) → x ≡ road_refusal road → why ≡ search_refusal road tree query want work results
     go zero q =
         let f = e ∙ first-later (road_refusal road) (tree_refusal_in tree (junctions road)) (sym q) in
-        let z : 1 ≤ tree_refusal_in tree (junctions road) = some why h f in
-        f ∙ sym (by_tree road tree query want work results (sym q) z)
-      where
-        some : (w : ℕ) → (w ≡ 0 → ⊥) → w ≡ tree_refusal_in tree (junctions road) → 1 ≤ tree_refusal_in tree (junctions road)
-        some zero h f = absurd (h refl)
-        some (suc w) h f = omega arith
+        f ∙ sym (by_tree road tree query want work results (sym q) (omega (arith, f)))
     go (suc x) q =
         let z : 1 ≤ road_refusal road = omega arith in
         e ∙ first-earlier (road_refusal road) (tree_refusal_in tree (junctions road)) z ∙ sym (by_road road tree query want work results z)

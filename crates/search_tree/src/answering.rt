@@ -1,14 +1,15 @@
 // One query over a district.
 ghost use Rattle.std.specs.Prelude.{◌≡◌, List, ℕ, length};
+ghost use Rattle.book.specs.Refusals.{answer_number};
 ghost use Rattle.work_area.specs.Work.{work_after};
 ghost use Rattle.search_held.specs.code.Rules.{rule_of};
 ghost use Rattle.search_call.specs.Call.{rule_by, most_by, areas_refusal, search_refusal, search_found, results_after};
 ghost use Rattle.search_tree.specs.Found.{drive_of, want_of};
 ghost use Rattle.search_tree.specs.code.District.{District, IsDistrict};
-ghost use Rattle.search_tree.specs.Found.{found_of};
+ghost use Rattle.search_tree.specs.Found.{found_by};
 
-use crate::{Found, Goal, Want, accepted, refused};
-use query::QueryBook;
+use crate::{Found, Goal, Want, accepted};
+use book::refusal::Refusal;
 use search_held::{Asked, Rule};
 use tree_layout::records;
 
@@ -32,17 +33,17 @@ fn most_yards(k: u16, yards: u16, goal: Goal) -> u16
     }
 }
 
-// Test 12, of a search that may list so many yards: 12 or 0.
-fn areas_refusal(yards: u16, work: usize, results: usize) -> u8
-    ensures { result ≡ areas_refusal yards work results }
+// Test 12, of a search that may list so many yards.
+fn areas_refusal(yards: u16, work: usize, results: usize) -> Result<(), Refusal>
+    ensures { answer_number result ≡ areas_refusal yards work results }
 {
     if work < work_area::WORDS {
-        return 12;
+        return Err(Refusal::Area);
     }
     if results < 2 * (yards as usize) {
-        return 12;
+        return Err(Refusal::Area);
     }
-    0
+    Ok(())
 }
 
 // Tests a query and the lent areas, and searches the district for what it asks.
@@ -55,11 +56,11 @@ pub fn answer(
     want: Want,
     work: &mut [u32],
     results: &mut [u32],
-) -> Found
+) -> Result<Found, Refusal>
     requires { IsDistrict tree.now adj.now places.now ends.now }
     ensures found { (road : List ℕ)
         → District road tree.now adj.now places.now ends.now
-        → found_of result ≡ search_found road tree.now query.now
+        → found_by result ≡ search_found road tree.now query.now
         (want_of want) (length work.old) (length results.old) }
     ensures work { (road : List ℕ)
         → District road tree.now adj.now places.now ends.now
@@ -70,21 +71,15 @@ pub fn answer(
         → results.new ≡ results_after road tree.now query.now
         (want_of want) (length work.old) results.old }
 {
-    let q = query::read(query, adjacency::junctions(adj));
-    let QueryBook::Asked(asked) = q else {
-        return refused(query::number(q));
-    };
+    let asked = query::read(query, adjacency::junctions(adj))?;
     let wanted = want.kinds;
     if wanted == 0 {
-        return refused(13);
+        return Err(Refusal::Wanted);
     }
     let goal = want.goal;
     let h = records::header(tree);
     let most = most_yards(asked.k as u16, h.yards, goal);
-    let why = areas_refusal(most, work.len(), results.len());
-    if why != 0 {
-        return refused(why);
-    }
+    areas_refusal(most, work.len(), results.len())?;
     let rule = rule_of(asked.k, goal);
     let given = Asked {
         aggregate: asked.aggregate,
@@ -92,5 +87,5 @@ pub fn answer(
         rule,
         wanted,
     };
-    accepted::search(adj, tree, places, ends, query, given, work, results)
+    Ok(accepted::search(adj, tree, places, ends, query, given, work, results))
 }

@@ -14,18 +14,13 @@ use Rattle.tree_layout.specs.Decode.{region_count, place_of, decode}
 use Rattle.tree_layout.specs.Refusal.{tree_layout_refusal}
 use Rattle.tree_layout.specs.Facts.{TreeLayout}
 use Rattle.tree_layout.proofs.Accepting.{layout-facts}
-use Rattle.tree_layout.proofs.Reading.{refused-answer as layout-answer}
 use Rattle.tree.specs.Shape.{shaped, tree_refusal}
 use Rattle.tree.specs.Yards.{end_of}
 use Rattle.tree.specs.Arrays.{overwrite, Laid}
-use Rattle.tree_layout.specs.Reading.{header_of, header_values, tree_book, layout_number as layout-number}
+use Rattle.tree_layout.specs.Reading.{header_of, header_values, tree_book, Refused as layout-refused}
 use Rattle.tree_layout.specs.declared.Header.{Header}
-use Rattle.tree_layout.specs.declared.TreeBook.{TreeBook}
-use Rattle.tree_layout.specs.declared.TreeBook.TheVariants.{Refused as layout-refused}
 use Rattle.tree_layout.proofs.Refusing.{refused-number}
-use Rattle.tree.specs.declared.Tree.{Tree}
-use Rattle.tree.specs.declared.Tree.TheVariants.{Shaped, Refused}
-use Rattle.tree.specs.Answer.{tree_answer, tree_case, tree_number, tree_of, places_after, ends_after}
+use Rattle.tree.specs.Answer.{Shaped, Refused, tree_answer, tree_case, tree_of, places_after, ends_after}
 use Rattle.tree.proofs.Filling.{overwrite-length, overwrite_new}
 
 -- ---- a book that the layout's tests accept
@@ -119,43 +114,55 @@ module _ (b : List ℕ) (why : ℕ) (e : tree_layout_refusal b ≡ why) (some : 
 
 -- ---- the answer
 
-pub unshaped_answer : (b : List ℕ) (why : ℕ) → why ≡ tree_refusal b → (why ≡ 0 → ⊥) → Refused why ≡ tree_of b
+pub unshaped_answer : (b : List ℕ) (why : ℕ) → why ≡ tree_refusal b → 1 ≤ why → Refused why ≡ tree_of b
 unfolding tree_of tree_answer
 unshaped_answer b why e h = go why h ∙ ap (λ (n : ℕ). tree_answer n (header_of b)) e
   where
-    go : (n : ℕ) → (n ≡ 0 → ⊥) → Refused n ≡ tree_answer n (header_of b)
-    go zero h = absurd (h refl)
+    go : (n : ℕ) → 1 ≤ n → Refused n ≡ tree_answer n (header_of b)
+    go zero h = absurd (omega arith)
     go (suc n) h = refl
 
-pub shaped-answer : (b : List ℕ) (why : ℕ) (h : Header) → why ≡ tree_refusal b → why ≡ 0 → header_of b ≡ h → Shaped h ≡ tree_of b
+pub shaped-answer : (b : List ℕ) (h : Header) → 0 ≡ tree_refusal b → header_of b ≡ h → Shaped h ≡ tree_of b
 unfolding tree_of tree_answer
-shaped-answer b why h e z w = rw (← e, z, w) refl
+shaped-answer b h e w = rw (← e, w) refl
 
 -- a book that the layout's reader refuses
-pub refused-answer : (b ps es : List ℕ) (o : TreeBook) (why r : ℕ) → o ≡ tree_book (tree_layout_refusal b) (header_of b) → o ≡ layout-refused why
-    → r ≡ layout-number o
-    → (Refused r ≡ tree_of b) × ((ps ≡ places_after b ps) × (es ≡ ends_after b es))
-refused-answer b ps es o why r e f g =
-    let n = refused-number (tree_layout_refusal b) (header_of b) why (sym e ∙ f) in
-    let z : r ≡ why = g ∙ (ap layout-number f ∙ layout-answer why) in (
-      unshaped_answer b r (z ∙ sym (refused-is b why n.0 n.1)) (λ q. omega (arith, n.1)),
+pub refused-answer : (b ps es : List ℕ) (why : ℕ) → layout-refused why ≡ tree_book (tree_layout_refusal b) (header_of b)
+    → (Refused why ≡ tree_of b) × ((ps ≡ places_after b ps) × (es ≡ ends_after b es))
+refused-answer b ps es why e =
+    let n = refused-number (tree_layout_refusal b) (header_of b) why (sym e) in (
+      unshaped_answer b why (sym (refused-is b why n.0 n.1)) n.1,
       (
         refused-places b why n.0 n.1 ps,
         refused-ends b why n.0 n.1 es,
       ),
     )
 
--- ---- an accepted book, for those who read it
+-- ---- for those who read it: what the reader's answer says
 
 shaped-number : (n : ℕ) (h found : Header) → tree_answer n h ≡ Shaped found → (n ≡ 0) × (h ≡ found)
 unfolding tree_answer
 shaped-number zero h found e = (refl, cc)
 shaped-number (suc n) h found e = let z : ◌≡◌ {A = ℕ} 0 1 = cc in absurd (omega arith)
 
--- an answer with a header: the book is accepted, and the header is its own
-pub shaped-found : (b : List ℕ) (o : Tree) (h : Header) → o ≡ tree_of b → o ≡ Shaped h → (tree_refusal b ≡ 0) × (header_of b ≡ h)
+-- with a header: the book is accepted, and the header is its own
+pub shaped-found : (b : List ℕ) (h : Header) → Shaped h ≡ tree_of b → (tree_refusal b ≡ 0) × (header_of b ≡ h)
 unfolding tree_of
-shaped-found b o h e f = shaped-number (tree_refusal b) (header_of b) h (sym e ∙ f)
+shaped-found b h e = shaped-number (tree_refusal b) (header_of b) h (sym e)
+
+refused_why : (n : ℕ) (h : Header) (why : ℕ) → tree_answer n h ≡ Refused why → (n ≡ why) × (1 ≤ why)
+unfolding tree_answer
+refused_why zero h why e = let z : ◌≡◌ {A = ℕ} 0 1 = cc in absurd (omega arith)
+refused_why (suc n) h why e =
+    let q : suc n ≡ why = cc in
+    (q, omega arith)
+
+-- with a refusal: its number is the book's
+pub turned_back : (b : List ℕ) (why : ℕ) → Refused why ≡ tree_of b → (tree_refusal b ≡ why) × (1 ≤ why)
+unfolding tree_of
+turned_back b why e = refused_why (tree_refusal b) (header_of b) why (sym e)
+
+-- ---- an accepted book, for those who read it
 
 module _ (b : List ℕ) (ok : tree_refusal b ≡ 0) where
   laid_out : tree_layout_refusal b ≡ 0
@@ -190,15 +197,6 @@ module _ (b : List ℕ) (ok : tree_refusal b ≡ 0) where
       → get_or (take n new) j 0 ≡ end_of (decode b).regions j
   accepted-ends n e old new h z j k =
       get_or-take n new j 0 k ∙ rw (ends_are old new z) (overwrite_new (end_of (decode b).regions) old (region_count b) j (omega arith) (omega (arith, few)))
-
--- the number that an answer has
-pub number_is : (b : List ℕ) (o : Tree) → o ≡ tree_of b → tree_number o ≡ tree_refusal b
-unfolding tree_of tree_answer tree_case tree_number
-number_is b o e = ap tree_number e ∙ go (tree_refusal b)
-  where
-    go : (n : ℕ) → tree_number (tree_answer n (header_of b)) ≡ n
-    go zero = refl
-    go (suc n) = refl
 
 -- an answer in the paper's numbers
 pub case_is : (b : List ℕ) → tree_case (tree_of b) ≡ case_of (tree_refusal b) (header_values (header_of b))

@@ -7,13 +7,12 @@ use native.Mathlib.Omega.{arith}
 use borrow.Author.Tests.{le-leb, lt-leb}
 use lib.ListN.{length}
 use lib.Dec.{ltb, leb, eqb, not_T, ltb→lt, lt→ltb, leb→le}
+use Rattle.std.specs.Prelude.{None}
 use Rattle.book.proofs.Choosing.{choose_case, choose_no, choose_yes, true_T, false_T, and_right}
 use Rattle.book.proofs.Lists.{eq→eqb, ne→neqb}
 use Rattle.tree_layout.specs.Values.{Region, region_at}
 use Rattle.tree_leaf.specs.Leaf.{leaf_ok}
-use Rattle.tree.specs.declared.shape.End.{End}
-use Rattle.tree.specs.declared.shape.End.TheVariants.{Broken}
-use Rattle.tree.specs.Shape.{end_at, onward, child_fits, siblings, subtree}
+use Rattle.tree.specs.Shape.{End, end_at, onward, child_fits, siblings, subtree}
 use Rattle.tree.proofs.Forest.{siblings-end, subtree-leaf, subtree-inner}
 
 -- ---- a child's fields
@@ -38,14 +37,14 @@ module _ (low high left first after yards : ℕ) where
 module _ (rs : List Region) where
   -- ---- a region
 
-  pub no_levels : (i : ℕ) → subtree rs 0 i ≡ Broken
+  pub no_levels : (i : ℕ) → subtree rs 0 i ≡ None
   unfolding subtree
   no_levels i = refl
 
-  pub no_number : (l i : ℕ) → length rs ≤ i → subtree rs l i ≡ Broken
+  pub no_number : (l i : ℕ) → length rs ≤ i → subtree rs l i ≡ None
   unfolding subtree
   no_number zero i h = refl
-  no_number (suc l) i h = choose_no (ltb i (length rs)) _ Broken (not_T (ltb i (length rs)) (λ t. omega (arith, ltb→lt i (length rs) t)))
+  no_number (suc l) i h = choose_no (ltb i (length rs)) _ None (not_T (ltb i (length rs)) (λ t. omega (arith, ltb→lt i (length rs) t)))
 
   -- levels that are left: l is 1 and so many more
   module _ (l k i : ℕ) (some : l ≡ suc k) (inside : i < length rs) where
@@ -54,10 +53,10 @@ module _ (rs : List Region) where
         → subtree rs l i ≡ siblings rs (subtree rs k) children (suc i) first after yards
     inner-end first after children yards p q r s z = rw (some, ← p, ← q, ← r, ← s) (subtree-inner rs k i inside (omega (arith, r, z)))
 
-    pub leaf_bad : (region_at rs i).children ≡ 0 → leaf_ok (region_at rs i) ≡ false → subtree rs l i ≡ Broken
+    pub leaf_bad : (region_at rs i).children ≡ 0 → leaf_ok (region_at rs i) ≡ false → subtree rs l i ≡ None
     unfolding subtree
-    leaf_bad c e = rw some (choose_yes (ltb i (length rs)) _ Broken (lt→ltb i (length rs) inside)
-        ∙ (choose_yes (eqb (region_at rs i).children 0) _ _ (eq→eqb (region_at rs i).children 0 c) ∙ choose_no (leaf_ok (region_at rs i)) (end_at (suc i)) Broken
+    leaf_bad c e = rw some (choose_yes (ltb i (length rs)) _ None (lt→ltb i (length rs) inside)
+        ∙ (choose_yes (eqb (region_at rs i).children 0) _ _ (eq→eqb (region_at rs i).children 0 c) ∙ choose_no (leaf_ok (region_at rs i)) (end_at (suc i)) None
         (false_T e)))
 
     pub leaf_good : (region_at rs i).children ≡ 0 → leaf_ok (region_at rs i) ≡ true → subtree rs l i ≡ end_at (suc i)
@@ -66,26 +65,26 @@ module _ (rs : List Region) where
   -- ---- siblings
 
   module _ (f : ℕ → End) (n i low high left : ℕ) where
-    pub last_left : n ≡ 0 → (left ≡ 0 → ⊥) → siblings rs f n i low high left ≡ Broken
+    pub last_left : n ≡ 0 → (left ≡ 0 → ⊥) → siblings rs f n i low high left ≡ None
     unfolding siblings
-    last_left e h = rw e (choose_no (eqb left 0) (end_at i) Broken (ne→neqb left 0 h))
+    last_left e h = rw e (choose_no (eqb left 0) (end_at i) None (ne→neqb left 0 h))
 
     pub last_none : n ≡ 0 → left ≡ 0 → siblings rs f n i low high left ≡ end_at i
     last_none e h = rw e (siblings-end rs f i low high left h)
 
     module _ (k : ℕ) (more : n ≡ suc k) where
       pub next_bad : child_fits low high left (region_at rs i).first (region_at rs i).after (region_at rs i).yards ≡ false
-          → siblings rs f n i low high left ≡ Broken
+          → siblings rs f n i low high left ≡ None
       unfolding siblings
-      next_bad t = rw more (choose_no (child_fits low high left (region_at rs i).first (region_at rs i).after (region_at rs i).yards) _ Broken (false_T t))
+      next_bad t = rw more (choose_no (child_fits low high left (region_at rs i).first (region_at rs i).after (region_at rs i).yards) _ None (false_T t))
 
-      pub next-none : f i ≡ Broken → siblings rs f n i low high left ≡ Broken
+      pub next-none : f i ≡ None → siblings rs f n i low high left ≡ None
       unfolding siblings
-      next-none e = rw more (choose_case (λ (x : End). x ≡ Broken) (child_fits low high left (region_at rs i).first (region_at rs i).after (region_at rs i).yards)
+      next-none e = rw more (choose_case (λ (x : End). x ≡ None) (child_fits low high left (region_at rs i).first (region_at rs i).after (region_at rs i).yards)
           (λ t. ap (λ (o : End). onward o (λ m. siblings rs f k m (region_at rs i).after high (left - (region_at rs i).yards))) e) (λ t. refl))
 
       pub next_good : child_fits low high left (region_at rs i).first (region_at rs i).after (region_at rs i).yards ≡ true → (m : ℕ) → f i ≡ end_at m
           → siblings rs f n i low high left ≡ siblings rs f k m (region_at rs i).after high (left - (region_at rs i).yards)
       unfolding siblings
-      next_good t m e = rw more (choose_yes (child_fits low high left (region_at rs i).first (region_at rs i).after (region_at rs i).yards) _ Broken (true_T t)
+      next_good t m e = rw more (choose_yes (child_fits low high left (region_at rs i).first (region_at rs i).after (region_at rs i).yards) _ None (true_T t)
           ∙ ap (λ (o : End). onward o (λ m. siblings rs f k m (region_at rs i).after high (left - (region_at rs i).yards))) e)

@@ -5,13 +5,12 @@ use Prim.Native.Nat.{ℕ, zero, suc, ◌+◌, ◌-◌, ◌≤◌, ◌<◌}
 use native.Mathlib.Omega.{arith}
 use lib.ListN.{length}
 use lib.Dec.{T, ltb, leb, eqb, eqb→eq, leb→le, ltb→lt, le→leb, lt→ltb}
+use Rattle.std.specs.Prelude.{None}
 use Rattle.book.proofs.Choosing.{choose_case, choose_yes, choose_no, and_left, and_right, and_both}
 use Rattle.book.proofs.Lists.{eq→eqb, ne→neqb, neqb→ne}
 use Rattle.tree_layout.specs.Values.{Region, region_at}
 use Rattle.tree_leaf.specs.Leaf.{leaf_ok}
-use Rattle.tree.specs.declared.shape.End.{End}
-use Rattle.tree.specs.declared.shape.End.TheVariants.{Broken}
-use Rattle.tree.specs.Shape.{end_at, onward, child_fits, siblings, subtree, levels}
+use Rattle.tree.specs.Shape.{End, end_at, onward, child_fits, siblings, subtree, levels}
 use Rattle.tree.specs.Yards.{number_or, end_of}
 use Rattle.tree.proofs.Onward.{same_region, never, kept, went_on}
 
@@ -59,7 +58,7 @@ module _ (rs : List Region) where
       → f i ≡ end_at m → siblings rs f (suc n) i low high left ≡ siblings rs f n m (region_at rs i).after high (left - (region_at rs i).yards)
   unfolding siblings child_fits
   siblings-step f n i low high left m a b c d =
-      choose_yes (child_fits low high left (region_at rs i).first (region_at rs i).after (region_at rs i).yards) _ Broken (and_both (leb low (region_at rs i
+      choose_yes (child_fits low high left (region_at rs i).first (region_at rs i).after (region_at rs i).yards) _ None (and_both (leb low (region_at rs i
       ).first) _ (le→leb low (region_at rs i).first a) (and_both (leb (region_at rs i).after high) _ (le→leb (region_at rs i).after high b) (le→leb (region_at
       rs i).yards left c)))
       ∙ ap (λ (o : End). onward o (λ e. siblings rs f n e (region_at rs i).after high (left - (region_at rs i).yards))) d
@@ -67,7 +66,7 @@ module _ (rs : List Region) where
   -- no sibling is left
   pub siblings-end : (f : ℕ → End) (i low high left : ℕ) → left ≡ 0 → siblings rs f 0 i low high left ≡ end_at i
   unfolding siblings
-  siblings-end f i low high left e = choose_yes (eqb left 0) (end_at i) Broken (eq→eqb left 0 e)
+  siblings-end f i low high left e = choose_yes (eqb left 0) (end_at i) None (eq→eqb left 0 e)
 
   pub siblings-ended : (f : ℕ → End) (i low high left e : ℕ) → siblings rs f 0 i low high left ≡ end_at e → (left ≡ 0) × (i ≡ e)
   unfolding siblings
@@ -101,13 +100,13 @@ module _ (rs : List Region) where
 
   pub subtree-leaf : (l i : ℕ) → i < length rs → (region_at rs i).children ≡ 0 → T (leaf_ok (region_at rs i)) → subtree rs (suc l) i ≡ end_at (suc i)
   unfolding subtree
-  subtree-leaf l i h c k = choose_yes (ltb i (length rs)) _ Broken (lt→ltb i (length rs) h)
-      ∙ (choose_yes (eqb (region_at rs i).children 0) _ _ (eq→eqb (region_at rs i).children 0 c) ∙ choose_yes (leaf_ok (region_at rs i)) (end_at (suc i)) Broken k)
+  subtree-leaf l i h c k = choose_yes (ltb i (length rs)) _ None (lt→ltb i (length rs) h)
+      ∙ (choose_yes (eqb (region_at rs i).children 0) _ _ (eq→eqb (region_at rs i).children 0 c) ∙ choose_yes (leaf_ok (region_at rs i)) (end_at (suc i)) None k)
 
   pub subtree-inner : (l i : ℕ) → i < length rs → 0 < (region_at rs i).children
       → subtree rs (suc l) i ≡ siblings rs (subtree rs l) (region_at rs i).children (suc i) (region_at rs i).first (region_at rs i).after (region_at rs i).yards
   unfolding subtree
-  subtree-inner l i h c = choose_yes (ltb i (length rs)) _ Broken (lt→ltb i (length rs) h)
+  subtree-inner l i h c = choose_yes (ltb i (length rs)) _ None (lt→ltb i (length rs) h)
       ∙ choose_no (eqb (region_at rs i).children 0) _ _ (ne→neqb (region_at rs i).children 0 (omega arith))
 
   -- no level is left

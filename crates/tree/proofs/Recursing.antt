@@ -8,15 +8,14 @@ use native.Mathlib.Omega.{arith}
 use lib.ListN.{length}
 use borrow.Author.Tests.{eq-eqb, ne_eqb}
 use lib.Dec.{eqb}
+use Rattle.std.specs.Prelude.{Some, None}
 use Rattle.tree_layout.specs.code.Accessors.{fields_at}
 use Rattle.tree_layout.specs.Values.{Region, region_at}
 use Rattle.tree_layout.specs.Decode.{read_region, size_at, landmark_count, place_of, decode, tree_yard_count}
 use Rattle.tree_layout.proofs.Places.{decode-yards}
 use Rattle.tree_leaf.specs.Leaf.{leaf_ok}
 use Rattle.tree_layout.specs.declared.Region.{Region as RegionNumber}
-use Rattle.tree.specs.declared.shape.End.{End}
-use Rattle.tree.specs.declared.shape.End.TheVariants.{At, Broken}
-use Rattle.tree.specs.Shape.{end_at, child_fits, siblings, subtree, shaped}
+use Rattle.tree.specs.Shape.{End, end_at, child_fits, siblings, subtree, shaped}
 use Rattle.tree.specs.Arrays.{Laid, fields_of}
 use Rattle.tree_layout.specs.declared.Fields.{Fields}
 use Rattle.tree.proofs.Fielding.{laid-length, laid-header, laid-inside, laid_region, laid-children, laid_end}
@@ -56,10 +55,10 @@ module _ (b places : List ℕ) (laid : Laid b places) where
   -- ---- a region, with l levels left
 
   module _ (l i : ℕ) where
-    pub none_left : l ≡ 0 → Broken ≡ subtree rs l i
+    pub none_left : l ≡ 0 → None ≡ subtree rs l i
     none_left e = rw e (sym (no_levels rs i))
 
-    pub past_end : length places ≤ i → Broken ≡ subtree rs l i
+    pub past_end : length places ≤ i → None ≡ subtree rs l i
     past_end h = sym (no_number rs l i (omega (arith, laid-length b places laid)))
 
     module _ (some : l ≡ 0 → ⊥) (h : i < length places) (f : Fields) (e : f ≡ fields_of b i) where
@@ -90,7 +89,7 @@ module _ (b places : List ℕ) (laid : Laid b places) where
       region_is : region_at rs i ≡ read_region b (landmark_count b) f.at
       region_is = laid_region b places laid i h ∙ ap (λ (p : ℕ). read_region b (landmark_count b) p) (sym (at-is b i f e))
 
-      pub at_bad : f.children ≡ 0 → leaf_ok (read_region b (landmark_count b) f.at) ≡ false → Broken ≡ subtree rs l i
+      pub at_bad : f.children ≡ 0 → leaf_ok (read_region b (landmark_count b) f.at) ≡ false → None ≡ subtree rs l i
       at_bad c t = sym (leaf_bad rs l (l - 1) i level inside (children-is b i f e ∙ c) (ap leaf_ok region_is ∙ t))
 
       pub at_good : f.children ≡ 0 → leaf_ok (read_region b (landmark_count b) f.at) ≡ true → end_at (i + 1) ≡ subtree rs l i
@@ -102,7 +101,7 @@ module _ (b places : List ℕ) (laid : Laid b places) where
     abbrev answer : End
     answer = siblings rs (subtree rs l) n i low high left
 
-    pub sum_over : n ≡ 0 → (left ≡ 0 → ⊥) → Broken ≡ answer
+    pub sum_over : n ≡ 0 → (left ≡ 0 → ⊥) → None ≡ answer
     sum_over e h = sym (last_left rs (subtree rs l) n i low high left e h)
 
     pub sum_done : n ≡ 0 → left ≡ 0 → end_at i ≡ answer
@@ -112,43 +111,42 @@ module _ (b places : List ℕ) (laid : Laid b places) where
       rest : n ≡ suc (n - 1)
       rest = omega (arith, some)
 
-      pub none-there : length places ≤ i → Broken ≡ answer
+      pub none-there : length places ≤ i → None ≡ answer
       none-there h = sym (next-none rs (subtree rs l) n i low high left (n - 1) rest (no_number rs l i (omega (arith, laid-length b places laid))))
 
-      pub sub-none : (o : End) → o ≡ subtree rs l i → o ≡ Broken → Broken ≡ answer
-      sub-none o z e = sym (next-none rs (subtree rs l) n i low high left (n - 1) rest (sym z ∙ e))
+      pub sub-none : None ≡ subtree rs l i → None ≡ answer
+      sub-none e = sym (next-none rs (subtree rs l) n i low high left (n - 1) rest (sym e))
 
       module _ (f : Fields) (e : f ≡ fields_of b i) where
         fits-is : child_fits low high left f.first.number f.after f.yards
             ≡ child_fits low high left (region_at rs i).first (region_at rs i).after (region_at rs i).yards
         fits-is = rw (first-is b i f e, after_is b i f e, yards-is b i f e) refl
 
-        pub not_fitting : child_fits low high left f.first.number f.after f.yards ≡ false → Broken ≡ answer
+        pub not_fitting : child_fits low high left f.first.number f.after f.yards ≡ false → None ≡ answer
         not_fitting t = sym (next_bad rs (subtree rs l) n i low high left (n - 1) rest (sym fits-is ∙ t))
 
         pub fitting : child_fits low high left f.first.number f.after f.yards ≡ true → f.yards ≤ left
         fitting t = fits-yards low high left f.first.number f.after f.yards t
 
-        pub goes_on : child_fits low high left f.first.number f.after f.yards ≡ true → (o : End) (m : RegionNumber) → o ≡ subtree rs l i → o ≡ At m
+        pub goes_on : child_fits low high left f.first.number f.after f.yards ≡ true → (m : RegionNumber) → Some m ≡ subtree rs l i
             → siblings rs (subtree rs l) (n - 1) m.number f.after high (left - f.yards) ≡ answer
-        goes_on t o m z w =
-            rw (← after_is b i f e, ← yards-is b i f e) (sym (next_good rs (subtree rs l) n i low high left (n - 1) rest (sym fits-is ∙ t) m.number (sym z ∙ w)))
+        goes_on t m w =
+            rw (← after_is b i f e, ← yards-is b i f e) (sym (next_good rs (subtree rs l) n i low high left (n - 1) rest (sym fits-is ∙ t) m.number (sym w)))
 
   -- ---- test 7
 
-  module _ (o : End) (end : o ≡ subtree rs 8 0) where
-    pub not-one : o ≡ Broken → false ≡ shaped (decode b)
+  pub not-one : None ≡ subtree rs 8 0 → false ≡ shaped (decode b)
+  unfolding shaped
+  not-one e = rw (← e) refl
+
+  module _ (m : RegionNumber) (came : Some m ≡ subtree rs 8 0) where
+    pub not-all : (m.number ≡ length places → ⊥) → false ≡ shaped (decode b)
     unfolding shaped
-    not-one z = rw (← end, z) refl
+    not-all h = rw (← came) (simp (ne_eqb _ _ (λ e. h (e ∙ laid-length b places laid))))
 
-    module _ (m : RegionNumber) (came : o ≡ At m) where
-      pub not-all : (m.number ≡ length places → ⊥) → false ≡ shaped (decode b)
-      unfolding shaped
-      not-all h = rw (← end, came) (simp (ne_eqb _ _ (λ e. h (e ∙ laid-length b places laid))))
-
-      pub takes_all : m.number ≡ length places → (f : Fields) → f ≡ fields_of b 0 → (y : ℕ) → y ≡ tree_yard_count b → eqb f.yards y ≡ shaped (decode b)
-      unfolding shaped
-      takes_all h f e y q =
-          let w : (decode b).yards ≡ y = decode-yards b ∙ sym q in
-          let v : m.number ≡ length rs = h ∙ sym (laid-length b places laid) in
-          rw (← end, came, ← yards-is b 0 f e, ← w) (simp (eq-eqb _ _ v))
+    pub takes_all : m.number ≡ length places → (f : Fields) → f ≡ fields_of b 0 → (y : ℕ) → y ≡ tree_yard_count b → eqb f.yards y ≡ shaped (decode b)
+    unfolding shaped
+    takes_all h f e y q =
+        let w : (decode b).yards ≡ y = decode-yards b ∙ sym q in
+        let v : m.number ≡ length rs = h ∙ sym (laid-length b places laid) in
+        rw (← came, ← yards-is b 0 f e, ← w) (simp (eq-eqb _ _ v))

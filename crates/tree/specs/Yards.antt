@@ -1,19 +1,17 @@
 -- Of a shaped tree: where subtrees end, a region's children, and the yards below it. Assumes nothing: these are
 -- definitions.
-use Rattle.std.specs.Prelude.{Bool, ◌&&◌, List, [], ◌∷◌, ◌++◌, ℕ, zero, suc, ◌+◌, ◌-◌, length, eqb, ltb, leb}
+use Rattle.std.specs.Prelude.{Bool, ◌&&◌, List, [], ◌∷◌, ◌++◌, ℕ, zero, suc, ◌+◌, ◌-◌, length, eqb, ltb, leb, Some, None}
 use Rattle.book.specs.Choose.{choose}
 use Rattle.tree_layout.specs.Values.{Element, Region, Tree, region_at}
 use Rattle.tree_leaf.specs.Leaf.{yards_in, names, first_list}
-use Rattle.tree.specs.declared.shape.End.{End}
-use Rattle.tree.specs.declared.shape.End.TheVariants.{At, Broken}
-use Rattle.tree.specs.Shape.{subtree, levels}
+use Rattle.tree.specs.Shape.{End, subtree, levels}
 
--- the number of the region that a descent came to, or another number if it is `Broken`
+-- the number of the region that a descent came to, or another number if it is `None`
 abbrev pub number_or : ℕ → End → ℕ
-number_or other (At r) = r.number
-number_or other Broken = other
+number_or other (Some r) = r.number
+number_or other None = other
 
--- the number of the region after region i's subtree. A shaped tree has no `Broken` one; the count of all regions, which
+-- the number of the region after region i's subtree. A shaped tree has no `None` one; the count of all regions, which
 -- is no region's number, stands in for it
 unfoldable pub end_of : List Region → ℕ → ℕ
 end_of rs i = number_or (length rs) (subtree rs levels i)

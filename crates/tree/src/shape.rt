@@ -7,13 +7,6 @@ ghost use Rattle.tree.specs.Arrays.{Laid};
 use crate::regions;
 use tree_layout::{Fields, Region, records};
 
-// What the descent of a subtree finds: the region after it, or that a rule of the shape doesn't hold.
-#[derive(Clone, Copy)]
-pub enum End {
-    At(Region),
-    Broken,
-}
-
 // Whether a child's range lies from low up to high, and it has no more yards than are left.
 fn child_fits(c: Fields, low: u16, high: u16, left: u16) -> bool
     ensures { result ≡ child_fits low high left c.first.number c.after c.yards }
@@ -29,15 +22,15 @@ fn child_fits(c: Fields, low: u16, high: u16, left: u16) -> bool
 
 // The end of r's subtree, with so many levels left.
 #[cycle(siblings_end_subtree_end)]
-pub fn subtree_end(b: &[u8], places: &[usize], levels: usize, r: Region) -> End
+pub fn subtree_end(b: &[u8], places: &[usize], levels: usize, r: Region) -> Option<Region>
     requires { Laid b.now places.now }
     ensures { result ≡ subtree (decode b.now).regions levels r.number }
 {
     if levels == 0 {
-        return End::Broken;
+        return None;
     }
     if places.len() <= r.number as usize {
-        return End::Broken;
+        return None;
     }
     let f = regions::fields(b, places, r);
     let next = Region {
@@ -56,9 +49,9 @@ pub fn subtree_end(b: &[u8], places: &[usize], levels: usize, r: Region) -> End
         );
     }
     if !tree_leaf::leaf_ok(b, f.at) {
-        return End::Broken;
+        return None;
     }
-    End::At(next)
+    Some(next)
 }
 
 // The end of the last subtree of n siblings from r on, in a range, with the yards that are left.
@@ -72,28 +65,25 @@ fn siblings_end(
     low: u16,
     high: u16,
     left: u16,
-) -> End
+) -> Option<Region>
     requires { Laid b.now places.now }
     ensures { result ≡ siblings (decode b.now).regions
         (subtree (decode b.now).regions levels) n r.number low high left }
 {
     if n == 0 {
         if left != 0 {
-            return End::Broken;
+            return None;
         }
-        return End::At(r);
+        return Some(r);
     }
     if places.len() <= r.number as usize {
-        return End::Broken;
+        return None;
     }
     let f = regions::fields(b, places, r);
     if !child_fits(f, low, high, left) {
-        return End::Broken;
+        return None;
     }
-    let end = subtree_end(b, places, levels, r);
-    let End::At(next) = end else {
-        return End::Broken;
-    };
+    let next = subtree_end(b, places, levels, r)?;
     siblings_end(
         b,
         places,
@@ -112,8 +102,7 @@ pub fn keeps_shape(b: &[u8], places: &[usize]) -> bool
     ensures { result ≡ shaped (decode b.now) }
 {
     let root = Region { number: 0 };
-    let end = subtree_end(b, places, 8, root);
-    let End::At(next) = end else {
+    let Some(next) = subtree_end(b, places, 8, root) else {
         return false;
     };
     if next.number as usize != places.len() {

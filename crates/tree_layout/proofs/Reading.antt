@@ -12,8 +12,7 @@ use Rattle.tree_layout.specs.Sizes.{fields_size, element_size, list_size, leaf_m
 use Rattle.tree_layout.specs.Values.{leaf_mark}
 use Rattle.tree_layout.specs.Decode.{element_at, read_list, list_part, read_lists, read_region, junction_count, region_count, tree_yard_count, landmark_count}
 use Rattle.tree_layout.specs.Refusal.{all}
-use Rattle.tree_layout.specs.Reading.{layout_case, layout_number, header_of}
-use Rattle.tree_layout.specs.declared.TreeBook.TheVariants.{Refused}
+use Rattle.tree_layout.specs.Reading.{header_of}
 use Rattle.tree_layout.proofs.Sizes.{list-next}
 use Rattle.tree_layout.proofs.Formed.{marks-lists}
 
@@ -90,10 +89,6 @@ module _ (b : List ℕ) (m at : ℕ) where
   region_lists h = marks-lists b m (u8_at b (at + 4)) (u16_at b (at + 5)) (at + fields_size (version b)) h
 
 -- ---- the reader's answer
-
-pub refused-answer : (why : ℕ) → layout_number (Refused why) ≡ why
-unfolding layout_case layout_number
-refused-answer why = refl
 
 pub header-junctions : (b : List ℕ) → (header_of b).junctions ≡ junction_count b
 unfolding header_of

@@ -11,9 +11,8 @@ use Rattle.book.specs.Open.{open_refusal}
 use Rattle.book.proofs.Choosing.{passes, fails, true_T, false_T, first-earlier, first-later}
 use Rattle.tree_layout.specs.Decode.{read_regions, decode, junction_count, region_count, tree_yard_count, landmark_count}
 use Rattle.tree_layout.specs.Refusal.{between, all, records_ok, region_ok, values_ok, tree_layout_refusal}
-use Rattle.tree_layout.specs.Reading.{header_of, header_values, tree_book, layout_case}
+use Rattle.tree_layout.specs.Reading.{header_of, header_values, Laid, Refused, tree_book, layout_case}
 use Rattle.tree_layout.specs.declared.Header.{Header}
-use Rattle.tree_layout.specs.declared.TreeBook.TheVariants.{Laid, Refused}
 
 -- a book that does not open
 pub unopened : (b : List ℕ) (why : ℕ) → open_refusal b 2 7 ≡ why → 1 ≤ why → tree_layout_refusal b ≡ why
@@ -150,8 +149,8 @@ case_is zero h = refl
 case_is (suc n) h = refl
 
 -- what a reader answers for the number that it found
-pub answers-refused : (b : List ℕ) (why : ℕ) → why ≡ tree_layout_refusal b → (why ≡ 0 → ⊥) → Refused why ≡ tree_book (tree_layout_refusal b) (header_of b)
-answers-refused b why e h = rw (← e) (sym (answer-refused why (header_of b) (omega arith)))
+pub answers-refused : (b : List ℕ) (why : ℕ) → why ≡ tree_layout_refusal b → 1 ≤ why → Refused why ≡ tree_book (tree_layout_refusal b) (header_of b)
+answers-refused b why e h = rw (← e) (sym (answer-refused why (header_of b) h))
 
 pub answers-laid : (b : List ℕ) (h : Header) → tree_layout_refusal b ≡ 0 → h ≡ header_of b → Laid h ≡ tree_book (tree_layout_refusal b) (header_of b)
 answers-laid b h e f = rw f (sym (answer-laid (tree_layout_refusal b) (header_of b) e))

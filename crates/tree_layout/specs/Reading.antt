@@ -1,12 +1,12 @@
 -- Values of the numbers that the reader's functions are handed. Assumes nothing: these are definitions.
-use Rattle.std.specs.Prelude.{List, [], ◌∷◌, ℕ, zero, suc}
+use Rattle.std.specs.Prelude.{List, [], ◌∷◌, ℕ, zero, suc, Result, Ok, Err}
 use Rattle.book.specs.Open.{version}
 use Rattle.book.specs.Cases.{Case, accepted, refused}
+use Rattle.book.specs.Refusals.{refusal_number}
+use Rattle.book.specs.declared.refusal.Refusal.{Refusal}
 use Rattle.tree_layout.specs.Values.{Element, Region}
 use Rattle.tree_layout.specs.Decode.{junction_count, region_count, tree_yard_count, landmark_count}
 use Rattle.tree_layout.specs.declared.Header.{Header}
-use Rattle.tree_layout.specs.declared.TreeBook.{TreeBook}
-use Rattle.tree_layout.specs.declared.TreeBook.TheVariants.{Laid, Refused}
 
 -- the element of a distance, a yard and its kinds
 abbrev pub element : (distance yard kinds : ℕ) → Element
@@ -27,6 +27,11 @@ header_of b = record {
   landmarks = landmark_count b;
 }
 
+-- what reading a tree book's layout finds: its header, or the number of the test that turns it back
+pub data TreeBook : Type 0 where
+  Laid : Header → TreeBook
+  Refused : ℕ → TreeBook
+
 -- the answer for a refusal's number and a header: 0 gives the header
 unfoldable pub tree_book : ℕ → Header → TreeBook
 tree_book zero h = Laid h
@@ -42,6 +47,7 @@ unfoldable pub layout_case : TreeBook → Case
 layout_case (Laid h) = accepted (header_values h)
 layout_case (Refused why) = refused why 5
 
--- the number of an answer: "The number of an accepted call is 0."
-unfoldable pub layout_number : TreeBook → ℕ
-layout_number o = (layout_case o).number
+-- what the code answers, in the paper's numbers
+abbrev pub layout_answer : Result Header Refusal → TreeBook
+layout_answer (Ok h) = Laid h
+layout_answer (Err why) = Refused (refusal_number why)

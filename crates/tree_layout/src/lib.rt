@@ -7,15 +7,17 @@ pub mod records; // records.rt: where a tree book's fields stand
 ghost use Rattle.std.specs.Prelude.{◌≡◌, true, ℕ, ◌+◌, ◌*◌, ◌≤◌, length};
 ghost use Rattle.book.specs.Bytes.{u16_at, u32_at};
 ghost use Rattle.book.specs.Open.{version};
+ghost use Rattle.book.specs.Refusals.{answer_number};
 ghost use Rattle.tree_layout.specs.Sizes.{header_size, fields_size, list_size};
 ghost use Rattle.tree_layout.specs.Decode.{read_list, mark_size, read_region, read_regions, size_at};
 ghost use Rattle.tree_layout.specs.code.Accessors.{fields_ok};
 ghost use Rattle.tree_layout.specs.code.Marks.{mark_at};
 ghost use Rattle.tree_layout.specs.Refusal.{between, all, records_ok, element_ok, comes, list_ok};
 ghost use Rattle.tree_layout.specs.Refusal.{mark_ok, children_ok, region_ok, tree_layout_refusal};
-ghost use Rattle.tree_layout.specs.Reading.{element, bounded, header_of, tree_book, layout_number};
+ghost use Rattle.tree_layout.specs.Reading.{element, bounded, header_of, tree_book, layout_answer};
 
-use book::{Junction, Opened};
+use book::Junction;
+use book::refusal::Refusal;
 
 // The latest version of a tree book.
 pub const LATEST: u8 = 2;
@@ -69,23 +71,6 @@ pub struct Landmark {
     pub place: Junction,
     pub least: u32,
     pub greatest: u32,
-}
-
-// What reading a tree book's layout finds: its header, or the number of the test that turns it back.
-#[derive(Clone, Copy)]
-pub enum TreeBook {
-    Laid(Header),
-    Refused(u8),
-}
-
-// The number of an answer, 0 for a book that is laid out.
-pub fn number(o: TreeBook) -> u8
-    ensures { result ≡ layout_number o }
-{
-    match o {
-        TreeBook::Laid(_) => 0,
-        TreeBook::Refused(why) => why,
-    }
 }
 
 // Whether low ≤ x ≤ high.
@@ -215,47 +200,41 @@ fn values_ok(b: &[u8], m: usize, n: usize, junctions: u16) -> bool
     every::every_record(b, m, n, |at| region_ok(b, m, at, junctions))
 }
 
-// The number of the first of tests 1 to 5 that turns the book back, or 0; test 4 goes over all the book before test 5.
-pub fn layout(b: &[u8]) -> u8
-    ensures { result ≡ tree_layout_refusal b.now }
+// The first of tests 1 to 5 that turns the book back, if one does; test 4 goes over all the book before test 5.
+pub fn layout(b: &[u8]) -> Result<(), Refusal>
+    ensures { answer_number result ≡ tree_layout_refusal b.now }
 {
-    let o = book::open(b, LATEST, 7);
-    let Opened::Body = o else {
-        return book::number(o);
-    };
+    book::open(b, LATEST, 7)?;
     let junctions = book::u16_at(b, 5);
     let regions = book::u16_at(b, 7);
     let landmarks = book::u8_at(b, 11) as u16;
     if !within(1, 1024, junctions) {
-        return 3;
+        return Err(Refusal::Header);
     }
     if !within(1, 511, regions) {
-        return 3;
+        return Err(Refusal::Header);
     }
     if !within(1, 256, book::u16_at(b, 9)) {
-        return 3;
+        return Err(Refusal::Header);
     }
     if !within(1, 4, landmarks) {
-        return 3;
+        return Err(Refusal::Header);
     }
     let m = landmarks as usize;
     let n = regions as usize;
     if !records_ok(b, m, n) {
-        return 4;
+        return Err(Refusal::Records);
     }
     if !values_ok(b, m, n, junctions) {
-        return 5;
+        return Err(Refusal::Value);
     }
-    0
+    Ok(())
 }
 
 // Reads a tree book's layout: its header, if none of tests 1 to 5 turns it back.
-pub fn read(b: &[u8]) -> TreeBook
-    ensures { result ≡ tree_book (tree_layout_refusal b.now) (header_of b.now) }
+pub fn read(b: &[u8]) -> Result<Header, Refusal>
+    ensures { layout_answer result ≡ tree_book (tree_layout_refusal b.now) (header_of b.now) }
 {
-    let why = layout(b);
-    if why != 0 {
-        return TreeBook::Refused(why);
-    }
-    TreeBook::Laid(records::header(b))
+    layout(b)?;
+    Ok(records::header(b))
 }

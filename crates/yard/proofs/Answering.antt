@@ -5,9 +5,7 @@ use Prim.Native.Nat.{ℕ, zero, suc, ◌-◌, ◌≤◌, ◌<◌}
 use native.Mathlib.Omega.{arith}
 use lib.ListN.{get_or}
 use Rattle.book.specs.Cases.{case_of}
-use Rattle.yard.specs.Yards.{yard_count, yards_of, yard_refusal, yard_refusal_in, yard_book, yard_case, yard_number}
-use Rattle.yard.specs.declared.YardBook.{YardBook}
-use Rattle.yard.specs.declared.YardBook.TheVariants.{Yards, Refused}
+use Rattle.yard.specs.Yards.{yard_count, yards_of, yard_refusal, yard_refusal_in, Yards, Refused, yard_book, yard_case}
 use Rattle.yard.proofs.YardLayout.{last_inside, last_outside, own_tests, outside, within}
 
 -- the answer's cases
@@ -34,12 +32,6 @@ refused-number (suc n) count why e =
     let q : suc n ≡ why = cc in
     (q, omega arith)
 
--- the number that an answer has
-pub number_is : (n count : ℕ) → yard_number (yard_book n count) ≡ n
-unfolding yard_case yard_number yard_book
-number_is zero count = refl
-number_is (suc n) count = refl
-
 -- an answer in the paper's numbers
 pub case_is : (n count : ℕ) → yard_case (yard_book n count) ≡ case_of n (count ∷ [])
 unfolding yard_case yard_book
@@ -47,22 +39,23 @@ case_is zero count = refl
 case_is (suc n) count = refl
 
 -- what a reader answers for the number that it found
-pub answers-refused : (b : List ℕ) (why : ℕ) → why ≡ yard_refusal b → (why ≡ 0 → ⊥) → Refused why ≡ yard_book (yard_refusal b) (yard_count b)
-answers-refused b why e h = rw (← e) (sym (answer-refused why (yard_count b) (omega arith)))
+pub answers-refused : (b : List ℕ) (why : ℕ) → why ≡ yard_refusal b → 1 ≤ why → Refused why ≡ yard_book (yard_refusal b) (yard_count b)
+answers-refused b why e h = rw (← e) (sym (answer-refused why (yard_count b) h))
 
 pub answers-yards : (b : List ℕ) (count : ℕ) → yard_refusal b ≡ 0 → count ≡ yard_count b → Yards count ≡ yard_book (yard_refusal b) (yard_count b)
 answers-yards b count e h = rw h (sym (answer-yards (yard_refusal b) (yard_count b) e))
 
 -- the answer beside a road book with n junctions, from that of the book alone
-module _ (b : List ℕ) (n : ℕ) (o : YardBook) (e : o ≡ yard_book (yard_refusal b) (yard_count b)) where
-  pub beside-refused : (why : ℕ) → o ≡ Refused why → o ≡ yard_book (yard_refusal_in b n) (yard_count b)
-  beside-refused why f =
-      let q = refused-number _ _ why (sym e ∙ f) in
+module _ (b : List ℕ) (n : ℕ) where
+  pub beside-refused : (why : ℕ) → Refused why ≡ yard_book (yard_refusal b) (yard_count b)
+      → Refused why ≡ yard_book (yard_refusal_in b n) (yard_count b)
+  beside-refused why e =
+      let q = refused-number _ _ why (sym e) in
       e ∙ ap (λ (r : ℕ). yard_book r (yard_count b)) (sym (own_tests b n (omega arith)))
 
-  module _ (count : ℕ) (f : o ≡ Yards count) where
+  module _ (count : ℕ) (e : Yards count ≡ yard_book (yard_refusal b) (yard_count b)) where
     pub beside-found : (yard_refusal b ≡ 0) × (yard_count b ≡ count)
-    beside-found = yards-number _ _ count (sym e ∙ f)
+    beside-found = yards-number _ _ count (sym e)
 
     module _ (last : ℕ) (l : last ≡ get_or (yards_of b) (count - 1) 0) where
       pub beside-outside : n ≤ last → Refused 8 ≡ yard_book (yard_refusal_in b n) (yard_count b)

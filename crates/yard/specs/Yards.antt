@@ -1,13 +1,13 @@
 -- The yard book: "yards u16 (1 to 256), then junctions u16, below 1,024, rising strictly."; "Yard book version 2 gives
 -- each yard a kind byte after its junction, one bit per kind, not 0." Assumes nothing: these are definitions.
-use Rattle.std.specs.Prelude.{◌≡◌, Bool, true, ◌&&◌, List, [], ◌∷◌, ℕ, zero, suc, ◌+◌, ◌*◌, ◌≤◌, ◌<◌, length, get_or, set, replicate, leb, ltb, eqb}
+use Rattle.std.specs.Prelude.{◌≡◌, Bool, true, ◌&&◌, List, [], ◌∷◌, ℕ, zero, suc, ◌+◌, ◌*◌, ◌≤◌, ◌<◌, length, get_or, set, replicate, leb, ltb, eqb, Result, Ok, Err}
 use Rattle.book.specs.Choose.{refuse, first_of}
 use Rattle.book.specs.Bytes.{u16_at}
 use Rattle.book.specs.Open.{Opens, version, open_refusal}
 use Rattle.book.specs.Cases.{Case, accepted, refused}
+use Rattle.book.specs.Refusals.{refusal_number}
+use Rattle.book.specs.declared.refusal.Refusal.{Refusal}
 use Rattle.kinds.specs.Kinds.{kind_size, kind_at}
-use Rattle.yard.specs.declared.YardBook.{YardBook}
-use Rattle.yard.specs.declared.YardBook.TheVariants.{Yards, Refused}
 
 -- the latest version of a yard book
 abbrev pub latest_yards : ℕ
@@ -83,6 +83,11 @@ yard_refusal_in b junctions =
     -- 8: "a yard isn't a junction of the road book"
     (refuse (inside junctions (yards_of b)) 8 0)
 
+-- what reading a yard book finds: how many yards it has, or the number of the test that turns it back
+pub data YardBook : Type 0 where
+  Yards : ℕ → YardBook
+  Refused : ℕ → YardBook
+
 -- the answer for a refusal's number and a yard count: 0 gives the count
 unfoldable pub yard_book : ℕ → ℕ → YardBook
 yard_book zero count = Yards count
@@ -93,9 +98,10 @@ unfoldable pub yard_case : YardBook → Case
 yard_case (Yards count) = accepted (count ∷ [])
 yard_case (Refused why) = refused why 1
 
--- the number of an answer: "The number of an accepted call is 0."
-unfoldable pub yard_number : YardBook → ℕ
-yard_number o = (yard_case o).number
+-- what the code answers, in the paper's numbers
+abbrev pub yard_answer : Result ℕ Refusal → YardBook
+yard_answer (Ok count) = Yards count
+yard_answer (Err why) = Refused (refusal_number why)
 
 -- a yard book that no test turns back, sentence by sentence
 pub record YardLayout (b : List ℕ) : Type 0 where

@@ -1,31 +1,16 @@
 #![tactic(auto)]
 // The yard book: its reader and its yards.
 ghost use Rattle.std.specs.Prelude.{◌≡◌, ◌≤◌, ◌<◌, length, get_or, replicate};
+ghost use Rattle.book.specs.Refusals.{answer_number};
 ghost use Rattle.yard.specs.Yards.{yard_count, yard_place, yards_from, yards_of, yard_kind, yards_rise};
 ghost use Rattle.yard.specs.Yards.{kinds_set, kind_table};
-ghost use Rattle.yard.specs.Yards.{yard_refusal, yard_refusal_in, yard_book, yard_number};
+ghost use Rattle.yard.specs.Yards.{yard_refusal, yard_refusal_in, yard_book, yard_answer};
 
-use book::{Junction, Opened};
+use book::Junction;
+use book::refusal::Refusal;
 
 // The latest version of a yard book.
 pub const LATEST: u8 = 2;
-
-// What reading a yard book finds: how many yards it has, or the number of the test that turns it back.
-#[derive(Clone, Copy)]
-pub enum YardBook {
-    Yards(u16),
-    Refused(u8),
-}
-
-// The number of an answer, 0 for a book that is read.
-pub fn number(o: YardBook) -> u8
-    ensures { result ≡ yard_number o }
-{
-    match o {
-        YardBook::Yards(_) => 0,
-        YardBook::Refused(why) => why,
-    }
-}
 
 // Where yard number i stands.
 fn place(b: &[u8], i: usize) -> usize
@@ -71,31 +56,28 @@ fn kinds_set(b: &[u8], count: usize) -> bool
     true
 }
 
-// The number of the first test that turns the book back, or 0.
-fn refusal(b: &[u8]) -> u8
-    ensures { result ≡ yard_refusal b.now }
+// The first test that turns the book back, if one does.
+fn refusal(b: &[u8]) -> Result<(), Refusal>
+    ensures { answer_number result ≡ yard_refusal b.now }
 {
-    let o = book::open(b, LATEST, 2);
-    let Opened::Body = o else {
-        return book::number(o);
-    };
+    book::open(b, LATEST, 2)?;
     let count = book::u16_at(b, 5) as usize;
     if count < 1 {
-        return 3;
+        return Err(Refusal::Header);
     }
     if 256 < count {
-        return 3;
+        return Err(Refusal::Header);
     }
     if b.len() != place(b, count) {
-        return 4;
+        return Err(Refusal::Records);
     }
     if !yards_rise(b, count) {
-        return 5;
+        return Err(Refusal::Value);
     }
     if !kinds_set(b, count) {
-        return 5;
+        return Err(Refusal::Value);
     }
-    0
+    Ok(())
 }
 
 // How many yards a book has that is read.
@@ -106,15 +88,12 @@ pub fn count(b: &[u8]) -> u16
     book::u16_at(b, 5)
 }
 
-// Reads a yard book: tests 1 to 5, each over the whole book before the next.
-pub fn read(b: &[u8]) -> YardBook
-    ensures { result ≡ yard_book (yard_refusal b.now) (yard_count b.now) }
+// Reads a yard book: tests 1 to 5, each over the whole book before the next. It answers how many yards the book has.
+pub fn read(b: &[u8]) -> Result<u16, Refusal>
+    ensures { yard_answer result ≡ yard_book (yard_refusal b.now) (yard_count b.now) }
 {
-    let why = refusal(b);
-    if why != 0 {
-        return YardBook::Refused(why);
-    }
-    YardBook::Yards(count(b))
+    refusal(b)?;
+    Ok(count(b))
 }
 
 // Yard number i of a book that is read.
@@ -150,16 +129,13 @@ pub fn kind_table(b: &[u8], table: &mut [u8])
 }
 
 // Reads a yard book beside a road book with so many junctions: tests 1 to 5, then 8.
-pub fn read_in(b: &[u8], junctions: u16) -> YardBook
-    ensures { result ≡ yard_book (yard_refusal_in b.now junctions) (yard_count b.now) }
+pub fn read_in(b: &[u8], junctions: u16) -> Result<u16, Refusal>
+    ensures { yard_answer result ≡ yard_book (yard_refusal_in b.now junctions) (yard_count b.now) }
 {
-    let o = read(b);
-    let YardBook::Yards(count) = o else {
-        return o;
-    };
+    let count = read(b)?;
     let last = yard_at(b, count as usize - 1);
     if junctions <= last.number {
-        return YardBook::Refused(8);
+        return Err(Refusal::Disagree);
     }
-    YardBook::Yards(count)
+    Ok(count)
 }

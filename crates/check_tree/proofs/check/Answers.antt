@@ -1,22 +1,20 @@
-use Rattle.check_tree.proofs.Answering.{work-kept, work-enough_for, answer-none, work-zeroed}
+use Rattle.book.proofs.Refusals.{passed_on, refusal_some}
+use Rattle.check_tree.proofs.Answering.{work-kept, work-enough_for, work-zeroed}
 use Rattle.check_tree.proofs.check.Goals as goal
 
-pub returns-then-why-ne0 : goal.returns-then-why-ne0
-returns-then-why-ne0 c =
-    let w = c.args.work.now in record {
-      answer = c.refusal-why.ensures;
-      work = work-kept _ _ _ w _ c.refusal-why.ensures c.if-why-ne0.true;
+pub returns-in_err-refusal : goal.returns-in_err-refusal
+returns-in_err-refusal c =
+    let e = c.in_err-refusal.ensures in record {
+      answer = rw (passed_on _ _ c.from_residual.ensures.1) e;
+      work = work-kept _ _ _ c.args.work.now _ e (refusal_some _);
     }
 
 pub zero_words-requires : goal.zero_words-requires
-zero_words-requires c =
-    let w = c.args.work.now in
-    work-enough_for _ _ _ w _ c.refusal-why.ensures c.if-why-ne0.false
+zero_words-requires c = work-enough_for _ _ _ c.args.work.now c.in_ok-refusal.ensures
 
 pub returns : goal.returns
 returns c =
-    let w = c.args.work.now in
-    let z = c.if-why-ne0.false in record {
-      answer = answer-none _ _ _ w _ c.refusal-why.ensures z;
-      work = work-zeroed _ _ _ w _ c.refusal-why.ensures z _ c.zero_words.ensures;
+    let e = c.in_ok-refusal.ensures in record {
+      answer = e;
+      work = work-zeroed _ _ _ c.args.work.now e _ c.zero_words.ensures;
     }

@@ -1,33 +1,37 @@
+use Rattle.book.proofs.Refusals.{passed_on, refusal_some}
 use Rattle.check_tree.proofs.Answering.{check_road, check_yard, road-kept, road-adjacent, yard_sound, check_tree_lem, check_short, check_passes}
+use Rattle.adjacency.specs.Adjacency.{Adjacency}
+use Rattle.check_tree.proofs.refusal.Goals.{In_ok-counts}
 use Rattle.check_tree.proofs.refusal.Goals as goal
 
-pub returns-in_default : goal.returns-in_default
-returns-in_default c = check_road _ _ _ _ _ c.read-r.ensures.answer _ _ c.in_default.is c.number.ensures
+-- the adjacency that the road book's reader keeps
+kept : (c : In_ok-counts) → Adjacency c.args.road.now c.read.new.adj
+kept c = road-kept _ _ _ c.in_ok-counts.ensures.answer _ c.in_ok-counts.ensures.adjacency
 
-pub returns-in_default-y : goal.returns-in_default-y
-returns-in_default-y c =
-    check_yard _ _ _ _ _ c.read-r.ensures.answer _ _ c.in-Sound.is _ c.read_in-y.ensures _ _ c.in_default-y.is c.number-in_default-y.ensures
+pub returns-in_err-counts : goal.returns-in_err-counts
+returns-in_err-counts c = rw (passed_on _ _ c.from_residual.ensures.1) (check_road _ _ _ _ _ c.in_err-counts.ensures.answer)
 
-pub tree_refusal-why-requires : goal.tree_refusal-why-requires
-tree_refusal-why-requires c = (
-  road-adjacent _ _ c.read-r.ensures.answer _ _ c.in-Sound.is _ c.read-r.ensures.adjacency,
-  yard_sound _ _ c.read-r.ensures.answer _ _ c.in-Sound.is _ _ c.read_in-y.ensures _ c.in-Yards.is,
+pub returns-in_err-read_in : goal.returns-in_err-read_in
+returns-in_err-read_in c =
+    rw (passed_on _ _ c.from_residual-in_err-read_in.ensures.1) (check_yard _ _ _ _ _ _ c.in_ok-counts.ensures.answer _ c.in_err-read_in.ensures)
+
+pub tree_refusal-requires : goal.tree_refusal-requires
+tree_refusal-requires c = (
+  road-adjacent _ _ _ c.in_ok-counts.ensures.answer _ c.in_ok-counts.ensures.adjacency,
+  yard_sound _ _ _ c.in_ok-counts.ensures.answer _ _ c.in_ok-read_in.ensures,
 )
 
-pub returns-then-why-ne0 : goal.returns-then-why-ne0
-returns-then-why-ne0 c =
-    let a = road-kept _ _ c.read-r.ensures.answer _ _ c.in-Sound.is _ c.read-r.ensures.adjacency in
-    check_tree_lem _ _ _ _ _ c.read-r.ensures.answer _ _ c.in-Sound.is _ c.read_in-y.ensures _ c.in-Yards.is _
-    (c.tree_refusal-why.ensures _ a) c.if-why-ne0.true
+pub returns-in_err-tree_refusal : goal.returns-in_err-tree_refusal
+returns-in_err-tree_refusal c =
+    rw (passed_on _ _ c.from_residual-in_err-tree_refusal.ensures.1) (check_tree_lem _ _ _ _ _ _ c.in_ok-counts.ensures.answer _ c.in_ok-read_in.ensures _
+    (c.in_err-tree_refusal.ensures _ (kept (goal.at.returns-in_err-tree_refusal c).In_ok-counts)) (refusal_some _))
 
 pub returns-then-words-lt-WORDS : goal.returns-then-words-lt-WORDS
 returns-then-words-lt-WORDS c =
-    let a = road-kept _ _ c.read-r.ensures.answer _ _ c.in-Sound.is _ c.read-r.ensures.adjacency in
-    check_short _ _ _ _ _ c.read-r.ensures.answer _ _ c.in-Sound.is _ c.read_in-y.ensures _ c.in-Yards.is _
-    (c.tree_refusal-why.ensures _ a) c.if-why-ne0.false c.if-words-lt-WORDS.true
+    check_short _ _ _ _ _ _ c.in_ok-counts.ensures.answer _ c.in_ok-read_in.ensures
+    (c.in_ok-tree_refusal.ensures _ (kept (goal.at.returns-then-words-lt-WORDS c).In_ok-counts)) c.if-words-lt-WORDS.true
 
 pub returns : goal.returns
 returns c =
-    let a = road-kept _ _ c.read-r.ensures.answer _ _ c.in-Sound.is _ c.read-r.ensures.adjacency in
-    check_passes _ _ _ _ _ c.read-r.ensures.answer _ _ c.in-Sound.is _ c.read_in-y.ensures _ c.in-Yards.is _
-    (c.tree_refusal-why.ensures _ a) c.if-why-ne0.false c.if-words-lt-WORDS.false
+    check_passes _ _ _ _ _ _ c.in_ok-counts.ensures.answer _ c.in_ok-read_in.ensures
+    (c.in_ok-tree_refusal.ensures _ (kept (goal.at.returns c).In_ok-counts)) c.if-words-lt-WORDS.false

@@ -1,15 +1,15 @@
-use Rattle.search_tree.proofs.Reading.{road-back, tree_last, is-district}
+use Rattle.book.proofs.Refusals.{passed_on}
+use Rattle.search_tree.proofs.Reading.{on_accepted, road-back, tree_last, is-district}
 use Rattle.search_tree.proofs.district.read.Goals as goal
 
-pub read-o-requires : goal.read-o-requires
-read-o-requires c = c.requires.0
+pub read-requires : goal.read-requires
+read-requires c = c.requires.0
 
-pub returns-in_default : goal.returns-in_default
-returns-in_default c =
-    let b = road-back _ _ _ c.read-o.ensures.answer _ _ c.in_default.is
-    c.number.ensures in record {
-      answer = b.0;
-      district = λ z. absurd (b.1 z);
+pub returns-in_err-counts : goal.returns-in_err-counts
+returns-in_err-counts c =
+    let p = passed_on _ _ c.from_residual.ensures.1 in record {
+      answer = rw p (road-back _ _ _ c.in_err-counts.ensures.answer);
+      district = rw p tt;
     }
 
 pub read_tree-requires : goal.read_tree-requires
@@ -20,9 +20,8 @@ read_tree-requires c =
 pub returns : goal.returns
 returns c =
     let s = c.requires in
-    let r = c.read-o.ensures in
-    let f = c.in-Sound.is in
+    let r = c.in_ok-counts.ensures in
     let t = c.read_tree.ensures in record {
-      answer = tree_last _ _ _ r.answer _ _ f _ t.answer;
-      district = is-district _ _ _ r.answer _ _ f _ t.answer _ r.adjacency _ _ s.1 t.places _ _ s.2 t.ends;
+      answer = tree_last _ _ _ _ r.answer _ t.answer;
+      district = on_accepted _ (is-district _ _ _ _ r.answer _ t.answer _ r.adjacency _ _ s.1 t.places _ _ s.2 t.ends);
     }

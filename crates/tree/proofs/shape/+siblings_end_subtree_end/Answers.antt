@@ -22,9 +22,9 @@ siblings_end-returns-then-not-child_fits t c =
     not_fitting _ _ c.requires _ _ _ _ _ _ c.if-n-eq0.false _ c.fields-f.ensures (sym c.child_fits.ensures
     ∙ not-true _ c.if-not-child_fits.true-raw)
 
-pub siblings_end-returns-in_default : goal.siblings_end-returns-in_default
-siblings_end-returns-in_default t c =
-    sub-none _ _ c.requires _ _ _ _ _ _ c.if-n-eq0.false _ c.subtree_end-end.ensures c.in_default.is
+pub siblings_end-returns-in_err-next : goal.siblings_end-returns-in_err-next
+siblings_end-returns-in_err-next t c = c.from_residual.ensures ∙
+    sub-none _ _ c.requires _ _ _ _ _ _ c.if-n-eq0.false c.in_err-next.ensures
 
 pub siblings_end-overflow_sub-left : goal.siblings_end-overflow_sub-left
 siblings_end-overflow_sub-left t c =
@@ -34,7 +34,7 @@ siblings_end-overflow_sub-left t c =
 pub siblings_end-returns : goal.siblings_end-returns
 siblings_end-returns t c =
     c.siblings_end.ensures ∙ goes_on _ _ c.requires _ _ _ _ _ _ c.if-n-eq0.false _ c.fields-f.ensures
-    (sym c.child_fits.ensures ∙ not-false _ c.if-not-child_fits.false-raw) _ _ c.subtree_end-end.ensures c.in-At.is
+    (sym c.child_fits.ensures ∙ not-false _ c.if-not-child_fits.false-raw) _ c.in_ok-next.ensures
 
 pub subtree_end-returns-then-levels-eq0 : goal.subtree_end-returns-then-levels-eq0
 subtree_end-returns-then-levels-eq0 t c =
