@@ -19,7 +19,6 @@ use Rattle.book.proofs.Opening.{number_why, opens, open_zero}
 use Rattle.query.specs.Query.{aggregate_of, k_of, limit_of, crew_count, crews_of, inside, value_refusal, query_body_refusal, query_refusal, query_of, query_book}
 use Rattle.query.specs.Query.{query_values, query_case, query_number, QueryLayout}
 use Rattle.query.specs.declared.Query.{Query}
-use Rattle.query.specs.declared.QueryBook.{QueryBook}
 use Rattle.query.specs.declared.QueryBook.TheVariants.{Asked, Refused}
 use Rattle.query.proofs.CrewList.{each-inside, inside-all}
 
