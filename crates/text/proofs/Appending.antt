@@ -1,31 +1,21 @@
--- Bytes appended in turn: one turn of the loop, and one text after another. Assumes nothing.
+-- Bytes appended, and one text after another. Assumes nothing.
 use mathlib.Core.Path.{◌≡◌, sym, ap, subst, ◌∙◌}
 use mathlib.Core.List.{List, [], ◌∷◌, ◌++◌, append_assoc, append-nil}
-use Prim.Native.Nat.{ℕ, suc, ◌+◌, ◌≤◌, ◌<◌}
+use Prim.Native.Nat.{ℕ, ◌+◌, ◌-◌, ◌≤◌}
 use native.Mathlib.Numerals.{add-one}
 use native.Mathlib.Omega.{arith}
-use lib.ListN.{length, take, get_or, set, length-append}
-use lib.Seq.{take-suc, take-suc-set, take_all}
+use lib.ListN.{length, take, drop, length-append, length-take}
+use lib.Seq.{take_at}
 use Rattle.text.specs.Text.{in_turn, Appended}
 
--- what a loop that copies bytes knows after i of them
-pub copied_none : (out bytes : List ℕ) (at : ℕ) → take (at + 0) out ≡ take at out ++ take 0 bytes
-copied_none out bytes at = let e : at + 0 ≡ at = omega arith in rw e (sym (append-nil _))
-
-pub copied_more : (old out bytes : List ℕ) (at i : ℕ) → at + i < length out → i < length bytes
-    → take (at + i) out ≡ take at old ++ take i bytes
-    → take (at + (i + 1)) (set out (at + i) (get_or bytes i 0)) ≡ take at old ++ take (i + 1) bytes
-copied_more old out bytes at i room more e =
-    let s : at + (i + 1) ≡ suc (at + i) = omega arith in
-    let last = get_or bytes i 0 ∷ [] in
-    let longer = append_assoc (take at old) (take i bytes) last ∙ ap (λ (l : List ℕ). take at old ++ l) (sym (take-suc bytes i 0 more)) in
-    rw (s, add-one) (take-suc-set out (at + i) (get_or bytes i 0) room ∙ (ap (λ (l : List ℕ). l ++ last) e ∙ longer))
-
-pub copied_all : (old out bytes : List ℕ) (at i : ℕ) → i ≡ length bytes → take (at + i) out ≡ take at old ++ take i bytes
-    → Appended old at bytes out (at + i)
-copied_all old out bytes at i all e = record {
-  after = omega arith;
-  held = e ∙ ap (λ (l : List ℕ). take at old ++ l) (take_all i bytes (omega arith));
+-- bytes copied over the part of an array that begins where its text ends
+pub appended : (out bytes new : List ℕ) (at end : ℕ) → end ≡ at + length bytes → end ≤ length out → new ≡ bytes
+    → Appended out at bytes (take at out ++ (new ++ drop (end - at) (drop at out))) end
+appended out bytes new at end after room same = record {
+  after = after;
+  held =
+      let long : length (take at out ++ bytes) ≡ end = omega (arith, length-append (take at out) bytes, length-take at out) in
+      rw (same, ← append_assoc) (take_at (take at out ++ bytes) (drop (end - at) (drop at out)) end long);
 }
 
 -- nothing is appended; one text after another
