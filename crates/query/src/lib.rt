@@ -47,13 +47,9 @@ pub fn crews(b: &[u8], out: &mut [u16]) -> usize
     ensures count { result ≡ crew_count b.now }
     ensures crews { take (crew_count b.now) out.new ≡ crews_of b.now }
 {
-    let q = header(b);
-    let n = q.crews as usize;
-    let mut i: usize = 0;
-    while i < n {
-        let c = crew_at(b, i);
-        out[i] = c.number;
-        i += 1;
+    let n = header(b).crews as usize;
+    for i in 0..n {
+        out[i] = crew_at(b, i).number;
     }
     n
 }
@@ -63,13 +59,10 @@ fn crews_inside(b: &[u8], count: usize, n: u16) -> bool
     requires { (count ≡ crew_count b.now) × (length b.now ≡ 12 + 2 * crew_count b.now) }
     ensures { result ≡ inside n (crews_of b.now) }
 {
-    let mut i: usize = 0;
-    while i < count {
-        let c = crew_at(b, i);
-        if n <= c.number {
+    for i in 0..count {
+        if n <= crew_at(b, i).number {
             return false;
         }
-        i += 1;
     }
     true
 }

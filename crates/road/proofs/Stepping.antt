@@ -10,7 +10,7 @@ use native.Mathlib.Omega.{arith}
 use lib.ListN.{length, set, replicate, length-replicate}
 use lib.Dec.{T, ltb, lt→ltb}
 use borrow.Author.Tests.{le-ltb}
-use Rattle.book.proofs.Choosing.{choose_case, choose_yes, choose_no, false_T}
+use Rattle.book.proofs.Choosing.{choose_yes, choose_no, false_T}
 use Rattle.tournament.specs.code.Tournament.{queue_words, put_leaf, leaf, top}
 use Rattle.tournament.proofs.Laws.{put_tournament, put_same, put_other, top_least, top-leaf, cleared, cleared_leaf}
 use Rattle.road_layout.specs.Road.{junctions}

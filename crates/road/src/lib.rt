@@ -20,14 +20,7 @@ fn all_reached(ds: &[u32], n: usize) -> bool
     requires { n ≤ length ds.now }
     ensures { result ≡ all_reached ds.now n }
 {
-    let mut i: usize = 0;
-    while i < n {
-        if walk::FAR <= ds[i] {
-            return false;
-        }
-        i += 1;
-    }
-    true
+    ds[..n].iter().all(|d| *d < walk::FAR)
 }
 
 // Whether every junction can be reached from junction 0.

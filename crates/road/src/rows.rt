@@ -21,11 +21,8 @@ pub fn fill(adj: &[u16], sources: &[u16], rows: &mut [u32])
     ensures { (road : List ℕ) → Adjacency road adj.now
         → Rowed road sources.now rows.new }
 {
-    let mut r: usize = 0;
-    while r < sources.len() {
+    for (r, source) in sources.iter().enumerate() {
         let at = r * 1024;
-        let source = Junction { number: sources[r] };
-        walk::distances(adj, &mut rows[at..at + 1024], source);
-        r += 1;
+        walk::distances(adj, &mut rows[at..at + 1024], Junction { number: *source });
     }
 }

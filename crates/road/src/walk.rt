@@ -89,12 +89,8 @@ fn reset(row: &mut [u32], done: &mut [bool])
     requires { (length row.old ≡ 1024) × (length done.old ≡ 1024) }
     ensures { (row.new ≡ replicate 1024 far) × (done.new ≡ replicate 1024 false) }
 {
-    let mut i: usize = 0;
-    while i < 1024 {
-        row[i] = FAR;
-        done[i] = false;
-        i += 1;
-    }
+    row.fill(FAR);
+    done.fill(false);
 }
 
 // Starts a walk from a source: only the source is reached, at 0.
@@ -121,11 +117,8 @@ pub fn distances(adj: &[u16], row: &mut [u32], source: Junction)
     let mut done = [false; 1024];
     let mut queue = [0u64; tournament::WORDS];
     start(row, &mut done, &mut queue, source);
-    let n = adjacency::junctions(adj) as usize;
-    let mut k: usize = 0;
-    while k < n {
+    for _ in 0..adjacency::junctions(adj) {
         round(adj, row, &mut done, &mut queue);
-        k += 1;
     }
 }
 

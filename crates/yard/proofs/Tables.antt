@@ -2,6 +2,7 @@
 use mathlib.Core.Path.{◌≡◌, refl, sym, ap, ◌∙◌}
 use mathlib.Core.List.{List, Memᴰ as Mem}
 use Prim.Native.Nat.{ℕ, zero, suc, ◌+◌, ◌-◌, ◌≤◌, ◌<◌}
+use native.Mathlib.Nat.{sub-zero}
 use native.Mathlib.Omega.{arith}
 use native.Mathlib.Numerals.{add-one}
 use lib.ListN.{length, get_or, set, replicate, length-set, length-replicate}
@@ -33,14 +34,12 @@ unfolding kind_table
 table_start b = refl
 
 -- before the first turn, and one turn on, by what the code has read
-pub begins : (b : List ℕ) (n : ℕ) (t : List ℕ) → n ≡ yard_count b → t ≡ replicate 1024 0 → kinds_from b (n - 0) 0 t ≡ kind_table b
-begins b n t e f =
-    let z : n - 0 ≡ yard_count b = omega (arith, e) in
-    rw (z, f) (table_start b)
+pub begins : (b t : List ℕ) → t ≡ replicate 1024 0 → kinds_from b (yard_count b - 0) 0 t ≡ kind_table b
+begins b t f = rw (sub-zero, f) (table_start b)
 
-pub one_more : (b : List ℕ) (n i : ℕ) (t : List ℕ) (y k : ℕ) → i < n → n ≡ yard_count b → y ≡ get_or (yards_of b) i 0 → k ≡ yard_kind b i
-    → kinds_from b (n - (i + 1)) (i + 1) (set t y k) ≡ kinds_from b (n - i) i t
-one_more b n i t y k h e f g = rw (f, yards-at b i (omega (arith, h, e)), g) (table_on b n i t h)
+pub one_more : (b : List ℕ) (i : ℕ) (t : List ℕ) (y k : ℕ) → i < yard_count b → y ≡ get_or (yards_of b) i 0 → k ≡ yard_kind b i
+    → kinds_from b (yard_count b - (i + 1)) (i + 1) (set t y k) ≡ kinds_from b (yard_count b - i) i t
+one_more b i t y k h f g = rw (f, yards-at b i h, g) (table_on b (yard_count b) i t h)
 
 -- ---- what stands there
 

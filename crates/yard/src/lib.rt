@@ -26,8 +26,7 @@ fn yards_rise(b: &[u8], count: usize) -> bool
     ensures { result ≡ yards_rise 0 (yards_from b.now count 0) }
 {
     let mut low: u16 = 0;
-    let mut i: usize = 0;
-    while i < count {
+    for i in 0..count {
         let y = book::u16_at(b, place(b, i));
         if y < low {
             return false;
@@ -36,7 +35,6 @@ fn yards_rise(b: &[u8], count: usize) -> bool
             return false;
         }
         low = y + 1;
-        i += 1;
     }
     true
 }
@@ -46,12 +44,10 @@ fn kinds_set(b: &[u8], count: usize) -> bool
     requires { (5 ≤ length b.now) × (count ≤ 65535) × (yard_place b.now count ≤ length b.now) }
     ensures { result ≡ kinds_set b.now count 0 }
 {
-    let mut i: usize = 0;
-    while i < count {
+    for i in 0..count {
         if kinds::at(book::version(b), b, place(b, i) + 2) == 0 {
             return false;
         }
-        i += 1;
     }
     true
 }
@@ -119,12 +115,9 @@ pub fn kind_table(b: &[u8], table: &mut [u8])
     requires { (yard_refusal b.now ≡ 0) × (table.old ≡ replicate 1024 0) }
     ensures { table.new ≡ kind_table b.now }
 {
-    let n = count(b) as usize;
-    let mut i: usize = 0;
-    while i < n {
+    for i in 0..count(b) as usize {
         let y = yard_at(b, i).number as usize;
         table[y] = kinds_at(b, i);
-        i += 1;
     }
 }
 

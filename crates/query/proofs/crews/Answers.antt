@@ -6,20 +6,17 @@ use Rattle.query.proofs.Reading.{its_crews}
 use Rattle.query.proofs.crews.Goals as goal
 
 pub loop-i-init : goal.loop-i-init
-loop-i-init c = (omega arith, its_crews _ _ c.header-q.ensures, refl, λ j h. absurd (omega arith))
+loop-i-init c = (its_crews _ _ c.header-n.ensures, refl, λ j h. absurd (omega arith))
 
 pub loop-i-preserved : goal.loop-i-preserved
 loop-i-preserved c =
     let l = c.loop-i in
-    (omega arith, l.invariant.1, simp length-set l.invariant.2, copied_next _ l.out l.i _ (omega arith) c.crew_at-c.ensures l.invariant.3)
+    (l.invariant.0, simp length-set l.invariant.1, copied_next _ l.out l.i _ (omega arith) c.crew_at.ensures l.invariant.2)
 
 pub shape_of-out : goal.shape_of-out
-shape_of-out c = c.loop-i.invariant.2
+shape_of-out c = c.loop-i.invariant.1
 
 pub returns : goal.returns
 returns c =
     let l = c.loop-i in
-    record {
-      count = l.invariant.1;
-      crews = copied_all _ _ _ _ l.invariant.1 (omega arith) l.invariant.3 (omega (arith, c.loop-i-test.false));
-    }
+    record { count = l.invariant.0; crews = copied_all _ _ _ _ l.invariant.0 (omega arith) l.invariant.2 (omega (arith, c.loop-i-test.false)) }

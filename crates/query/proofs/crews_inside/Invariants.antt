@@ -1,10 +1,7 @@
 use mathlib.Core.Path.{◌≡◌}
-use Prim.Native.Nat.{◌-◌, ◌≤◌}
+use Prim.Native.Nat.{◌-◌}
 use Rattle.query.specs.Query.{crews_from, crews_of, inside}
 use Rattle.query.proofs.crews_inside.Given as goal
 
 abbrev pub invariant-loop-i : goal.invariant-loop-i
-invariant-loop-i l = (l.i ≤ l.count) × (inside l.n (crews_from l.b (l.count - l.i) l.i) ≡ inside l.n (crews_of l.b))
-
-abbrev pub decreases-loop-i : goal.decreases-loop-i
-decreases-loop-i l = l.count - l.i
+invariant-loop-i l = inside l.n (crews_from l.b (l.count - l.i) l.i) ≡ inside l.n (crews_of l.b)

@@ -1,22 +1,13 @@
-use mathlib.Core.Path.{◌≡◌, sym, ap, ◌∙◌}
-use mathlib.Core.Bool.{true}
-use native.Mathlib.Omega.{arith}
-use Rattle.road.specs.Refusal.{all_reached}
-use Rattle.road.proofs.Reaching.{none_yet, one_more, stops}
+use Rattle.std.proofs.Common.{ltb, rules, tests, sym, ◌∙◌, take}
+use Rattle.std.proofs.lemmas.Iterator.{YieldsList-from_slice}
+use Rattle.std.proofs.lemmas.Iterator.Search.{all_from_yields_List}
+use Rattle.road.specs.Dijkstra.{far}
+use Rattle.road.proofs.Reaching.{reached-all}
 use Rattle.road.proofs.all_reached.Goals as goal
-
-pub loop-i-init : goal.loop-i-init
-loop-i-init c = (omega arith, none_yet _)
-
-pub returns-then-ds-i-ge-FAR : goal.returns-then-ds-i-ge-FAR
-returns-then-ds-i-ge-FAR c =
-    sym (stops c.args.ds.now c.loop-i.i (omega arith) (omega (arith, c.if-ds-i-ge-FAR.true)) _ c.loop-i-test.true)
-
-pub loop-i-preserved : goal.loop-i-preserved
-loop-i-preserved c =
-    (omega arith, one_more c.args.ds.now c.loop-i.i (omega arith) c.loop-i.invariant.1 (omega (arith, c.if-ds-i-ge-FAR.false)))
 
 pub returns : goal.returns
 returns c =
-    let e : c.loop-i.i ≡ c.args.n = omega arith in
-    sym (ap (all_reached _) (sym e) ∙ c.loop-i.invariant.1)
+    let ds = c.args.ds.now in
+    let n = c.args.n in
+    all_from_yields_List (λ d. ltb d far) _ _ _ c.all.ensures.ran (YieldsList-from_slice (take n ds) cc) (λ x b q k. search (rules, tests))
+    ∙ sym (reached-all ds n c.requires)

@@ -5,7 +5,6 @@ use native.Mathlib.Omega.{arith}
 use lib.ListN.{length}
 use Rattle.book.specs.Open.{version}
 use Rattle.kinds.specs.Kinds.{kind_size}
-use Rattle.yard.specs.Yards.{kinds_set}
 use Rattle.yard.proofs.Places.{place-room, place-most}
 use Rattle.yard.proofs.Rising.{kinds_on, unset, kinds-end}
 use Rattle.yard.proofs.YardLayout.{read_kind-at}
@@ -22,7 +21,7 @@ room c = omega (
 )
 
 pub loop-i-init : goal.loop-i-init
-loop-i-init c = (omega arith, simp sub-zero)
+loop-i-init c = simp sub-zero
 
 pub version-requires : goal.version-requires
 version-requires c = c.requires.0
@@ -46,14 +45,12 @@ at-requires c = omega (arith, room c, ap kind_size c.version.ensures)
 pub returns-then-at-eq0 : goal.returns-then-at-eq0
 returns-then-at-eq0 c =
     sym (unset _ _ _ _ c.loop-i-test.true (read_kind-at _ _ _ _ _ c.version.ensures c.place.ensures c.at.ensures) c.if-at-eq0.true)
-    ∙ c.loop-i.invariant.1
+    ∙ c.loop-i.invariant
 
 pub loop-i-preserved : goal.loop-i-preserved
-loop-i-preserved c = (
-  omega (arith, c.loop-i-test.true),
-  kinds_on _ _ _ _ c.loop-i-test.true (read_kind-at _ _ _ _ _ c.version.ensures c.place.ensures c.at.ensures) c.if-at-eq0.false
-      ∙ c.loop-i.invariant.1,
-)
+loop-i-preserved c =
+    kinds_on _ _ _ _ c.loop-i-test.true (read_kind-at _ _ _ _ _ c.version.ensures c.place.ensures c.at.ensures) c.if-at-eq0.false
+    ∙ c.loop-i.invariant
 
 pub returns : goal.returns
-returns c = sym (kinds-end _ _ _ c.loop-i-test.false) ∙ c.loop-i.invariant.1
+returns c = sym (kinds-end _ _ _ c.loop-i-test.false) ∙ c.loop-i.invariant

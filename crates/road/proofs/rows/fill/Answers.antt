@@ -7,14 +7,14 @@ use Rattle.road.proofs.Filling.{row_inside, part-size, put_size, rowed_none, row
 use Rattle.road.proofs.rows.fill.Goals as goal
 
 pub loop-r-init : goal.loop-r-init
-loop-r-init c = (omega arith, refl, λ road ad. rowed_none road _ _)
+loop-r-init c = (refl, λ road ad. rowed_none road _ _)
 
 pub distances-requires : goal.distances-requires
 distances-requires c =
     let p = c.requires in
     let i = c.loop-r.invariant in (
       p.0,
-      part-size _ _ (row_inside _ _ _ c.loop-r-test.true (omega (arith, i.1, p.2))),
+      part-size _ _ (row_inside _ _ _ c.loop-r-test.true (omega (arith, i.0, p.2))),
       p.1 _ (get_d_mem _ _ _ c.loop-r-test.true),
     )
 
@@ -23,17 +23,16 @@ loop-r-preserved c =
     let l = c.loop-r in
     let p = c.requires in
     let w = c.distances in
-    let h : l.r * 1024 + 1024 ≤ length l.rows = omega (arith, c.loop-r-test.true, l.invariant.1, p.2) in
+    let h : l.r * 1024 + 1024 ≤ length l.rows = omega (arith, c.loop-r-test.true, l.invariant.0, p.2) in
     let z = w.auto.row ∙ part-size _ _ h in (
-      omega arith,
-      put_size _ w.new.row _ h z ∙ l.invariant.1,
-      λ road ad. rowed_more road _ _ _ _ _ _ refl (omega arith) z (w.ensures.row road ad) (l.invariant.2 road ad),
+      put_size _ w.new.row _ h z ∙ l.invariant.0,
+      λ road ad. rowed_more road _ _ _ _ _ _ refl (omega arith) z (w.ensures.row road ad) (l.invariant.1 road ad),
     )
 
 pub shape_of-rows : goal.shape_of-rows
-shape_of-rows c = c.loop-r.invariant.1
+shape_of-rows c = c.loop-r.invariant.0
 
 pub returns : goal.returns
 returns c =
     let i = c.loop-r.invariant in
-    λ road ad. rowed_all road _ _ _ c.loop-r-test.false (omega (arith, i.1, c.requires.2)) (i.2 road ad)
+    λ road ad. rowed_all road _ _ _ c.loop-r-test.false (omega (arith, i.0, c.requires.2)) (i.1 road ad)
