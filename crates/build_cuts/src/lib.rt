@@ -31,10 +31,7 @@ pub struct Put {
 fn stays(levels: usize, count: usize, limit: usize) -> bool
     ensures { result ≡ (eqb levels 0 || leb count limit) }
 {
-    if levels == 0 {
-        return true;
-    }
-    count <= limit
+    levels == 0 || count <= limit
 }
 
 // Writes the record of a range itself, with so many children: with none it is a leaf; with one it has no record.
