@@ -5,12 +5,11 @@ use Prim.Native.Nat.{ℕ, suc, ◌+◌, ◌-◌, ◌≤◌, ◌<◌}
 use native.Mathlib.Numerals.{add-one}
 use native.Mathlib.Omega.{arith}
 use lib.ListN.{get_or}
-use Rattle.book.specs.Bytes.{Bytes}
 use Rattle.book.proofs.Lists.{mem_get_d}
 use Rattle.yard.specs.Yards.{yard_at, yard_kind, yards_from, yards_of, kind_of}
 use Rattle.yard.proofs.YardLayout.{layout, yards-at}
 use Rattle.yard.proofs.Listing.{from-length, from_at}
-use Rattle.yard.proofs.Tables.{kind_of_lem, kinds_had, had_small}
+use Rattle.yard.proofs.Tables.{kind_of_lem}
 use Rattle.yard.proofs.Turns.{yards-next}
 use Rattle.build_records.specs.code.Parts.{YardsUpTo}
 

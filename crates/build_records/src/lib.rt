@@ -43,9 +43,10 @@ fn mark_size(v: u8, children: u8, yards: usize) -> usize
     ensures { result ≡ mark_size v children yards }
 {
     if children == 0 {
-        return tree_layout::records::leaf_mark(v, yards);
+        tree_layout::records::leaf_mark(v, yards)
+    } else {
+        tree_layout::records::INNER_MARK
     }
-    tree_layout::records::INNER_MARK
 }
 
 // The kinds of the yards of number `from` up to `end` together.
