@@ -19,31 +19,28 @@ use Rattle.build_cuts.proofs.Slices.{part_length}
 -- ---- yards below a junction
 
 -- n yards are below x, and the others decide
-pub record Below (yb : List ℕ) (x count n : ℕ) : Type 0 where
-  pub some : n ≤ count
-  pub total : count ≡ yard_count yb
-  pub same : n + count_below x (yards_from yb (count - n) n) ≡ count_below x (yards_of yb)
+pub record Below (yb : List ℕ) (x n : ℕ) : Type 0 where
+  pub same : n + count_below x (yards_from yb (yard_count yb - n) n) ≡ count_below x (yards_of yb)
 
-pub below_start : (yb : List ℕ) (x count : ℕ) → count ≡ yard_count yb → Below yb x count 0
-below_start yb x count e =
-    let z : count - 0 ≡ count = omega arith in
-    record { some = omega arith; total = e; same = rw (yards-all yb, z, e) (omega arith) }
+pub below_start : (yb : List ℕ) (x : ℕ) → Below yb x 0
+below_start yb x =
+    let z : yard_count yb - 0 ≡ yard_count yb = omega arith in
+    record { same = rw (yards-all yb, z) (omega arith) }
 
-module _ (yb : List ℕ) (x count n y : ℕ) (b : Below yb x count n) (h : n < count) (e : y ≡ get_or (yards_of yb) n 0) where
-  next : yards_from yb (count - n) n ≡ y ∷ yards_from yb (count - (n + 1)) (n + 1)
-  next = yards-turn yb count n y h (e ∙ yards-at yb n (omega (arith, b.total)))
+module _ (yb : List ℕ) (x n y : ℕ) (b : Below yb x n) (h : n < yard_count yb) (e : y ≡ get_or (yards_of yb) n 0) where
+  next : yards_from yb (yard_count yb - n) n ≡ y ∷ yards_from yb (yard_count yb - (n + 1)) (n + 1)
+  next = yards-turn yb (yard_count yb) n y h (e ∙ yards-at yb n h)
 
-  pub below-turn : y < x → Below yb x count (n + 1)
+  pub below-turn : y < x → Below yb x (n + 1)
   below-turn k =
-      let r = yards_from yb (count - (n + 1)) (n + 1) in
-      record { some = omega arith; total = b.total; same = omega (arith, b.same, ap (count_below x) next, count_yes x y r k) }
+      record { same = omega (arith, b.same, ap (count_below x) next, count_yes x y (yards_from yb (yard_count yb - (n + 1)) (n + 1)) k) }
 
   pub below_stop : x ≤ y → n ≡ count_below x (yards_of yb)
-  below_stop k = omega (arith, b.same, ap (count_below x) next, count_no x y (yards_from yb (count - (n + 1)) (n + 1)) k)
+  below_stop k = omega (arith, b.same, ap (count_below x) next, count_no x y (yards_from yb (yard_count yb - (n + 1)) (n + 1)) k)
 
-pub below_end : (yb : List ℕ) (x count n : ℕ) → Below yb x count n → count ≤ n → n ≡ count_below x (yards_of yb)
-below_end yb x count n b h =
-    let z : count - n ≡ 0 = omega arith in
+pub below_end : (yb : List ℕ) (x n : ℕ) → Below yb x n → yard_count yb ≤ n → n ≡ count_below x (yards_of yb)
+below_end yb x n b h =
+    let z : yard_count yb - n ≡ 0 = omega arith in
     let s = rw (z, yards-none yb n) at b.same in
     omega (arith, s, count_empty x)
 
@@ -51,13 +48,12 @@ below_end yb x count n b h =
 
 -- of the first i parts `count` have yards, `low` yards are below part i, and the other parts decide
 pub record Parted (yb : List ℕ) (a s count low i : ℕ) : Type 0 where
-  pub most : i ≤ 4
   pub few : count ≤ i
   pub lower : low ≡ count_below (cut_at a s i) (yards_of yb)
   pub same : count + part_count a s (within a (a + s) (yards_of yb)) (4 - i) i ≡ part_count a s (within a (a + s) (yards_of yb)) 4 0
 
 pub parted_start : (yb : List ℕ) (a s low : ℕ) → low ≡ count_below a (yards_of yb) → Parted yb a s 0 low 0
-parted_start yb a s low e = record { most = omega arith; few = omega arith; lower = rw (cut-first a s) e; same = omega arith }
+parted_start yb a s low e = record { few = omega arith; lower = rw (cut-first a s) e; same = omega arith }
 
 module _ (a s : ℕ) (zs : List ℕ) (i : ℕ) (h : i < 4) where
   next-part : part_count a s zs (4 - (i + 1)) (i + 1) ≡ part_count a s zs (3 - i) (suc i)
@@ -86,7 +82,6 @@ module _ (yb : List ℕ) (ok : yard_refusal yb ≡ 0) (a s count low i high : �
   -- a part with yards is counted
   pub parted_with : low < high → Parted yb a s (count + 1) high (i + 1)
   parted_with k = record {
-    most = omega arith;
     few = omega (arith, p.few);
     lower = next-lower;
     same = omega (arith, p.same, with a s (within a (a + s) (yards_of yb)) i h (omega (arith, many)));
@@ -95,7 +90,6 @@ module _ (yb : List ℕ) (ok : yard_refusal yb ≡ 0) (a s count low i high : �
   -- and one without is not
   pub parted_without : high ≤ low → Parted yb a s count high (i + 1)
   parted_without k = record {
-    most = omega arith;
     few = omega (arith, p.few);
     lower = next-lower;
     same = omega (arith, p.same, without a s (within a (a + s) (yards_of yb)) i h (omega (arith, many)));

@@ -2,16 +2,14 @@
 // Cutting a range into regions, each record written where the one before it ends: the cuts that are left fall.
 pub mod ranges; // ranges.rt: a range's yards, and the parts that it is cut into
 
-ghost use Rattle.std.specs.Prelude.{◌≡◌, List, ◌||◌, ℕ, ◌+◌, ◌-◌, ◌≤◌, ◌<◌, length, eqb, leb};
+ghost use Rattle.std.specs.Prelude.{◌≡◌, List, ◌||◌, ℕ, ◌+◌, ◌≤◌, ◌<◌, length, eqb, leb};
 ghost use Rattle.book.specs.Open.{version};
 ghost use Rattle.adjacency.specs.Adjacency.{Adjacency};
-ghost use Rattle.yard.specs.Yards.{yards_from};
-ghost use Rattle.tree_layout.specs.Decode.{record_size};
-ghost use Rattle.build_records.specs.code.Parts.{PartReady};
-ghost use Rattle.build_cuts.specs.code.Writing.{own_regions, WrittenRegions};
+ghost use Rattle.build_records.specs.code.Parts.{RecordReady, size_in};
+ghost use Rattle.build_cuts.specs.code.Writing.{own_in, WrittenRegions};
 ghost use Rattle.build_cuts.specs.code.Cutting.{Range, Room, regions_of, parts_of};
 
-use build_records::Part;
+use build_records::{Part, Record};
 
 // What building is asked for: how many landmarks a region has, and how many yards a leaf has at most.
 #[derive(Clone, Copy)]
@@ -31,35 +29,21 @@ pub struct Put {
 fn stays(levels: usize, count: usize, limit: usize) -> bool
     ensures { result ≡ (eqb levels 0 || leb count limit) }
 {
-    if levels == 0 {
-        return true;
-    }
-    count <= limit
+    levels == 0 || count <= limit
 }
 
-// Writes the record of a range itself, with so many children: with none it is a leaf; with one it has no record.
-fn put_own(
-    adj: &[u16],
-    yb: &[u8],
-    p: Part,
-    m: usize,
-    children: u8,
-    tree: &mut [u8],
-    at: usize,
-) -> Put
-    requires { PartReady adj.now yb.now p × (m ≤ 4) × (0 < children → p.from < p.end)
-        × ((children ≡ 1 → ⊥) → at + record_size (version yb.now) m children (p.end - p.from)
-        ≤ length tree.old) }
+// Writes the record of a region itself: with one child it has none.
+fn put_own(adj: &[u16], yb: &[u8], r: Record, tree: &mut [u8], at: usize) -> Put
+    requires { RecordReady adj.now yb.now r
+        × ((r.children ≡ 1 → ⊥) → at + size_in yb.now r ≤ length tree.old) }
     ensures { (road : List ℕ) (limit : ℕ) → Adjacency road adj.now
-        → WrittenRegions (version yb.now) tree.old at
-        (own_regions road yb.now m limit p.start.number p.size children
-        (yards_from yb.now (p.end - p.from) p.from))
+        → WrittenRegions (version yb.now) tree.old at (own_in road yb.now limit r)
         tree.new result.at result.regions }
 {
-    if children == 1 {
+    if r.children == 1 {
         return Put { at: at, regions: 0 };
     }
-    let end = build_records::put_record(adj, yb, p, m, children, tree, at);
+    let end = build_records::put_record(adj, yb, r, tree, at);
     Put {
         at: end,
         regions: 1,
@@ -83,11 +67,16 @@ pub fn cut(
         → WrittenRegions (version yb.now) tree.old at
         (regions_of yb.now plan levels p road) tree.new result.at result.regions }
 {
+    let leaf = Record {
+        part: p,
+        landmarks: plan.landmarks,
+        children: 0,
+    };
     if stays(levels, p.end - p.from, plan.limit) {
-        return put_own(adj, yb, p, plan.landmarks, 0, tree, at);
+        return put_own(adj, yb, leaf, tree, at);
     }
     let children = ranges::part_count(yb, p.start, p.size);
-    let first = put_own(adj, yb, p, plan.landmarks, children, tree, at);
+    let first = put_own(adj, yb, Record { children, ..leaf }, tree, at);
     let rest = parts(levels - 1, 0, p, plan, adj, yb, tree, first.at);
     Put {
         at: rest.at,

@@ -18,15 +18,13 @@ fn below(yb: &[u8], x: usize) -> usize
     ensures { result ≡ count_below x (yards_of yb.now) }
 {
     let count = yard::count(yb) as usize;
-    let mut n: usize = 0;
-    while n < count {
+    for n in 0..count {
         let y = yard::yard_at(yb, n).number as usize;
         if x <= y {
             return n;
         }
-        n += 1;
     }
-    n
+    count
 }
 
 // The range from a with s junctions.
@@ -75,10 +73,8 @@ pub fn part_count(yb: &[u8], a: Junction, s: usize) -> u8
     let first = a.number as usize;
     let mut count: u8 = 0;
     let mut low = below(yb, first);
-    let mut i: usize = 0;
-    while i < PARTS {
-        i += 1;
-        let high = below(yb, cut_at(first, s, i));
+    for i in 0..PARTS {
+        let high = below(yb, cut_at(first, s, i + 1));
         if low < high {
             count += 1;
         }

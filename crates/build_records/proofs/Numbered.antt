@@ -5,12 +5,11 @@ use Prim.Native.Nat.{ℕ, suc, ◌+◌, ◌-◌, ◌≤◌, ◌<◌}
 use native.Mathlib.Numerals.{add-one}
 use native.Mathlib.Omega.{arith}
 use lib.ListN.{get_or}
-use Rattle.book.specs.Bytes.{Bytes}
 use Rattle.book.proofs.Lists.{mem_get_d}
 use Rattle.yard.specs.Yards.{yard_at, yard_kind, yards_from, yards_of, kind_of}
 use Rattle.yard.proofs.YardLayout.{layout, yards-at}
 use Rattle.yard.proofs.Listing.{from-length, from_at}
-use Rattle.yard.proofs.Tables.{kind_of_lem, kinds_had, had_small}
+use Rattle.yard.proofs.Tables.{kind_of_lem}
 use Rattle.yard.proofs.Turns.{yards-next}
 use Rattle.build_records.specs.code.Parts.{YardsUpTo}
 
@@ -35,18 +34,12 @@ module _ (yb : List ℕ) (from to : ℕ) (u : YardsUpTo yb from to) where
   pub kind_read : (k y x : ℕ) → k < to → y ≡ yard_at yb k → x ≡ yard_kind yb k → x ≡ kind_of yb y
   kind_read k y x h e f = f ∙ sym (kind_of_lem yb u.passes k (omega (arith, u.most))) ∙ ap (kind_of yb) (sym e)
 
-  -- each of the yards has a number, and its kinds are a byte, in a book of bytes
+  -- each of the yards has a number
   pub yard-number : (y : ℕ) → Mem y (yards_from yb (to - from) from) → (k : ℕ) × (k < to) × (y ≡ yard_at yb k)
   yard-number y m =
       let x = mem_get_d (yards_from yb (to - from) from) 0 y m in
       let i : x.0 < to - from = omega (arith, x.1, from-length yb (to - from) from) in
       (from + x.0, omega arith, x.2 ∙ from_at yb (to - from) from x.0 i)
-
-  pub kind_fits : (y : ℕ) → Mem y (yards_from yb (to - from) from) → Bytes yb → kind_of yb y < 256
-  kind_fits y m bs = go (yard-number y m)
-    where
-      go : (k : ℕ) × (k < to) × (y ≡ yard_at yb k) → kind_of yb y < 256
-      go (k, h, e) = rw e (had_small yb u.passes (yard_at yb k) (kind_of yb (yard_at yb k)) (kinds_had yb u.passes k (omega (arith, u.most))) bs)
 
   -- there are no more than 256
   pub yards-few : to ≤ 256

@@ -47,11 +47,10 @@ pub fn landmark_of(list: &[u16], m: usize, a: Junction, s: usize, j: usize) -> J
     ensures { result.number ≡ landmark m a.number s list.now j }
 {
     let c = list.len();
-    if c == 0 {
-        let number = (a.number as usize + j * s / m) as u16;
-        return Junction { number };
-    }
-    let k = j * c / m;
-    let number = list[k];
+    let number = if c == 0 {
+        (a.number as usize + j * s / m) as u16
+    } else {
+        list[j * c / m]
+    };
     Junction { number }
 }

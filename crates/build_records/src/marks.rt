@@ -64,7 +64,7 @@ pub fn put_mark(
 {
     if children == 0 {
         put_leaf_mark(row, yb, p, l, tree, at);
-        return;
+    } else {
+        put_inner_mark(row, yb, p, l, tree, at);
     }
-    put_inner_mark(row, yb, p, l, tree, at);
 }

@@ -16,9 +16,11 @@ cut-put_own-requires t c =
     let p = c.requires in
     let r = p.0 in
     let k = p.3 in (
-      range-ready _ _ _ r k.book k.adjacent p.1,
-      p.2,
-      λ z. absurd (omega (arith, z)),
+      record {
+        range = range-ready _ _ _ r k.book k.adjacent p.1;
+        few = p.2;
+        held = λ z. absurd (omega (arith, z));
+      },
       λ z. leaf-fits _ _ r.passes _ _ _ _ _ _ _ _
           r.numbers.first r.numbers.after _ c.stays.ensures c.if-stays.true _ k.fits,
     )
@@ -40,12 +42,14 @@ cut-put_own-first-requires t c =
     let p = c.requires in
     let r = p.0 in
     let k = p.3 in (
-      range-ready _ _ _ r k.book k.adjacent p.1,
-      p.2,
-      λ z. yards-there k.book _ r.passes c.args.levels _ _
-          c.args.plan.limit
-          c.args.plan.landmarks 0 _ _ r.numbers.first r.numbers.after _
-          c.stays.ensures c.if-stays.false,
+      record {
+        range = range-ready _ _ _ r k.book k.adjacent p.1;
+        few = p.2;
+        held = λ z. yards-there k.book _ r.passes c.args.levels _ _
+            c.args.plan.limit
+            c.args.plan.landmarks 0 _ _ r.numbers.first r.numbers.after _
+            c.stays.ensures c.if-stays.false;
+      },
       own_fits _ _ r.passes _ _ _ _ _ _ _ _ r.numbers.first r.numbers.after _ c.stays.ensures
           c.if-stays.false _ c.part_count-children.ensures _ k.fits,
     )

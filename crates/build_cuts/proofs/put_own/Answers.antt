@@ -3,13 +3,13 @@ use Rattle.yard.proofs.Listing.{from-length}
 use Rattle.build_cuts.proofs.Records.{own_kept, own_written}
 use Rattle.build_cuts.proofs.put_own.Goals as goal
 
-pub returns-then-children-eq1 : goal.returns-then-children-eq1
-returns-then-children-eq1 c = λ road limit a. own_kept _ _ _ _ _ _ _ _ _ _ (omega (arith, c.if-children-eq1.true))
+pub returns-then-r-eq1 : goal.returns-then-r-eq1
+returns-then-r-eq1 c = λ road limit a. own_kept _ _ _ _ _ _ _ _ _ _ (omega (arith, c.if-r-eq1.true))
 
 pub put_record-end-requires : goal.put_record-end-requires
-put_record-end-requires c = let p = c.requires in (p.0, p.1, p.2, p.3 c.if-children-eq1.false)
+put_record-end-requires c = let p = c.requires in (p.0, p.1 c.if-r-eq1.false)
 
 pub returns : goal.returns
 returns c =
     let w = c.put_record-end.ensures in
-    λ road limit a. own_written _ _ _ _ _ _ _ _ _ _ _ _ _ c.if-children-eq1.false (from-length _ _ _) w.place (w.tree road limit a)
+    λ road limit a. own_written _ _ _ _ _ _ _ _ _ _ _ _ _ c.if-r-eq1.false (from-length _ _ _) w.place (w.tree road limit a)

@@ -6,5 +6,5 @@ use Rattle.build_records.proofs.mark_size.Goals as goal
 pub returns-then-children-eq0 : goal.returns-then-children-eq0
 returns-then-children-eq0 c = c.leaf_mark.ensures ∙ sym (mark_size-leaf _ _ _ c.if-children-eq0.true)
 
-pub returns : goal.returns
-returns c = sym (mark_size-inner _ _ _ (omega (arith, c.if-children-eq0.false)))
+pub returns-else-children-eq0 : goal.returns-else-children-eq0
+returns-else-children-eq0 c = sym (mark_size-inner _ _ _ (omega (arith, c.if-children-eq0.false)))

@@ -14,50 +14,50 @@ use Rattle.build_records.proofs.put_marks.Goals as goal
 
 -- its size, by the yard book's version
 sized : (c : After-mark_size-size)
-    → c.mark_size-size.result ≡ mark_size (version c.args.yb.now) c.args.children (c.args.p.end - c.args.p.from)
+    → c.mark_size-size.result ≡ mark_size (version c.args.yb.now) c.args.r.children (c.args.r.part.end - c.args.r.part.from)
 sized c = mark_size_read _ _ _ _ _ c.version.ensures c.mark_size-size.ensures
 
 pub version-requires : goal.version-requires
-version-requires c = five _ c.requires.0.yards.passes
+version-requires c = five _ c.requires.0.range.yards.passes
 
 pub overflow_sub-p : goal.overflow_sub-p
-overflow_sub-p c = omega (arith, c.requires.0.yards.order)
+overflow_sub-p c = omega (arith, c.requires.0.range.yards.order)
 
 pub mark_size-size-requires : goal.mark_size-size-requires
-mark_size-size-requires c = omega (arith, yards-few _ _ _ c.requires.0.yards)
+mark_size-size-requires c = omega (arith, yards-few _ _ _ c.requires.0.range.yards)
 
 pub loop-j-init : goal.loop-j-init
 loop-j-init c =
     let p = c.requires in (
       refl,
-      λ h. absurd (omega (arith, h, few-junctions p.0.adjacency.adjacent)),
+      λ h. absurd (omega (arith, h, few-junctions p.0.range.adjacency.adjacent)),
       λ road limit b. marking_start _ _ _ _ _ _ _ _,
     )
 
 pub landmark_of-l-requires : goal.landmark_of-l-requires
 landmark_of-l-requires c =
     let p = c.requires in
-    let n = few-junctions p.0.adjacency.adjacent in
-    (p.2, c.loop-j-test.true, p.3, omega (arith, p.0.inside, n), p.0.some)
+    let n = few-junctions p.0.range.adjacency.adjacent in
+    (p.2, c.loop-j-test.true, p.0.few, omega (arith, p.0.range.inside, n), p.0.range.some)
 
 pub walk_from-requires : goal.walk_from-requires
 walk_from-requires c =
     let p = c.requires in
     let i = c.loop-j.invariant in
-    let h = landmark-low _ _ _ _ _ _ _ _ (p.1 p.0.adjacency.book p.0.adjacency.adjacent) p.0.some c.loop-j-test.true p.0.inside
+    let h = landmark-low _ _ _ _ _ _ _ _ (p.1 p.0.range.adjacency.book p.0.range.adjacency.adjacent) p.0.range.some c.loop-j-test.true p.0.range.inside
     c.landmark_of-l.ensures in
-    (p.0.adjacency, i.0, h, i.1)
+    (p.0.range.adjacency, i.0, h, i.1)
 
 pub put_mark-requires : goal.put_mark-requires
 put_mark-requires c =
     let p = c.requires in (
-      p.0.yards,
-      p.4,
+      p.0.range.yards,
+      p.0.held,
       c.walk_from.auto.row ∙ c.loop-j.invariant.0,
       omega (
         arith,
         sized (goal.at.put_mark-requires c).After-mark_size-size,
-        marking_room c.mark_size-size.result c.args.m c.args.start c.loop-j.j (length c.args.tree.now) (rw (sized (goal.at.put_mark-requires c).After-mark_size-size) p.5) c.loop-j-test.true,
+        marking_room c.mark_size-size.result c.args.r.landmarks c.args.start c.loop-j.j (length c.args.tree.now) (rw (sized (goal.at.put_mark-requires c).After-mark_size-size) p.3) c.loop-j-test.true,
         c.loop-j.auto.tree,
       ),
     )
@@ -77,6 +77,6 @@ loop-j-preserved c =
 pub returns : goal.returns
 returns c =
     let i = c.loop-j.invariant.2 in record {
-      place = ap (λ (w : ℕ). c.args.start + c.args.m * w) (sized (goal.at.returns c).After-mark_size-size);
+      place = ap (λ (w : ℕ). c.args.start + c.args.r.landmarks * w) (sized (goal.at.returns c).After-mark_size-size);
       tree = λ road limit b. marking_end _ _ _ _ _ _ _ _ _ _ (i road limit b) c.loop-j-test.false;
     }

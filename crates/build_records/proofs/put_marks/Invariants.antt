@@ -14,5 +14,5 @@ use Rattle.build_records.proofs.put_marks.Given as goal
 abbrev pub invariant-loop-j : goal.invariant-loop-j
 invariant-loop-j l = (length l.row ≡ 1024) × (l.last.number < count_in l.adj → RowFrom l.adj l.row l.last.number)
     × ((road : List ℕ) (limit : ℕ) → Adjacency road l.adj
-    → Marking (mark_bytes (given road l.yb l.m limit) l.yb l.p.from l.p.end l.children) l.size l.m l.p.start.number l.p.size
+    → Marking (mark_bytes (given road l.yb l.r.landmarks limit) l.yb l.p.from l.p.end l.r.children) l.size l.r.landmarks l.p.start.number l.p.size
     (borders (roads road) l.p.start.number l.p.size) l.initial.tree l.start l.tree l.j)

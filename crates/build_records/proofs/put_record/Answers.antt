@@ -8,29 +8,29 @@ use Rattle.build_records.proofs.put_record.Goals as goal
 pub border_list-list-requires : goal.border_list-list-requires
 border_list-list-requires c =
     let p = c.requires in
-    let n = few-junctions p.0.adjacency.adjacent in
-    (p.0.adjacency, omega (arith, p.0.inside, n), omega (arith, p.0.inside, n))
+    let n = few-junctions p.0.range.adjacency.adjacent in
+    (p.0.range.adjacency, omega (arith, p.0.range.inside, n), omega (arith, p.0.range.inside, n))
 
 pub version-v-requires : goal.version-v-requires
-version-v-requires c = five _ c.requires.0.yards.passes
+version-v-requires c = five _ c.requires.0.range.yards.passes
 
 pub overflow_add-p : goal.overflow_add-p
-overflow_add-p c = omega (arith, c.requires.0.inside, few-junctions c.requires.0.adjacency.adjacent)
+overflow_add-p c = omega (arith, c.requires.0.range.inside, few-junctions c.requires.0.range.adjacency.adjacent)
 
 pub overflow_cast-p-2 : goal.overflow_cast-p-2
-overflow_cast-p-2 c = omega (arith, c.requires.0.inside, few-junctions c.requires.0.adjacency.adjacent)
+overflow_cast-p-2 c = omega (arith, c.requires.0.range.inside, few-junctions c.requires.0.range.adjacency.adjacent)
 
 pub overflow_cast-p-3 : goal.overflow_cast-p-3
-overflow_cast-p-3 c = omega (arith, yards-few _ _ _ c.requires.0.yards)
+overflow_cast-p-3 c = omega (arith, yards-few _ _ _ c.requires.0.range.yards)
 
 pub kinds_of-requires : goal.kinds_of-requires
-kinds_of-requires c = c.requires.0.yards
+kinds_of-requires c = c.requires.0.range.yards
 
 pub put_fields-requires : goal.put_fields-requires
-put_fields-requires c = fields_room _ _ _ _ _ _ 0 c.version-v.ensures _ c.requires.3
+put_fields-requires c = fields_room _ _ _ _ _ _ 0 c.version-v.ensures _ c.requires.1
 
 pub marks_at-start-requires : goal.marks_at-start-requires
-marks_at-start-requires c = omega (arith, fields_room _ _ _ _ _ _ 0 c.version-v.ensures _ c.requires.3, c.well_formed, c.ranges)
+marks_at-start-requires c = omega (arith, fields_room _ _ _ _ _ _ 0 c.version-v.ensures _ c.requires.1, c.well_formed, c.ranges)
 
 pub put_marks-requires : goal.put_marks-requires
 put_marks-requires c =
@@ -38,10 +38,8 @@ put_marks-requires c =
     let l = c.border_list-list.ensures in (
       p.0,
       l.list,
-      omega (arith, l.count, p.0.inside, few-junctions p.0.adjacency.adjacent),
-      p.1,
-      p.2,
-      room _ _ _ _ _ _ _ c.version-v.ensures _ _ c.marks_at-start.ensures p.3 (omega (arith, c.put_fields.auto)),
+      omega (arith, l.count, p.0.range.inside, few-junctions p.0.range.adjacency.adjacent),
+      room _ _ _ _ _ _ _ c.version-v.ensures _ _ c.marks_at-start.ensures p.1 (omega (arith, c.put_fields.auto)),
     )
 
 pub returns : goal.returns

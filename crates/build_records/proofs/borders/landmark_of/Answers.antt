@@ -17,19 +17,19 @@ overflow_cast-number-then-c-eq0 c = let p = c.requires in let a = c.args in omeg
 pub returns-then-c-eq0 : goal.returns-then-c-eq0
 returns-then-c-eq0 c = landmark-from c.args.list.now _ _ _ _ _ (omega (arith, c.if-c-eq0.true)) refl
 
-pub overflow_mul-k : goal.overflow_mul-k
-overflow_mul-k c = let p = c.requires in let a = c.args in omega (arith, product_small a.j a.m (length a.list.now) p.1 p.2 p.0)
+pub overflow_mul-number-else-c-eq0 : goal.overflow_mul-number-else-c-eq0
+overflow_mul-number-else-c-eq0 c = let p = c.requires in let a = c.args in omega (arith, product_small a.j a.m (length a.list.now) p.1 p.2 p.0)
 
-pub offset_bounds-list-k : goal.offset_bounds-list-k
-offset_bounds-list-k c = let p = c.requires in let a = c.args in omega (arith, share a.j a.m (length a.list.now) p.1 (omega (arith, c.if-c-eq0.false)), p.0)
+pub offset_bounds-list-j : goal.offset_bounds-list-j
+offset_bounds-list-j c = let p = c.requires in let a = c.args in omega (arith, share a.j a.m (length a.list.now) p.1 (omega (arith, c.if-c-eq0.false)), p.0)
 
-pub bounds-list-k : goal.bounds-list-k
-bounds-list-k c =
+pub bounds-list-j : goal.bounds-list-j
+bounds-list-j c =
     let p = c.requires in let a = c.args in omega (
       arith,
       share a.j a.m (length a.list.now) p.1
           (omega (arith, c.if-c-eq0.false)),
     )
 
-pub returns : goal.returns
-returns c = landmark-at _ _ _ _ _ _ c.if-c-eq0.false refl
+pub returns-else-c-eq0 : goal.returns-else-c-eq0
+returns-else-c-eq0 c = landmark-at _ _ _ _ _ _ c.if-c-eq0.false refl

@@ -22,5 +22,5 @@ put_inner_mark-requires c =
       inner-place-fits _ _ _ _ _ some c.requires.3,
     )
 
-pub returns : goal.returns
-returns c = λ road e m limit. mark_inner-written _ _ _ _ _ _ _ _ _ (omega (arith, c.if-children-eq0.false)) (c.put_inner_mark.ensures road e m limit)
+pub returns-else-children-eq0 : goal.returns-else-children-eq0
+returns-else-children-eq0 c = λ road e m limit. mark_inner-written _ _ _ _ _ _ _ _ _ (omega (arith, c.if-children-eq0.false)) (c.put_inner_mark.ensures road e m limit)
