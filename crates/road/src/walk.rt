@@ -1,5 +1,5 @@
 // Least distances from a source, by Dijkstra's rounds: state, step and run.
-ghost use Rattle.std.specs.Prelude.{◌≡◌, true, false, List, ℕ, ◌+◌, ◌/◌, ◌≤◌, ◌<◌, length, replicate, set};
+ghost use Rattle.std.specs.Prelude.{◌≡◌, true, false, List, ℕ, ◌+◌, ◌/◌, ◌≤◌, ◌<◌, length, replicate, set, IfSome};
 ghost use Rattle.tournament.specs.code.Tournament.{queue_words, put_leaf, top};
 ghost use Rattle.adjacency.specs.Arcs.{net};
 ghost use Rattle.adjacency.specs.Adjacency.{count_in, Adjacency, IsAdjacency};
@@ -17,14 +17,11 @@ pub const FAR: u32 = 4294967295;
 const ABSENT: u64 = 4398046510080;
 
 // The distance of junction v, FAR where the list has none.
+#[tactic(auto, unfolding(crate::specs::Dijkstra::at))]
 pub fn distance_to(ds: &[u32], v: Junction) -> u32
     ensures { result ≡ at ds.now v.number }
 {
-    let i = v.number as usize;
-    if ds.len() <= i {
-        return FAR;
-    }
-    ds[i]
+    ds.get(v.number as usize).copied().unwrap_or(FAR)
 }
 
 // Makes x junction v's distance and queues it, if x is shorter.
@@ -123,12 +120,12 @@ pub fn distances(adj: &[u16], row: &mut [u32], source: Junction)
 }
 
 // Makes row the distances from a place, without a walk if it has them: it has those from `last`, if that is a junction.
-pub fn walk_from(adj: &[u16], row: &mut [u32], last: Junction, place: Junction)
+pub fn walk_from(adj: &[u16], row: &mut [u32], last: Option<Junction>, place: Junction)
     requires { IsAdjacency adj.now × (length row.old ≡ 1024) × (place.number < count_in adj.now)
-        × (last.number < count_in adj.now → RowFrom adj.now row.old last.number) }
+        × IfSome last (λ l. l.number < count_in adj.now → RowFrom adj.now row.old l.number) }
     ensures { RowFrom adj.now row.new place.number }
 {
-    if last.number == place.number {
+    if last.is_some_and(|l| l.number == place.number) {
         return;
     }
     distances(adj, row, place);

@@ -1,19 +1,22 @@
 -- Laws of the arrays that are filled in, and of the steps that fill them. Assumes nothing.
 use mathlib.Core.Path.{◌≡◌, refl, sym, ap, ◌∙◌}
+use mathlib.Core.Bool.{Bool, true, false}
 use mathlib.Core.List.{List}
 use Prim.Native.Nat.{ℕ, zero, suc, ◌+◌, ◌-◌, ◌≤◌, ◌<◌}
 use native.Mathlib.Decide.{ℕ_discrete}
 use native.Mathlib.Numerals.{add-one}
 use native.Mathlib.Omega.{arith}
-use lib.ListN.{length, get_or, set, length-set}
+use lib.ListN.{length, get_or, set, take, drop, length-set}
 use lib.Dec.{ltb}
 use Rattle.book.specs.Choose.{choose}
-use Rattle.book.proofs.Choosing.{choose_case}
 use lib.Seq.{get_or-set_same, get_or-set_other}
+use Rattle.std.proofs.Common.{cond, count_by}
+use Rattle.std.proofs.lemmas.List.Sums.{sum_by-cons}
 use Rattle.book.specs.Open.{version}
 use Rattle.tree_layout.specs.Sizes.{header_size, fields_size}
 use Rattle.tree_layout.specs.Decode.{place_of, size_at, region_count, landmark_count}
 use Rattle.tree_layout.specs.Facts.{TreeLayout}
+use Rattle.tree_layout.proofs.Turns.{drop-next}
 use Rattle.tree_layout.proofs.Places.{place_after, record_inside, size-least}
 use Rattle.tree.specs.Yards.{hops, holders, level_by}
 use Rattle.tree.specs.Arrays.{overwrite}
@@ -92,45 +95,31 @@ hops-next f k i = hops-after f k i ∙ rw add-one refl
 
 -- ---- levels
 
-module _ (f : ℕ → ℕ) (i : ℕ) where
-  pub level_start : 0 + holders f ((i + 1) - 0) 0 i ≡ level_by f i
-  unfolding level_by
-  level_start = let e : (i + 1) - 0 ≡ suc i = omega arith in rw e (omega arith)
+one-more : (t : Bool) (a b : ℕ) → a ≡ b → cond t 1 0 + a ≡ choose t 1 0 + b
+unfolding choose
+one-more true a b e = rw e refl
+one-more false a b e = rw e refl
 
-  -- one region more
-  pub level_next : (n j end one : ℕ) → j ≤ i → end ≡ f j → one ≡ choose {A = ℕ} (ltb i end) 1 0 → n + holders f ((i + 1) - j) j i ≡ level_by f i
-      → (n + one) + holders f ((i + 1) - (j + 1)) (j + 1) i ≡ level_by f i
-  unfolding holders
-  level_next n j end one h e o z =
-      let s : (i + 1) - j ≡ suc ((i + 1) - (j + 1)) = omega arith in
-      let t : j + 1 ≡ suc j = omega arith in
-      let q = rw (s, ← e, ← o) at z in
-      rw t (omega (arith, rw t at q))
+-- how many of the ends of n subtrees from number j on are above i
+ends-above : (i : ℕ) (ends : List ℕ) (n j : ℕ) → j + n ≤ length ends → count_by (λ x. ltb i x) (take n (drop j ends)) ≡ holders (λ k. get_or ends k 0) n j i
+unfolding holders
+ends-above i ends zero j h = refl
+ends-above i ends (suc n) j h =
+    let s : j + 1 ≡ suc j = omega arith in
+    let k : j < length ends = omega arith in
+    rw (drop-next ends 0 j k, s) (sum_by-cons (λ x. cond (ltb i x) 1 0) (get_or ends j 0) (take n (drop (suc j) ends)) ∙ one-more (ltb i (get_or ends j 0)) _ _ (ends-above i ends n (suc j) (omega arith)))
 
-  pub level_done : (n j : ℕ) → i < j → n + holders f ((i + 1) - j) j i ≡ level_by f i → n ≡ level_by f i
-  unfolding holders
-  level_done n j h z = let s : (i + 1) - j ≡ 0 = omega arith in omega (arith, rw s at z)
-
-  holders-most : (n j : ℕ) → holders f n j i ≤ n
-  unfolding holders
-  holders-most zero j = omega arith
-  holders-most (suc n) j = omega (
-    arith,
-    choose_case (λ (x : ℕ). x ≤ 1) (ltb i (f j)) {x = 1} {y = 0} (λ t. omega arith) (λ t. omega arith),
-    holders-most n
-        (suc j),
-  )
-
-  level_few : level_by f i ≤ i + 1
-  unfolding level_by
-  level_few = omega (arith, holders-most (suc i) 0)
-
-  -- a count on the way is no more than the region's number and 1
-  pub level_most : (n j : ℕ) → n + holders f ((i + 1) - j) j i ≡ level_by f i → n ≤ i + 1
-  level_most n j z = omega (arith, level_few)
+-- a region's level is how many of the ends up to it are above its number
+pub level-counted : (i : ℕ) (ends : List ℕ) → i < length ends → count_by (λ x. ltb i x) (take (i + 1) ends) ≡ level_by (λ j. get_or ends j 0) i
+unfolding level_by
+level-counted i ends h = rw add-one (ends-above i ends (suc i) 0 (omega arith))
 
 -- two functions that agree up to a region give it the same level
 holders-same : (f g : ℕ → ℕ) (i n j : ℕ) → ((x : ℕ) → j ≤ x → x < j + n → f x ≡ g x) → holders f n j i ≡ holders g n j i
 unfolding holders
 holders-same f g i zero j h = refl
 holders-same f g i (suc n) j h = rw (h j (omega arith) (omega arith), holders-same f g i n (suc j) (λ x p q. h x (omega arith) (omega arith))) refl
+
+pub level-same : (f g : ℕ → ℕ) (i : ℕ) → ((x : ℕ) → x ≤ i → f x ≡ g x) → level_by f i ≡ level_by g i
+unfolding level_by
+level-same f g i h = holders-same f g i (suc i) 0 (λ x p q. h x (omega arith))

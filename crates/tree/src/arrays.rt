@@ -19,11 +19,9 @@ pub fn fill_places(b: &[u8], places: &mut [usize])
     let n = h.regions as usize;
     let m = h.landmarks as usize;
     let mut at = records::FIRST_RECORD;
-    let mut i: usize = 0;
-    while i < n {
+    for i in 0..n {
         places[i] = at;
         at += tree_layout::size_at(b, m, at);
-        i += 1;
     }
 }
 
@@ -33,10 +31,8 @@ fn after_siblings(ends: &[usize], n: u8, start: usize) -> usize
     ensures { result ≡ hops (λ j. get_or ends.now j 0) n start }
 {
     let mut j = start;
-    let mut k: u8 = 0;
-    while k < n {
+    for _ in 0..n {
         j = ends[j];
-        k += 1;
     }
     j
 }
@@ -47,11 +43,8 @@ pub fn fill_ends(b: &[u8], places: &[usize], ends: &mut [usize])
     ensures { ends.new ≡ overwrite (end_of (decode b.now).regions)
         (region_count b.now) ends.old }
 {
-    let mut i = places.len();
-    while 0 < i {
-        i -= 1;
+    for i in (0..places.len()).rev() {
         let f = regions::fields(b, places, Region { number: i as u16 });
-        let e = after_siblings(ends, f.children, i + 1);
-        ends[i] = e;
+        ends[i] = after_siblings(ends, f.children, i + 1);
     }
 }

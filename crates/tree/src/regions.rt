@@ -15,27 +15,11 @@ pub fn fields(b: &[u8], places: &[usize], r: Region) -> Fields
     records::fields(b, at)
 }
 
-// 1 if region i comes before the end of a subtree, else 0.
-fn held(i: usize, end: usize) -> usize
-    ensures { result ≡ choose {A = ℕ} (ltb i end) 1 0 }
-{
-    if i < end {
-        return 1;
-    }
-    0
-}
-
 // The level of region r, the root's being 1, by the ends of subtrees: how many regions up to r have it in theirs.
 pub fn level(ends: &[usize], r: Region) -> usize
     requires { r.number < length ends.now }
     ensures { result ≡ level_by (λ j. get_or ends.now j 0) r.number }
 {
     let i = r.number as usize;
-    let mut n: usize = 0;
-    let mut j: usize = 0;
-    while j <= i {
-        n += held(i, ends[j]);
-        j += 1;
-    }
-    n
+    ends[..=i].iter().filter(|end| i < **end).count()
 }

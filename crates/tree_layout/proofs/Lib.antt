@@ -20,3 +20,4 @@ pub mod RegionRecords
 pub mod Accessing
 pub mod FirstFailing
 pub mod EachPart
+pub mod EachRegion

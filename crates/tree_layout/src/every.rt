@@ -1,12 +1,13 @@
 // Whether a test holds of each of a tree book's parts: the elements of a list, the landmarks of a record,
-// the records of a tree.
+// the records of a tree book.
 ghost use Rattle.std.specs.Prelude.{◌≡◌, Bool, true, ℕ, ◌+◌, ◌≤◌, ◌<◌, length};
 ghost use Rattle.tree_layout.specs.Values.{Element, Mark, Region};
 ghost use Rattle.tree_layout.specs.Sizes.{header_size, list_size};
 ghost use Rattle.tree_layout.specs.Decode.{read_list, read_region, read_regions, size_at, place_from};
-ghost use Rattle.tree_layout.specs.Refusal.{all, records_ok};
+ghost use Rattle.tree_layout.specs.Decode.{region_count, place_of, decode};
+ghost use Rattle.tree_layout.specs.Refusal.{all, records_ok, tree_layout_refusal};
 ghost use Rattle.tree_layout.specs.code.Marks.{mark_place};
-ghost use Rattle.tree_layout.specs.code.Every.{TestsElement, TestsMark, TestsRecord};
+ghost use Rattle.tree_layout.specs.code.Every.{TestsElement, TestsMark, TestsRecord, TestsRegion};
 
 use crate::{Listed, landmarks, records};
 
@@ -57,4 +58,14 @@ pub fn every_record<F: Fn(usize) -> bool>(b: &[u8], m: usize, n: usize, test: F)
         at += crate::size_at(b, m, at);
     }
     true
+}
+
+// Whether a test holds of each region of a tree book of sound layout. It is given the place of the region's record.
+pub fn every_region<F: Fn(usize) -> bool>(b: &[u8], test: F) -> bool
+    requires { (tree_layout_refusal b.now ≡ 0) × ((k : ℕ) → k < region_count b.now → F.pre test (place_of b.now k)) }
+    ensures { (ok : Region → Bool) → TestsRegion b.now (F.post test) ok
+        → result ≡ all ok (decode b.now).regions }
+{
+    let h = records::header(b);
+    every_record(b, h.landmarks as usize, h.regions as usize, test)
 }

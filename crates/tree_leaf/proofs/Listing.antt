@@ -44,15 +44,12 @@ module _ (v : ℕ) (p : List ℕ) (n k at : ℕ) where
   unfolding in_range
   range-here low high y e = rw e refl
 
-  pub range-low : (low high y : ℕ) → k < n → y ≡ (element_at v p at).yard → y < low → all (in_range low high) (read_list v p (n - k) at) ≡ false
-  range-low low high y h e q = all_here (in_range low high) h ∙ rw (range-here low high y e) (simp (lt-leb _ _ q))
+  pub range-out : (low high y : ℕ) → k < n → y ≡ (element_at v p at).yard → (leb low y && ltb y high) ≡ false → all (in_range low high) (read_list v p (n - k) at) ≡ false
+  range-out low high y h e q = all_here (in_range low high) h ∙ rw (range-here low high y e, q) refl
 
-  pub range-high : (low high y : ℕ) → k < n → y ≡ (element_at v p at).yard → low ≤ y → high ≤ y → all (in_range low high) (read_list v p (n - k) at) ≡ false
-  range-high low high y h e q s = all_here (in_range low high) h ∙ rw (range-here low high y e) (simp (le-leb _ _ q, le-ltb _ _ s))
-
-  pub range-next : (low high y : ℕ) → k < n → y ≡ (element_at v p at).yard → low ≤ y → y < high → all (in_range low high) (read_list v p (n - (k + 1))
+  pub range-next : (low high y : ℕ) → k < n → y ≡ (element_at v p at).yard → (leb low y && ltb y high) ≡ true → all (in_range low high) (read_list v p (n - (k + 1))
       (at + element_size v)) ≡ all (in_range low high) (read_list v p (n - k) at)
-  range-next low high y h e q s = sym (all_here (in_range low high) h ∙ rw (range-here low high y e) (simp (le-leb _ _ q, lt-ltb _ _ s)))
+  range-next low high y h e q = sym (all_here (in_range low high) h ∙ rw (range-here low high y e, q) refl)
 
 -- ---- the four tests of a list
 

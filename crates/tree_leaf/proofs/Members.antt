@@ -9,7 +9,7 @@ use native.Mathlib.Omega.{arith}
 use borrow.Author.Tests.{eq-eqb, ne_eqb}
 use lib.ListN.{length, get_or, set, replicate, length-set, length-replicate}
 use lib.Seq.{get_or-set_same, get_or-set_other}
-use lib.Dec.{T, leb, eqb, ltb→lt}
+use lib.Dec.{T, leb, ltb, eqb, ltb→lt}
 use Rattle.book.specs.Open.{version}
 use Rattle.book.proofs.Choosing.{and_left, and_right, true_T, T_true}
 use Rattle.tree_layout.specs.Sizes.{element_size, list_size, leaf_mark_size}
@@ -21,7 +21,7 @@ use Rattle.tree_layout.proofs.Reading.{all_none, all-next, list-turn, list_on, l
 use Rattle.tree_layout.proofs.Sizes.{list-zero, list-more}
 use Rattle.tree_leaf.specs.Leaf.{names, once, in_range, named_by, first_list, same_yards, agreeing}
 use Rattle.tree_leaf.specs.code.Members.{members_of, is_member, fits}
-use Rattle.tree_leaf.proofs.Listing.{once_stop, once-next, range-low, range-high, range-next, same-to, same_from, first-list, agree_stop, agree_end}
+use Rattle.tree_leaf.proofs.Listing.{once_stop, once-next, range-out, range-next, same-to, same_from, first-list, agree_stop, agree_end}
 
 -- ---- what a members has
 
@@ -44,29 +44,6 @@ members_names (e ∷ es) y h = go (ℕ_discrete y e.yard) (members_names es y h)
     go : Dec (y ≡ e.yard) → get_or (members_of es) y false ≡ names es y → get_or (set (members_of es) e.yard true) y false ≡ (eqb e.yard y || names es y)
     go (yes q) rec = rw q (get_or-set_same (members_of es) e.yard true false (omega (arith, members_length es)) ∙ sym (simp (eq-eqb e.yard e.yard refl)))
     go (no q) rec = get_or-set_other (members_of es) e.yard y true false q ∙ rec ∙ sym (simp (ne_eqb e.yard y (λ z. q (sym z))))
-
-beyond : (members : List Bool) (i : ℕ) → length members ≤ i → get_or members i false ≡ false
-beyond [] i h = refl
-beyond (x ∷ xs) zero h = absurd (omega arith)
-beyond (x ∷ xs) (suc i) h = beyond xs i (omega arith)
-
--- ---- whether a members has a list's yards, with pair number k and the n - (k + 1) pairs after it
-
-module _ (members : List Bool) (v : ℕ) (p : List ℕ) (n k y : ℕ) (h : k < n) (e : y ≡ (element_at v p (list_size v k)).yard) where
-  in_here : all (is_member members) (read_list v p (n - k) (list_size v k)) ≡ (get_or members y false && all (is_member members) (read_list v p (n - (k + 1)) (list_size v (k + 1))))
-  unfolding is_member
-  in_here =
-      rw (list_on v p n k h) (all-next (is_member members) (element_at v p (list_size v k)) (read_list v p (n - (k + 1)) (list_size v (k + 1))) ∙ rw e refl)
-
-  pub in_beyond : length members ≤ y → all (is_member members) (read_list v p (n - k) (list_size v k)) ≡ false
-  in_beyond l = in_here ∙ rw (beyond members y l) refl
-
-  pub in_absent : get_or members y false ≡ false → all (is_member members) (read_list v p (n - k) (list_size v k)) ≡ false
-  in_absent t = in_here ∙ rw t refl
-
-  pub in_next : get_or members y false ≡ true
-      → all (is_member members) (read_list v p (n - (k + 1)) (list_size v (k + 1))) ≡ all (is_member members) (read_list v p (n - k) (list_size v k))
-  in_next t = sym (in_here ∙ rw t refl)
 
 -- ---- a list's own test, from its last pair on
 
@@ -138,13 +115,9 @@ module _ (v : ℕ) (p : List ℕ) (n low high : ℕ) where
     whole_fails : fits low high (read_list v p (n - (k - 1)) (list_size v (k - 1))) ≡ false → fits low high (read_list v p n 0) ≡ false
     whole_fails f = fails_all (k - 1) (omega arith) f
 
-    pub fails_low : y < low → fits low high (read_list v p n 0) ≡ false
+    pub fails_out : (leb low y && ltb y high) ≡ false → fits low high (read_list v p n 0) ≡ false
     unfolding fits
-    fails_low q = whole_fails (and_no (once (read_list v p (n - (k - 1)) (list_size v (k - 1)))) _ (range-low v p n (k - 1) (list_size v (k - 1)) low high y earlier e q))
-
-    pub fails_high : low ≤ y → high ≤ y → fits low high (read_list v p n 0) ≡ false
-    unfolding fits
-    fails_high q s = whole_fails (and_no (once (read_list v p (n - (k - 1)) (list_size v (k - 1)))) _ (range-high v p n (k - 1) (list_size v (k - 1)) low high y earlier e q s))
+    fails_out q = whole_fails (and_no (once (read_list v p (n - (k - 1)) (list_size v (k - 1)))) _ (range-out v p n (k - 1) (list_size v (k - 1)) low high y earlier e q))
 
     module _ (members : List Bool) (d : (members ≡ members_of (read_list v p (n - k) (list_size v k)))
         × (fits low high (read_list v p (n - k) (list_size v k)) ≡ true)) (w : y < 1024) where
@@ -155,15 +128,15 @@ module _ (v : ℕ) (p : List ℕ) (n low high : ℕ) where
       unfolding fits
       fails_twice t = whole_fails (rw (once_stop v p n (k - 1) (list_size v (k - 1)) y (n - (k - 1 + 1)) earlier e refl (sym named ∙ t)) refl)
 
-      pub one_more : get_or members y false ≡ false → low ≤ y → y < high
+      pub one_more : get_or members y false ≡ false → (leb low y && ltb y high) ≡ true
           → (set members y true ≡ members_of (read_list v p (n - (k - 1)) (list_size v (k - 1)))) × (fits low high (read_list v p (n - (k - 1)) (list_size v (k - 1))) ≡ true)
       unfolding fits members_of
-      one_more t q s = (
+      one_more t q = (
         rw (list-turn v p n (k - 1) (list_size v (k - 1)) earlier, ← e, rest-is, d.0) refl,
         rw (
           sym (once-next v p n (k - 1) (list_size v (k - 1)) y (n - (k - 1 + 1)) earlier e refl (sym named
               ∙ t)),
-          sym (range-next v p n (k - 1) (list_size v (k - 1)) low high y earlier e q s),
+          sym (range-next v p n (k - 1) (list_size v (k - 1)) low high y earlier e q),
           rest-is,
         ) d.1,
       )

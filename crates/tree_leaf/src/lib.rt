@@ -1,7 +1,7 @@
 #![tactic(auto)]
 // "all of a leaf's lists name the same yards, each yard once, inside its range": the yards of a list as a set by
 // junction.
-ghost use Rattle.std.specs.Prelude.{◌≡◌, true, false, ◌+◌, ◌*◌, ◌≤◌, length, replicate};
+ghost use Rattle.std.specs.Prelude.{◌≡◌, true, ◌+◌, ◌*◌, ◌≤◌, length};
 ghost use Rattle.book.specs.Open.{version};
 ghost use Rattle.tree_layout.specs.Sizes.{header_size, junction_size, list_size, leaf_mark_size};
 ghost use Rattle.tree_layout.specs.Decode.{read_list, list_part, read_lists, size_at, read_region, landmark_count};
@@ -10,19 +10,7 @@ ghost use Rattle.tree_layout.specs.Refusal.{all};
 ghost use Rattle.tree_leaf.specs.Leaf.{first_list, same_yards, agreeing, leaf_ok};
 ghost use Rattle.tree_leaf.specs.code.Members.{members_of, is_member, fits};
 
-use tree_layout::{Fields, records};
-
-// Makes a set hold no yard.
-fn clear(members: &mut [bool])
-    requires { length members.old ≡ 1024 }
-    ensures { members.new ≡ replicate 1024 false }
-{
-    let mut i: usize = 0;
-    while i < 1024 {
-        members[i] = false;
-        i += 1;
-    }
-}
+use tree_layout::{Fields, every, records};
 
 // Whether a leaf's list names each yard once, inside the leaf's range; the set then has these yards.
 fn fill_members(p: &[u8], v: u8, f: Fields, members: &mut [bool]) -> bool
@@ -30,15 +18,10 @@ fn fill_members(p: &[u8], v: u8, f: Fields, members: &mut [bool]) -> bool
     ensures { (result ≡ fits f.first.number f.after (read_list v p.now f.yards 0))
         × (result ≡ true → members.new ≡ members_of (read_list v p.now f.yards 0)) }
 {
-    clear(members);
-    let mut k = f.yards as usize;
-    while k != 0 {
-        k -= 1;
+    members.fill(false);
+    for k in (0..f.yards as usize).rev() {
         let y = records::element(p, v, k).yard.number;
-        if y < f.first.number {
-            return false;
-        }
-        if f.after <= y {
+        if !(f.first.number..f.after).contains(&y) {
             return false;
         }
         let i = y as usize;
@@ -55,18 +38,15 @@ fn all_in(p: &[u8], v: u8, n: usize, members: &[bool]) -> bool
     requires { (n ≤ 65535) × (list_size v n ≤ length p.now) }
     ensures { result ≡ all (is_member members.now) (read_list v p.now n 0) }
 {
-    let mut k: usize = 0;
-    while k < n {
-        let i = records::element(p, v, k).yard.number as usize;
-        if members.len() <= i {
-            return false;
-        }
-        if !members[i] {
-            return false;
-        }
-        k += 1;
-    }
-    true
+    every::every_element(
+        p,
+        v,
+        n,
+        |e| members
+            .get(e.yard.number as usize)
+            .copied()
+            .unwrap_or(false),
+    )
 }
 
 // Whether a leaf's list names the first one's yards, each once, inside its range; `named` has the first one's yards.
@@ -85,13 +65,8 @@ fn same_yards(
     ensures { result ≡ same_yards f.first.number f.after (read_list v first.now f.yards 0)
         (read_list v p.now f.yards 0) }
 {
-    if !fill_members(p, v, f, members) {
-        return false;
-    }
-    if !all_in(p, v, f.yards as usize, named) {
-        return false;
-    }
-    all_in(first, v, f.yards as usize, members)
+    let n = f.yards as usize;
+    fill_members(p, v, f, members) && all_in(p, v, n, named) && all_in(first, v, n, members)
 }
 
 // Whether the lists of m landmarks from a place on all do, beside the first of them.
@@ -119,14 +94,12 @@ fn all_agree(
     let v = book::version(b);
     let first = records::list(b, start, n);
     let mut at = start;
-    let mut k: usize = 0;
-    while k < m {
+    for _ in 0..m {
         let p = records::list(b, at, n);
         if !same_yards(first, p, v, f, named, members) {
             return false;
         }
         at += records::leaf_mark(v, n);
-        k += 1;
     }
     true
 }

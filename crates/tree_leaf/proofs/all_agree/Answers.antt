@@ -29,27 +29,27 @@ version-v-requires c = omega (arith, c.requires.0)
 pub list-first-requires : goal.list-first-requires
 list-first-requires c = (c.requires.0, omega (arith, c.struct_known-1.given), first-room (goal.at.list-first-requires c).Start)
 
-pub loop-k-init : goal.loop-k-init
-loop-k-init c =
-    (omega arith, omega arith, simp sub-zero c.requires.1, simp sub-zero, c.requires.4)
+pub loop-init : goal.loop-init
+loop-init c =
+    (omega arith, simp sub-zero c.requires.1, simp sub-zero)
 
 pub list-p-requires : goal.list-p-requires
 list-p-requires c = (
   c.requires.0,
   omega (arith, c.struct_known-1.given),
-  omega (arith, (room _ _ _ _ _ c.loop-k-test.true c.loop-k.invariant.2).0, c.loop-k.invariant.1),
+  omega (arith, (room _ _ _ _ _ c.loop-test.true c.loop.invariant.1).0, c.loop.invariant.0),
 )
 
 pub same_yards-requires : goal.same_yards-requires
 same_yards-requires c =
-    let i = c.loop-k.invariant in
+    let i = c.loop.invariant in
     let v = c.version-v.ensures in
     let one = c.list-first.ensures in
     let two = c.list-p.ensures in (
       part_room _ _ _ _ _ v one (first-room (goal.at.same_yards-requires c).Start),
-      part_room _ _ _ _ _ v two (omega (arith, (room _ _ _ _ _ c.loop-k-test.true i.2).0, i.1)),
+      part_room _ _ _ _ _ v two (omega (arith, (room _ _ _ _ _ c.loop-test.true i.1).0, i.0)),
       c.requires.3,
-      i.4,
+      c.loop.auto.members ∙ c.requires.4,
       part-fits _ _ _ _ _ v one _ _ c.requires.5,
       part_members _ _ _ _ _ v one _ c.requires.6,
     )
@@ -57,23 +57,21 @@ same_yards-requires c =
 pub returns-then-not-same_yards : goal.returns-then-not-same_yards
 returns-then-not-same_yards c =
     let e = parts_agree _ _ _ _ _ _ _ _ _ c.version-v.ensures c.list-first.ensures c.list-p.ensures in
-    sym (agree_stop _ _ _ _ _ _ _ _ _ (first-list _ _ _ _ (omega (arith, c.loop-k-test.true))) c.loop-k-test.true (e ∙ sym c.same_yards.ensures
-    ∙ not-true _ c.if-not-same_yards.true-raw)) ∙ c.loop-k.invariant.3
+    sym (agree_stop _ _ _ _ _ _ _ _ _ (first-list _ _ _ _ (omega (arith, c.loop-test.true))) c.loop-test.true (e ∙ sym c.same_yards.ensures
+    ∙ c.if-not-same_yards.true)) ∙ c.loop.invariant.2
 
 pub overflow_add-at : goal.overflow_add-at
-overflow_add-at c = omega (arith, (room _ _ _ _ _ c.loop-k-test.true c.loop-k.invariant.2).0, size c)
+overflow_add-at c = omega (arith, (room _ _ _ _ _ c.loop-test.true c.loop.invariant.1).0, size c)
 
-pub loop-k-preserved : goal.loop-k-preserved
-loop-k-preserved c =
-    let i = c.loop-k.invariant in
+pub loop-preserved : goal.loop-preserved
+loop-preserved c =
+    let i = c.loop.invariant in
     let e = parts_agree _ _ _ _ _ _ _ _ _ c.version-v.ensures c.list-first.ensures c.list-p.ensures in (
       omega arith,
-      omega arith,
-      rw (size c) (room _ _ _ _ _ c.loop-k-test.true i.2).1,
-      rw (size c) (agree_next _ _ _ _ _ _ _ _ _ (first-list _ _ _ _ (omega (arith, c.loop-k-test.true))) c.loop-k-test.true
-          (e ∙ sym c.same_yards.ensures ∙ not-false _ c.if-not-same_yards.false-raw)) ∙ i.3,
-      search rules,
+      rw (size c) (room _ _ _ _ _ c.loop-test.true i.1).1,
+      rw (size c) (agree_next _ _ _ _ _ _ _ _ _ (first-list _ _ _ _ (omega (arith, c.loop-test.true))) c.loop-test.true
+          (e ∙ sym c.same_yards.ensures ∙ c.if-not-same_yards.false)) ∙ i.2,
     )
 
 pub returns : goal.returns
-returns c = sym (agree_end _ _ _ _ _ _ _ _ c.loop-k-test.false) ∙ c.loop-k.invariant.3
+returns c = sym (agree_end _ _ _ _ _ _ _ _ (omega (arith, c.loop-test.false))) ∙ c.loop.invariant.2

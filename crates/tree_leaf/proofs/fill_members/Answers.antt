@@ -1,53 +1,47 @@
-use mathlib.Core.Path.{refl, ap, ◌∙◌}
-use mathlib.Core.Bool.{true, false}
-use Prim.Native.Nat.{◌-◌, ◌≤◌, ◌<◌}
+use Rattle.std.proofs.Common.{◌≡◌, ◌&&◌, ◌<◌, ℕ, true, false, refl, sym, ◌∙◌, leb, ltb, length, replicate, ap, rules}
 use native.Mathlib.Omega.{arith}
-use lib.ListN.{length, length-set, length-replicate}
-use Rattle.tree_layout.proofs.Sizes.{list-room}
+use Rattle.tree_layout.proofs.EachPart.{element-inside}
 use Rattle.tree_layout.proofs.Accessing.{listed-yard}
-use Rattle.tree_leaf.proofs.Members.{none_done, all_done, failed, fails_low, fails_high, fails_twice, one_more}
+use Rattle.tree_leaf.proofs.Members.{none_done, all_done, failed, fails_out, fails_twice, one_more}
+use Rattle.tree_leaf.proofs.fill_members.Goals.{After-contains, After-fill, Else-not-contains}
 use Rattle.tree_leaf.proofs.fill_members.Goals as goal
 
+-- a set of no yard
+cleared : (c : After-fill) → c.fill.new.self ≡ replicate 1024 false
+cleared c = c.fill.ensures.after (λ y e. e) ∙ ap (λ n. replicate n false) c.requires.2
+
+-- whether the element's yard is in the range
+inside : (c : After-contains) → c.contains.result ≡ (leb c.args.f.first.number c.element-y.result.yard.number && ltb c.element-y.result.yard.number c.args.f.after)
+inside c = search rules
+
+-- of a range that ends at 1,024 at most
+small : (c : Else-not-contains) → c.element-y.result.yard.number < 1024
+small c =
+    let h : c.element-y.result.yard.number < c.args.f.after = search rules in
+    omega (arith, h, c.requires.1)
+
 pub loop-k-init : goal.loop-k-init
-loop-k-init c =
-    let e = c.clear.ensures in
-    (omega arith, ap length e ∙ length-replicate 1024 false, none_done _ _ _ _ _ _ _ refl e)
+loop-k-init c = none_done _ _ _ _ _ _ _ refl (cleared (goal.at.loop-k-init c).After-fill)
 
 pub element-y-requires : goal.element-y-requires
 element-y-requires c =
-    let i = c.loop-k in
-    let k : i.k - 1 < c.args.f.yards = omega (arith, c.loop-k-test.true, i.invariant.0) in
-    (omega (arith, i.invariant.0, c.struct_known-1.given), omega (arith, c.requires.0, list-room c.args.v (i.k - 1) c.args.f.yards k))
+    (omega (arith, c.loop-k.auto.k, c.struct_known-1.given), element-inside _ _ _ _ c.requires.0 (omega (arith, c.loop-k-test.true, c.loop-k.auto.k)))
 
-pub returns-then-y-f : goal.returns-then-y-f
-returns-then-y-f c =
-    let z : 1 ≤ c.loop-k.k = omega (arith, c.loop-k-test.true) in
-    failed _ _ _ _ _ _ (fails_low _ _ _ _ _ _ _ z c.loop-k.invariant.0 (listed-yard _ _ _ _ c.element-y.ensures) (omega (arith, c.if-y-f.true)))
-
-pub returns-then-f-y : goal.returns-then-f-y
-returns-then-f-y c =
-    let z : 1 ≤ c.loop-k.k = omega (arith, c.loop-k-test.true) in
-    failed _ _ _ _ _ _ (fails_high _ _ _ _ _ _ _ z c.loop-k.invariant.0 (listed-yard _ _ _ _ c.element-y.ensures) (omega (arith, c.if-y-f.false)) (omega
-    (arith, c.if-f-y.true)))
+pub returns-then-not-contains : goal.returns-then-not-contains
+returns-then-not-contains c =
+    failed _ _ _ _ _ _ (fails_out _ _ _ _ _ _ _ (omega (arith, c.loop-k-test.true)) c.loop-k.auto.k (listed-yard _ _ _ _ c.element-y.ensures)
+    (sym (inside (goal.at.returns-then-not-contains c).After-contains) ∙ c.if-not-contains.true))
 
 pub returns-then-members-i : goal.returns-then-members-i
 returns-then-members-i c =
-    let z : 1 ≤ c.loop-k.k = omega (arith, c.loop-k-test.true) in
-    let p = c.requires in
-    let v : c.element-y.result.yard.number < 1024 = omega (arith, c.if-f-y.false, p.1) in
-    failed _ _ _ _ _ _ (fails_twice _ _ _ _ _ _ _ z c.loop-k.invariant.0 (listed-yard _ _ _ _ c.element-y.ensures) _ c.loop-k.invariant.2 v
-    c.if-members-i.true)
+    failed _ _ _ _ _ _ (fails_twice _ _ _ _ _ _ _ (omega (arith, c.loop-k-test.true)) c.loop-k.auto.k (listed-yard _ _ _ _ c.element-y.ensures)
+    _ c.loop-k.invariant (small (goal.at.returns-then-members-i c).Else-not-contains) c.if-members-i.true)
 
 pub loop-k-preserved : goal.loop-k-preserved
 loop-k-preserved c =
-    let z : 1 ≤ c.loop-k.k = omega (arith, c.loop-k-test.true) in
-    let v : c.element-y.result.yard.number < 1024 = omega
-    (arith, c.if-f-y.false, c.requires.1) in (
-      omega arith,
-      simp length-set (omega arith),
-      one_more _ _ _ _ _ _ _ z c.loop-k.invariant.0 (listed-yard _ _ _ _ c.element-y.ensures) _ c.loop-k.invariant.2 v c.if-members-i.false (omega
-          (arith, c.if-y-f.false)) (omega (arith, c.if-f-y.false)),
-    )
+    one_more _ _ _ _ _ _ _ (omega (arith, c.loop-k-test.true)) c.loop-k.auto.k (listed-yard _ _ _ _ c.element-y.ensures)
+    _ c.loop-k.invariant (small (goal.at.loop-k-preserved c).Else-not-contains) c.if-members-i.false
+    (sym (inside (goal.at.loop-k-preserved c).After-contains) ∙ c.if-not-contains.false)
 
 pub returns : goal.returns
-returns c = all_done _ _ _ _ _ _ _ c.loop-k-test.false c.loop-k.invariant.2
+returns c = all_done _ _ _ _ _ _ _ (omega (arith, c.loop-k-test.false)) c.loop-k.invariant

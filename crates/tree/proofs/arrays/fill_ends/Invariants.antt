@@ -1,4 +1,3 @@
-use Prim.Native.Nat.{◌≤◌}
 use lib.ListN.{length}
 use Rattle.tree_layout.specs.Decode.{decode}
 use Rattle.tree.specs.Yards.{end_of}
@@ -6,7 +5,4 @@ use Rattle.tree.proofs.Ending.{Filled}
 use Rattle.tree.proofs.arrays.fill_ends.Given as goal
 
 abbrev pub invariant-loop-i : goal.invariant-loop-i
-invariant-loop-i l = (l.i ≤ length l.places) × Filled (end_of (decode l.b).regions) l.i (length l.places) l.initial.ends l.ends
-
-abbrev pub decreases-loop-i : goal.decreases-loop-i
-decreases-loop-i l = l.i
+invariant-loop-i l = Filled (end_of (decode l.b).regions) l.i (length l.places) l.initial.ends l.ends
