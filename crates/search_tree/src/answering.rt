@@ -9,6 +9,7 @@ ghost use Rattle.search_tree.specs.Found.{found_of};
 
 use crate::{Found, Goal, Want, accepted, refused};
 use query::QueryBook;
+use query::aggregate::Aggregate;
 use search_held::{Asked, Rule};
 use tree_layout::records;
 
@@ -87,7 +88,7 @@ pub fn answer(
     }
     let rule = rule_of(asked.k, goal);
     let given = Asked {
-        aggregate: asked.aggregate,
+        aggregate: Aggregate::of(asked.aggregate),
         limit: asked.limit,
         rule,
         wanted,

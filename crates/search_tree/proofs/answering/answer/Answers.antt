@@ -1,7 +1,7 @@
 use Rattle.query.proofs.Reading.{its_limit}
 use Rattle.tree.proofs.Fielding.{laid-header}
 use Rattle.search_tree.specs.Found.{drive_of, want_of}
-use Rattle.search_tree.proofs.Calling.{query-back, asked_of, kinds-back, areas_last, most_of, turned_found, turned_work, turned_results}
+use Rattle.search_tree.proofs.Calling.{query-back, asked_coded, kinds-back, areas_last, most_of, turned_found, turned_work, turned_results}
 use Rattle.search_tree.proofs.Calling.{asking-is, taken-facts, taken-found, taken-work, taken-results}
 use Rattle.search_tree.proofs.answering.answer.Goals as goal
 
@@ -59,12 +59,12 @@ search-requires c =
     let l = most_of _ _ c.in-Asked.asked.k _ (drive_of c.args.want.goal) c.header-h.ensures c.most_yards-most.ensures in
     let a = c.areas_refusal-why.ensures in
     let z = c.if-why-ne0.false in
-    let o = asked_of c.requires.district _ (want_of c.args.want) 0 0 _ n _ e _ p in (
+    let o = asked_coded c.requires.district _ (want_of c.args.want) 0 0 _ n _ e _ p in (
       c.requires,
-      its_limit _ _ o,
+      its_limit _ _ o.0,
       λ road d. taken-facts _ _ _ (want_of c.args.want) c.args.work.now c.args.results.now _
           (areas_last d _ (want_of c.args.want) _ _ _ n _ e _ p w _ _ l a) z _
-          (asking-is _ _ (want_of c.args.want) _ o c.rule_of-rule.ensures),
+          (asking-is _ _ (want_of c.args.want) _ _ o c.of.ensures c.rule_of-rule.ensures),
     )
 
 pub returns : goal.returns
@@ -78,7 +78,7 @@ returns c =
     let a = c.areas_refusal-why.ensures in
     let z = c.if-why-ne0.false in
     let f = c.search.ensures in
-    let o = asking-is _ _ (want_of s.want) _ (asked_of c.requires.district _ (want_of s.want) 0 0 _ n _ e _ p) c.rule_of-rule.ensures in record {
+    let o = asking-is _ _ (want_of s.want) _ _ (asked_coded c.requires.district _ (want_of s.want) 0 0 _ n _ e _ p) c.of.ensures c.rule_of-rule.ensures in record {
       found = λ road d. taken-found _ _ _ (want_of s.want) s.work.now s.results.now _ (areas_last d _ (want_of s.want) _ _ _ n _ e _ p w _ _ l a) z _ o _ (f.found road d);
       work = λ road d. taken-work _ _ _ (want_of s.want) s.work.now s.results.now _ (areas_last d _ (want_of s.want) _ _ _ n _ e _ p w _ _ l a) z _ f.work;
       results = λ road d. taken-results _ _ _ (want_of s.want) s.work.now s.results.now _ (areas_last d _ (want_of s.want) _ _ _ n _ e _ p w _ _ l a) z _ o _ (f.results road d);
