@@ -6,13 +6,13 @@ ghost use Rattle.road_layout.specs.Road.{junctions};
 ghost use Rattle.book.specs.Open.{version};
 ghost use Rattle.tree_layout.specs.Sizes.{header_size, list_size, leaf_mark_size};
 ghost use Rattle.tree_layout.specs.Decode.{read_list, landmark_count};
-ghost use Rattle.search_rules.specs.Queue.{word_at, pick};
 ghost use Rattle.search_bounds.specs.code.Rows.{Rows};
 ghost use Rattle.search_bounds.specs.code.Bounds.{Crews};
 ghost use Rattle.search_bounds.specs.code.Measures.{Short, Driven, IsDriven, to_crews};
 ghost use Rattle.search_state.specs.code.State.{word_count, value_count, fs_in, gone_in};
+ghost use Rattle.search_leaf.specs.code.Next.{IsNext};
 ghost use Rattle.search_leaf.specs.code.Leaves.{Near, by_yards, ShortList, f_in, bound_in, element_word};
-ghost use Rattle.search_leaf.specs.code.Leaves.{words_of, f_word, pass_over, list_at, elements_of, FormedList};
+ghost use Rattle.search_leaf.specs.code.Leaves.{f_word, pass_over, list_at, elements_of, FormedList};
 
 use crate::{Form, Next, parts};
 use book::Junction;
@@ -137,18 +137,20 @@ fn word_of(h: Header, words: &[u64], values: &[u32], y: Junction) -> u64
     f_word(values[i])
 }
 
-// "Its list's elements leave by f .., then by place": the next of at least one.
-pub fn next_element(list: &[u8], yards: usize, h: Header, words: &[u64], values: &[u32]) -> Next
+// "Its list's elements leave by f .., then by place": the next of at least one, or none if none remains.
+pub fn next_element(
+    list: &[u8],
+    yards: usize,
+    h: Header,
+    words: &[u64],
+    values: &[u32],
+) -> Option<Next>
     requires { (1 ≤ yards) × (yards ≤ 65535) × (list_size h.version yards ≤ length list.now)
         × Near h.junctions (read_list h.version list.now yards 0)
         × (length words.now ≡ word_count h.regions h.junctions)
         × (h.junctions ≤ 1024) × (length values.now ≡ value_count) }
-    ensures { (result.place ≡ pick (words_of (fs_in h.junctions values.now)
-        (gone_in h.regions h.junctions words.now) (read_list h.version list.now yards 0))
-        yards)
-        × (result.f ≡ word_at (words_of (fs_in h.junctions values.now)
-        (gone_in h.regions h.junctions words.now) (read_list h.version list.now yards 0))
-        result.place) }
+    ensures { IsNext (fs_in h.junctions values.now) (gone_in h.regions h.junctions words.now)
+        (read_list h.version list.now yards 0) yards result }
 {
     let mut place: usize = 0;
     let v = h.version;
@@ -160,5 +162,8 @@ pub fn next_element(list: &[u8], yards: usize, h: Header, words: &[u64], values:
             f = w;
         }
     }
-    Next { place, f }
+    if f == UNQUEUED {
+        return None;
+    }
+    Some(Next { place, f })
 }
