@@ -1,3 +1,4 @@
 pub mod CrewList
 pub mod Reading
 pub mod FirstFailing
+pub mod Coding

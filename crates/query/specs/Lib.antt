@@ -1,2 +1,3 @@
 pub mod Query
 pub mod Tests
+pub mod Aggregates

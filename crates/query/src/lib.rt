@@ -1,5 +1,7 @@
 #![tactic(auto)]
 // The query book: its reader and its crews.
+pub mod aggregate; // aggregate.rt: the aggregate that a query asks for
+
 ghost use Rattle.std.specs.Prelude.{◌≡◌, ◌+◌, ◌*◌, ◌≤◌, ◌<◌, length, take};
 ghost use Rattle.book.specs.Open.{open_refusal};
 ghost use Rattle.book.specs.Refusals.{answer_number};

@@ -12,3 +12,4 @@ pub mod ToCrews
 pub mod Driving
 pub mod YardsSearching
 pub mod Vectors
+pub mod Combining

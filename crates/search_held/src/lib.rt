@@ -9,6 +9,7 @@ ghost use Rattle.search_measure.specs.code.Cases.{ceiling_of};
 ghost use Rattle.search_order.specs.code.Pairs.{entry_in};
 ghost use Rattle.search_held.specs.code.Rules.{rule_of, held_by, count_by, Fits};
 
+use query::aggregate::Aggregate;
 use search_first::Held;
 use search_order::Entry;
 
@@ -19,10 +20,10 @@ pub enum Rule {
     InDrive(u32),
 }
 
-// What a search is asked: the aggregate's code, the limit of its steps, its rule, and the wanted kinds.
+// What a search is asked: the aggregate, the limit of its steps, its rule, and the wanted kinds.
 #[derive(Clone, Copy)]
 pub struct Asked {
-    pub aggregate: u8,
+    pub aggregate: Aggregate,
     pub limit: u32,
     pub rule: Rule,
     pub wanted: u8,

@@ -6,28 +6,32 @@ use Prim.Native.Nat.{ℕ, ◌+◌, ◌≤◌, ◌<◌, max}
 use native.Mathlib.Omega.{arith}
 use lib.ListN.{get_or, set}
 use lib.Dec.{not_T}
-use Rattle.book.proofs.Choosing.{choose_yes, choose_no}
+use Rattle.book.proofs.Choosing.{choose_yes, choose_no, choose_case}
 use Rattle.tree_layout.specs.Values.{Element}
 use Rattle.tree_layout.specs.Decode.{read_list}
 use Rattle.tree_layout.specs.code.Accessors.{listed_at}
 use Rattle.tree_layout.specs.declared.Listed.{Listed}
 use Rattle.search_rules.specs.Queue.{unqueued, queued, word_at, pick}
 use Rattle.search_rules.specs.Step.{no_element, again_key}
-use Rattle.search_rules.proofs.Queue.{pick-range, queued-small, small-queued}
-use Rattle.search_rules.proofs.Steps.{again_none, again_more}
+use Rattle.search_rules.proofs.Queue.{pick-range, queued-small, small-queued, not-queued}
+use Rattle.search_rules.proofs.Steps.{again_none}
 use Rattle.search_state.specs.code.State.{yard_keys_at, firsts_at, bounds_at, gone_at, region_keys_in, yard_keys_in, firsts_in, picks_in, fs_in, bounds_in, gone_in}
 use Rattle.search_state.proofs.Cells.{Parts, parts_of_lem, part_at, store_key, store_yard, store_gone}
 use Rattle.search_leaf.specs.code.Leaves.{words_of}
-use Rattle.search_leaf.specs.code.Next.{next_in, next_word, leaving, yard_queued, leaf_queued}
+use Rattle.search_leaf.specs.code.Next.{next_in, next_word, word_in, IsNext, leaving, yard_queued, leaf_queued}
+use Rattle.search_leaf.specs.declared.Next.{Next}
+use Rattle.std.specs.Prelude.{Option, Some, None}
 use Rattle.search_leaf.proofs.Numbering.{listed-at}
 
 -- ---- the leaf's key
 
-pub again_end : (first next : ℕ) → next ≡ unqueued → unqueued ≡ again_key first next
+pub again_end : (first : ℕ) (next : Option Next) → next ≡ None → unqueued ≡ again_key first (word_in next)
 again_end first next e = rw e (sym (again_none first))
 
-pub again_on : (first next r : ℕ) → (next ≡ unqueued → ⊥) → next ≤ unqueued → r ≡ max first next → r ≡ again_key first next
-again_on first next r n h e = e ∙ sym (again_more first next (omega (arith, n)))
+pub again_on : (first : ℕ) (next : Option Next) (e : Next) (r : ℕ) → next ≡ Some e → first ≤ unqueued → e.f ≤ unqueued → r ≡ max first e.f
+    → r ≡ again_key first (word_in next)
+unfolding again_key
+again_on first next e r p h k m = rw p (choose_case (λ z. r ≡ z) (queued e.f) (λ t. m) (λ t. omega (arith, not-queued e.f t)))
 
 -- ---- the next element
 
@@ -44,6 +48,11 @@ module _ (v : ℕ) (p fs : List ℕ) (gone : List Bool) (n place : ℕ) (some : 
 pub next_in_lem : (fs : List ℕ) (gone : List Bool) (es : List Element) (n : ℕ) → next_in fs gone es n ≡ get_or es (pick (words_of fs gone es) n) no_element
 unfolding next_in
 next_in_lem fs gone es n = refl
+
+-- an answer's word
+word-is : (fs : List ℕ) (gone : List Bool) (es : List Element) (n : ℕ) (r : Option Next) → IsNext fs gone es n r → word_in r ≡ next_word fs gone es n
+word-is fs gone es n None e = e
+word-is fs gone es n (Some x) e = e.1
 
 -- the words of what was read
 pub next_word_lem : (fs : List ℕ) (gone : List Bool) (es : List Element) (n place word : ℕ) → place ≡ pick (words_of fs gone es) n
@@ -75,18 +84,14 @@ module _ (regions junctions v : ℕ) (p : List ℕ) (n : ℕ) (ws vs : List ℕ)
   unfolding leaving
   leaving-is some place picked e q = next-yard v p (fs_in junctions vs) (gone_in regions junctions ws) n place some picked e q
 
-  -- by the next element's place and word
-  module _ (r place word : ℕ) (picked : place ≡ pick (words_of (fs_in junctions vs) (gone_in regions junctions ws) (read_list v p n 0)) n)
-      (of : word ≡ word_at (words_of (fs_in junctions vs) (gone_in regions junctions ws) (read_list v p n 0)) place) where
-    its_word : word ≡ next_word (fs_in junctions vs) (gone_in regions junctions ws) (read_list v p n 0) n
-    its_word = next_word_lem (fs_in junctions vs) (gone_in regions junctions ws) (read_list v p n 0) n place word picked of
-
+  module _ (r : ℕ) where
     -- with none left the leaf leaves the queue
-    pub none-queued : word ≡ unqueued → set ws r unqueued ≡ leaf_queued regions junctions (read_list v p n 0) n ws vs r
-    none-queued e = sym (queued_off regions junctions (read_list v p n 0) n ws vs r (omega (arith, its_word)))
+    pub none-queued : unqueued ≡ next_word (fs_in junctions vs) (gone_in regions junctions ws) (read_list v p n 0) n
+        → set ws r unqueued ≡ leaf_queued regions junctions (read_list v p n 0) n ws vs r
+    none-queued e = sym (queued_off regions junctions (read_list v p n 0) n ws vs r (omega (arith, e)))
 
     -- the words with the yard and then the leaf queued, by the places and numbers that were computed
-    module _ (there : word ≡ unqueued → ⊥) (few : word ≤ unqueued) (y : ℕ) (ey : y ≡ leaving regions junctions (read_list v p n 0) n ws vs) (a b g k : ℕ)
+    module _ (there : next_word (fs_in junctions vs) (gone_in regions junctions ws) (read_list v p n 0) n < unqueued) (y : ℕ) (ey : y ≡ leaving regions junctions (read_list v p n 0) n ws vs) (a b g k : ℕ)
         (ea : a ≡ firsts_at regions junctions + r) (eb : b ≡ bounds_at + y) (eg : g ≡ gone_at regions junctions + y)
         (ek : k ≡ yard_keys_at regions junctions + y) (key : ℕ) (ev : key ≡ max (get_or vs b 0) (get_or ws a 0)) where
       yard-is : set (set ws g 0) k key
@@ -94,17 +99,12 @@ module _ (regions junctions v : ℕ) (p : List ℕ) (n : ℕ) (ws vs : List ℕ)
       unfolding yard_queued
       yard-is = rw (← ey, ← ea, ← eb, ← eg, ← ek, ev) refl
 
-      pub queued-is : (place' word' x : ℕ)
-          → place' ≡ pick (words_of (fs_in junctions vs) (gone_in regions junctions (set (set ws g 0) k key)) (read_list v p n 0)) n
-          → word' ≡ word_at (words_of (fs_in junctions vs) (gone_in regions junctions (set (set ws g 0) k key)) (read_list v p n 0)) place'
-          → x ≡ again_key (get_or ws a 0) word' → set (set (set ws g 0) k key) r x ≡ leaf_queued regions junctions (read_list v p n 0) n ws vs r
-      queued-is place' word' x picked' w e =
-          rw (
-            e,
-            ea,
-            next_word_lem (fs_in junctions vs) (gone_in regions junctions (set (set ws g 0) k key)) (read_list v p n 0) n place' word' picked' w,
-          ) refl
-          ∙ sym (queued_on regions junctions (read_list v p n 0) n ws vs r (set (set ws g 0) k key) yard-is (omega (arith, its_word, there)))
+      pub queued-is : (after : Option Next) (x : ℕ)
+          → IsNext (fs_in junctions vs) (gone_in regions junctions (set (set ws g 0) k key)) (read_list v p n 0) n after
+          → x ≡ again_key (get_or ws a 0) (word_in after) → set (set (set ws g 0) k key) r x ≡ leaf_queued regions junctions (read_list v p n 0) n ws vs r
+      queued-is after x w e =
+          rw (e, ea, word-is (fs_in junctions vs) (gone_in regions junctions (set (set ws g 0) k key)) (read_list v p n 0) n after w) refl
+          ∙ sym (queued_on regions junctions (read_list v p n 0) n ws vs r (set (set ws g 0) k key) yard-is there)
 
 -- ---- its parts
 

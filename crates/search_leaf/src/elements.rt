@@ -1,20 +1,22 @@
 // A leaf's list: f and the bound of each of its yards, and which leaves next.
 ghost use Rattle.std.specs.Prelude.{◌≡◌, List, ℕ, ◌+◌, ◌≤◌, ◌<◌, length};
 ghost use Rattle.book.specs.Bytes.{u16_at};
+ghost use Rattle.query.specs.Aggregates.{code_of};
 ghost use Rattle.road_layout.specs.Road.{junctions};
 ghost use Rattle.book.specs.Open.{version};
 ghost use Rattle.tree_layout.specs.Sizes.{header_size, list_size, leaf_mark_size};
 ghost use Rattle.tree_layout.specs.Decode.{read_list, landmark_count};
-ghost use Rattle.search_rules.specs.Queue.{word_at, pick};
 ghost use Rattle.search_bounds.specs.code.Rows.{Rows};
 ghost use Rattle.search_bounds.specs.code.Bounds.{Crews};
 ghost use Rattle.search_bounds.specs.code.Measures.{Short, Driven, IsDriven, to_crews};
 ghost use Rattle.search_state.specs.code.State.{word_count, value_count, fs_in, gone_in};
+ghost use Rattle.search_leaf.specs.code.Next.{IsNext};
 ghost use Rattle.search_leaf.specs.code.Leaves.{Near, by_yards, ShortList, f_in, bound_in, element_word};
-ghost use Rattle.search_leaf.specs.code.Leaves.{words_of, f_word, pass_over, list_at, elements_of, FormedList};
+ghost use Rattle.search_leaf.specs.code.Leaves.{f_word, pass_over, list_at, elements_of, FormedList};
 
 use crate::{Form, Next, parts};
 use book::Junction;
+use query::aggregate::Aggregate;
 use search_queue::UNQUEUED;
 use tree_layout::{Header, records};
 
@@ -29,23 +31,25 @@ fn fill(
     rows: usize,
     crews: &[u16],
     out: &[u32],
-    code: u8,
+    aggregate: Aggregate,
     values: &mut [u32],
 )
     requires { FormedList list.now form × Rows table.now rows × Crews crews.now
         × (length out.now ≡ length crews.now) × Short out.now × Near 1024 (elements_of list.now form)
         × ShortList table.now rows crews.now (elements_of list.now form)
         × (length values.old ≡ value_count) }
-    ensures { values.new ≡ by_yards (f_in code out.now)
-        (bound_in code table.now rows crews.now out.now)
+    ensures { values.new ≡ by_yards (f_in (code_of aggregate) out.now)
+        (bound_in (code_of aggregate) table.now rows crews.now out.now)
         (elements_of list.now form) values.old }
 {
     let v = form.version;
     for k in 0..form.yards {
         let e = records::element(list, v, k);
         let y = e.yard;
-        let f = search_bounds::yards::f_of(out, code, e.distance);
-        let bound = search_bounds::yards::yard_bound(table, rows, crews, out, code, y, e.distance);
+        let f = search_bounds::yards::f_of(out, aggregate, e.distance);
+        let bound = search_bounds::yards::yard_bound(
+            table, rows, crews, out, aggregate, y, e.distance,
+        );
         let f_place = parts::f_at(y);
         let bound_place = parts::bound_at(y);
         values[f_place] = f;
@@ -78,7 +82,7 @@ pub fn open(
     table: &[u32],
     drives: &[u32],
     crews: &[u16],
-    code: u8,
+    aggregate: Aggregate,
     values: &mut [u32],
 )
     requires { IsDriven crews.now drives.now (u16_at tree.now at) × Rows table.now (landmark_count tree.now)
@@ -89,8 +93,8 @@ pub fn open(
         × (length values.old ≡ value_count) }
     ensures { (road : List ℕ) → Driven road crews.now drives.now
         → u16_at tree.now at < junctions road
-        → values.new ≡ by_yards (f_in code (to_crews road (u16_at tree.now at) crews.now))
-        (bound_in code table.now (landmark_count tree.now) crews.now
+        → values.new ≡ by_yards (f_in (code_of aggregate) (to_crews road (u16_at tree.now at) crews.now))
+        (bound_in (code_of aggregate) table.now (landmark_count tree.now) crews.now
         (to_crews road (u16_at tree.now at) crews.now))
         (list_at tree.now at yards) values.old }
 {
@@ -105,7 +109,7 @@ pub fn open(
         version: h.version,
         yards,
     };
-    fill(list, form, table, rows, crews, &out[..q], code, values);
+    fill(list, form, table, rows, crews, &out[..q], aggregate, values);
 }
 
 // The word of what stands among the f's: UNQUEUED for a yard that is not wanted.
@@ -133,18 +137,20 @@ fn word_of(h: Header, words: &[u64], values: &[u32], y: Junction) -> u64
     f_word(values[i])
 }
 
-// "Its list's elements leave by f .., then by place": the next of at least one.
-pub fn next_element(list: &[u8], yards: usize, h: Header, words: &[u64], values: &[u32]) -> Next
+// "Its list's elements leave by f .., then by place": the next of at least one, or none if none remains.
+pub fn next_element(
+    list: &[u8],
+    yards: usize,
+    h: Header,
+    words: &[u64],
+    values: &[u32],
+) -> Option<Next>
     requires { (1 ≤ yards) × (yards ≤ 65535) × (list_size h.version yards ≤ length list.now)
         × Near h.junctions (read_list h.version list.now yards 0)
         × (length words.now ≡ word_count h.regions h.junctions)
         × (h.junctions ≤ 1024) × (length values.now ≡ value_count) }
-    ensures { (result.place ≡ pick (words_of (fs_in h.junctions values.now)
-        (gone_in h.regions h.junctions words.now) (read_list h.version list.now yards 0))
-        yards)
-        × (result.f ≡ word_at (words_of (fs_in h.junctions values.now)
-        (gone_in h.regions h.junctions words.now) (read_list h.version list.now yards 0))
-        result.place) }
+    ensures { IsNext (fs_in h.junctions values.now) (gone_in h.regions h.junctions words.now)
+        (read_list h.version list.now yards 0) yards result }
 {
     let mut place: usize = 0;
     let v = h.version;
@@ -156,5 +162,8 @@ pub fn next_element(list: &[u8], yards: usize, h: Header, words: &[u64], values:
             f = w;
         }
     }
-    Next { place, f }
+    if f == UNQUEUED {
+        return None;
+    }
+    Some(Next { place, f })
 }

@@ -17,7 +17,7 @@ ghost use Rattle.search_leaf.specs.code.Ready.{Ready, Readied, Cached, Leafed};
 use search_held::Asked;
 use tree_layout::{Region, landmarks, records};
 
-// The place of the element that leaves next, and its f, or UNQUEUED if none remains.
+// The place of the element that leaves next, and its f.
 #[derive(Clone, Copy)]
 pub struct Next {
     pub place: usize,

@@ -5,19 +5,19 @@ ghost use Rattle.tree_layout.specs.Decode.{read_list};
 ghost use Rattle.search_rules.specs.Step.{again_key};
 ghost use Rattle.search_state.specs.code.State.{word_count, value_count};
 ghost use Rattle.search_leaf.specs.code.Leaves.{Near};
-ghost use Rattle.search_leaf.specs.code.Next.{leaf_queued};
+ghost use Rattle.search_leaf.specs.code.Next.{word_in, leaf_queued};
 
-use crate::{elements, parts};
+use crate::{Next, elements, parts};
 use tree_layout::{Header, Region, records};
 
 // The leaf's key when it is queued again: "if any remain, itself, with the greater of its first key and the next f".
-fn again_key(first: u64, next: u64) -> u64
-    ensures { result ≡ again_key first next }
+fn again_key(first: u64, next: Option<Next>) -> u64
+    ensures { result ≡ again_key first (word_in next) }
 {
-    if next == search_queue::UNQUEUED {
-        return search_queue::UNQUEUED;
+    match next {
+        None => search_queue::UNQUEUED,
+        Some(element) => first.max(element.f),
     }
-    first.max(next)
 }
 
 // "A leaf queues its next yard and, if any remain, itself": leaf r, by its landmark's list of so many yards. "A leaf
@@ -39,11 +39,10 @@ pub fn queue_next(
         r.number }
 {
     let first = words[parts::first_at(h, r)];
-    let next = elements::next_element(list, yards, h, words, values);
-    if next.f == search_queue::UNQUEUED {
+    let Some(next) = elements::next_element(list, yards, h, words, values) else {
         words[r.number as usize] = search_queue::UNQUEUED;
         return;
-    }
+    };
     let y = records::element(list, h.version, next.place).yard;
     let bound = u64::from(values[parts::bound_at(y)]);
     let gone_place = parts::gone_at(h, y);
@@ -51,5 +50,5 @@ pub fn queue_next(
     let key_place = parts::key_at(h, y);
     words[key_place] = bound.max(first);
     let after = elements::next_element(list, yards, h, words, values);
-    words[r.number as usize] = again_key(first, after.f);
+    words[r.number as usize] = again_key(first, after);
 }

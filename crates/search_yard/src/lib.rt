@@ -1,6 +1,7 @@
 #![tactic(auto)]
 // A yard is taken: it is measured, and held if the search's rule keeps it.
 ghost use Rattle.std.specs.Prelude.{◌≡◌, List, ◌∷◌, ℕ, ◌+◌, ◌≤◌, ◌<◌, length};
+ghost use Rattle.query.specs.Aggregates.{code_of};
 ghost use Rattle.search_rules.specs.Keeping.{keep_by};
 ghost use Rattle.search_rules.specs.Ceiling.{ceiling_by};
 ghost use Rattle.search_rules.specs.Theorems.{Sorted};
@@ -40,13 +41,13 @@ fn under_ceiling(
         × (length walked.old ≡ 1024) }
     ensures measures { (list : List ℕ) (road : List ℕ)
         → Measurable road adj.now crews.now drives.now y.number
-        → Measures road asked.aggregate crews.now
+        → Measures road (code_of asked.aggregate) crews.now
         (ceiling_by (rule_of asked.rule) (held_by (rule_of asked.rule) kept list)) y.number (measured_of result)
-        (yard_ways road asked.aggregate crews.now
+        (yard_ways road (code_of asked.aggregate) crews.now
         (ceiling_by (rule_of asked.rule) (held_by (rule_of asked.rule) kept list)) y.number) }
     ensures run { (list : List ℕ) (road : List ℕ)
         → Measurable road adj.now crews.now drives.now y.number
-        → measured_of result ≡ measure_yard road asked.aggregate crews.now
+        → measured_of result ≡ measure_yard road (code_of asked.aggregate) crews.now
         (ceiling_by (rule_of asked.rule) (held_by (rule_of asked.rule) kept list)) y.number }
 {
     let rule = asked.rule;
@@ -76,7 +77,7 @@ pub fn take(
     ensures held { (road : List ℕ)
         → Measurable road adj.now crews.now drives.now y.number
         → held_by (rule_of asked.rule) result.kept list.new ≡ keep_by (rule_of asked.rule)
-        (entry_on road asked.aggregate crews.now y.number)
+        (entry_on road (code_of asked.aggregate) crews.now y.number)
         (held_by (rule_of asked.rule) progress.kept list.old) }
     ensures room { Fits (rule_of asked.rule) result.kept
         × (count_by (rule_of asked.rule) result.kept ≤ result.measured) }

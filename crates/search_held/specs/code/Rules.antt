@@ -1,5 +1,6 @@
 -- A search's rule as the code has it, and what is kept by it. Assumes nothing: these are definitions.
 use Rattle.std.specs.Prelude.{List, ℕ, ◌≤◌}
+use Rattle.query.specs.Aggregates.{code_of}
 use Rattle.search_rules.specs.Rule.{Rule, nearest, in_drive, Asking}
 use Rattle.search_rules.specs.Order.{Entry}
 use Rattle.search_first.specs.code.Held.{held_of}
@@ -16,7 +17,7 @@ rule_of (InDrive seconds) = in_drive seconds
 
 -- what a search asks for, as the definition has it
 abbrev pub asking_of : Asked → Asking
-asking_of a = record { code = a.aggregate; rule = rule_of a.rule; wanted = a.wanted }
+asking_of a = record { code = code_of a.aggregate; rule = rule_of a.rule; wanted = a.wanted }
 
 -- the held yards: of the first k those of the struct, of a drive those of the words
 abbrev pub held_by : Rule → Kept → List ℕ → List Entry

@@ -7,9 +7,9 @@ use Rattle.search_measure.specs.code.Cases.{budget_of, Steers}
 use Rattle.search_measure.proofs.Along.{Along}
 use Rattle.search_measure.proofs.way.Given as goal
 
-abbrev pub invariant-loop-ceiling : goal.invariant-loop-ceiling
-invariant-loop-ceiling l = (length l.walked ≡ 1024)
-    × ((road : List ℕ) → Steers road l.adj l.row l.q → l.initial.v < count_in l.adj → Along road (budget_of l.code l.spent l.ceiling) l.q l.initial.v l.walked l.v l.t l.n)
+abbrev pub invariant-walking : goal.invariant-walking
+invariant-walking l = (length l.walked ≡ 1024)
+    × ((road : List ℕ) → Steers road l.adj l.row l.q → l.initial.v < count_in l.adj → Along road (budget_of l.aggregate l.spent l.ceiling) l.q l.initial.v l.walked l.v l.t l.n)
 
-abbrev pub decreases-loop-ceiling : goal.decreases-loop-ceiling
-decreases-loop-ceiling l = 1024 - l.n
+abbrev pub decreases-walking : goal.decreases-walking
+decreases-walking l = 1024 - l.n

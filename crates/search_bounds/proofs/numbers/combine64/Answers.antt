@@ -1,9 +1,8 @@
-use mathlib.Core.Path.{◌∙◌}
-use Rattle.search_rules.proofs.Equations.{combine-sum, combine-max}
+use Rattle.search_bounds.proofs.Combining.{combined-sum, combined-most}
 use Rattle.search_bounds.proofs.numbers.combine64.Goals as goal
 
-pub returns-then-code-eq0 : goal.returns-then-code-eq0
-returns-then-code-eq0 c = combine-sum _ _ _ c.if-code-eq0.true
+pub returns-in-Sum : goal.returns-in-Sum
+returns-in-Sum c = combined-sum _ _ _ c.in-Sum.is
 
-pub returns-else-code-eq0 : goal.returns-else-code-eq0
-returns-else-code-eq0 c = c.max.ensures ∙ combine-max _ _ _ c.if-code-eq0.false
+pub returns-in-Furthest : goal.returns-in-Furthest
+returns-in-Furthest c = combined-most _ _ _ _ c.in-Furthest.is c.max.ensures

@@ -22,7 +22,7 @@ pub loop-j-preserved : goal.loop-j-preserved
 loop-j-preserved c =
     let i = c.loop-j.invariant in
     let e = c.mark_weight-w.ensures in
-    elim c.if-best-w.branch [ then-best-w w ↦ rw (w.p-is, w.best-is) (picked_greater _ _ _ _ _ i e w.if-best-w.true) | else-best-w w ↦ rw (w.p-is, w.best-is) (picked_same _ _ _ _ _ i e w.if-best-w.false) ]
+    elim c.if-best-w.branch [ then-best-w w ↦ rw (w.p-is, w.best-is) (picked_greater _ _ _ _ _ i e (omega (arith, w.if-best-w.true))) | else-best-w w ↦ rw (w.p-is, w.best-is) (picked_same _ _ _ _ _ i e (omega (arith, w.if-best-w.false))) ]
 
 pub returns : goal.returns
 returns c =

@@ -1,7 +1,9 @@
+use mathlib.Core.Path.{sym, ◌∙◌}
 use native.Mathlib.Omega.{arith}
 use Rattle.search_leaf.proofs.Scanning.{words_by, scanned_first, scanned_on, scanned_still, scanned_all}
 use Rattle.search_leaf.proofs.Numbering.{element-fits}
 use Rattle.search_leaf.proofs.Filling.{yard-near}
+use Rattle.search_leaf.proofs.Nexts.{next_word_lem}
 use Rattle.search_leaf.proofs.elements.next_element.Goals.{then-w-f, else-w-f}
 use Rattle.search_leaf.proofs.elements.next_element.Goals as goal
 
@@ -30,5 +32,12 @@ loop-k-preserved c =
     let e = words_by _ _ _ _ _ l.k _ _ c.loop-k-test.true c.element-in-loop-k.ensures c.word_of-w.ensures in
     elim c.if-w-f.branch [ then-w-f w ↦ scanned_on l.invariant _ e _ _ w.place-is w.f-is (omega (arith, w.if-w-f.true)) | else-w-f w ↦ scanned_still l.invariant _ e _ _ w.place-is w.f-is (omega (arith, w.if-w-f.false)) ]
 
+pub returns-then-f : goal.returns-then-f
+returns-then-f c =
+    let s = scanned_all _ c.args.yards _ _ _ c.loop-k.invariant (omega arith) (omega arith) in
+    sym c.if-f.true ∙ next_word_lem _ _ _ _ _ _ s.0 s.1
+
 pub returns : goal.returns
-returns c = scanned_all _ _ _ _ _ c.loop-k.invariant (omega arith) (omega arith)
+returns c =
+    let s = scanned_all _ c.args.yards _ _ _ c.loop-k.invariant (omega arith) (omega arith) in
+    (s.0, next_word_lem _ _ _ _ _ _ s.0 s.1, λ e. omega (arith, e, c.if-f.false))

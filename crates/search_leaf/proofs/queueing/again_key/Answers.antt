@@ -2,8 +2,8 @@ use native.Mathlib.Omega.{arith}
 use Rattle.search_leaf.proofs.Nexts.{again_end, again_on}
 use Rattle.search_leaf.proofs.queueing.again_key.Goals as goal
 
-pub returns-then-next-eq-UNQUEUED : goal.returns-then-next-eq-UNQUEUED
-returns-then-next-eq-UNQUEUED c = again_end _ _ c.if-next-eq-UNQUEUED.true
+pub returns-in-None : goal.returns-in-None
+returns-in-None c = again_end _ _ c.in-None.is
 
-pub returns : goal.returns
-returns c = again_on _ _ _ c.if-next-eq-UNQUEUED.false (omega arith) c.max.ensures
+pub returns-in-Some : goal.returns-in-Some
+returns-in-Some c = again_on _ _ _ _ c.in-Some.is (omega arith) (omega arith) c.max.ensures
