@@ -1,26 +1,22 @@
-use mathlib.Core.Path.{◌∙◌}
-use native.Mathlib.Omega.{arith}
-use Rattle.text.proofs.Appending.{append-whole}
+use borrow.Author.Rules.{rules}
+use mathlib.Core.Path.{ap, ◌∙◌}
+use mathlib.Core.List.{List, ◌++◌}
+use Prim.Native.Nat.{ℕ}
 use Rattle.eccentricity.proofs.Printing.{refused-is, none-refused, table_is}
 use Rattle.eccentricity.proofs.report.Goals as goal
 
-pub returns-in_default : goal.returns-in_default
-returns-in_default c =
-    let p = c.put_refused.ensures in record {
-      text = append-whole p.added ∙ refused-is _ _ c.read-o.ensures.answer _ _ c.in_default.is c.number.ensures;
-      fits = omega (arith, p.short);
-    }
+pub returns-in_default-clause-text : goal.returns-in_default-clause-text
+returns-in_default-clause-text g c =
+    c.put_refused.ensures.added
+    ∙ ap (λ (l : List ℕ). c.args.out.now ++ l) (refused-is _ _ c.read-o.ensures.answer _ _ c.in_default.is c.number.ensures)
 
 pub rows-requires : goal.rows-requires
-rows-requires c =
+rows-requires g c =
     let r = c.read-o.ensures in
-    (record { book = _; adjacent = r.adjacency (none-refused _ _ r.answer _ _ c.in-Sound.is) }, c.requires)
+    (search rules, (record { book = _; adjacent = r.adjacency (none-refused _ _ r.answer _ _ c.in-Sound.is) }, c.requires))
 
-pub returns : goal.returns
-returns c =
+pub returns-clause-text : goal.returns-clause-text
+returns-clause-text g c =
     let r = c.read-o.ensures in
-    let w = c.rows.ensures in
-    let sound = c.in-Sound.is in record {
-      text = w.text _ (r.adjacency (none-refused _ _ r.answer _ _ sound)) ∙ table_is _ _ r.answer _ _ sound;
-      fits = w.fits;
-    }
+    let sound = c.in-Sound.is in
+    c.rows.ensures.text _ (r.adjacency (none-refused _ _ r.answer _ _ sound)) ∙ ap (λ (l : List ℕ). c.args.out.now ++ l) (table_is _ _ r.answer _ _ sound)
