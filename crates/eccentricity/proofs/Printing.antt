@@ -3,12 +3,10 @@ use mathlib.Core.Path.{◌≡◌, sym, ap, ◌∙◌}
 use mathlib.Core.List.{List, ◌++◌}
 use Prim.Native.Nat.{ℕ}
 use native.Mathlib.Omega.{arith}
-use lib.ListN.{take}
 use lib.Dec.{eqb}
 use Rattle.book.proofs.Choosing.{choose_yes, choose_no}
 use Rattle.book.proofs.Lists.{eq→eqb, ne→neqb}
-use Rattle.text.specs.Text.{in_turn, refused_text, Appended}
-use Rattle.text.proofs.Appending.{append_as, append_then, append-whole}
+use Rattle.text.specs.Text.{in_turn, refused_text}
 use Rattle.road_layout.specs.Road.{junctions, road_count}
 use Rattle.road_layout.specs.Layout.{Sound, Refused, told}
 use Rattle.adjacency.specs.Arcs.{net}
@@ -40,8 +38,3 @@ module _ (b : List ℕ) where
     pub table_is : heading ++ in_turn (row_text b) (junctions b) ≡ eccentricity_text b
     unfolding eccentricity_text
     table_is = sym (choose_yes (eqb (road_refusal b) 0) _ _ (eq→eqb (road_refusal b) 0 none-refused))
-
--- the heading, and the rows of all junctions
-pub table_held : (b : List ℕ) {old mid out : List ℕ} {j k u : ℕ} → Appended old 0 heading mid j → Appended mid j (in_turn (row_text b) u) out k
-    → u ≡ junctions b → take k out ≡ heading ++ in_turn (row_text b) (junctions b)
-table_held b p q e = append-whole (append_then p (append_as (ap (λ (n : ℕ). in_turn (row_text b) n) e) q))

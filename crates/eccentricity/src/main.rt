@@ -1,8 +1,8 @@
 #![tactic(auto)]
 // Reads a road book from standard input, and writes for each junction its greatest distance to any junction and the sum
 // of its distances to all. The whole text is made first, and then written.
-ghost use Rattle.std.specs.Prelude.{◌≡◌, List, ◌++◌, ℕ, ◌+◌, ◌≤◌, ◌<◌, max, length, take};
-ghost use Rattle.text.specs.Text.{in_turn, Appended};
+ghost use Rattle.std.specs.Prelude.{◌≡◌, List, ◌++◌, ℕ, ◌+◌, ◌≤◌, ◌<◌, max, length};
+ghost use Rattle.text.specs.Text.{in_turn};
 ghost use Rattle.road_layout.specs.Road.{junctions};
 ghost use Rattle.adjacency.specs.Adjacency.{count_in, Adjacency, IsAdjacency};
 ghost use Rattle.eccentricity.specs.Rows.{furthest_of, row_total};
@@ -10,6 +10,7 @@ ghost use Rattle.eccentricity.specs.Output.{heading, row_text, eccentricity_text
 
 use book::Junction;
 use streams::Read;
+use text::Text;
 
 fn wide(x: u32) -> u64
     ensures { (result ≡ x) × (result < 4294967296) }
@@ -52,47 +53,43 @@ fn total(ds: &[u32], n: usize) -> u64
 }
 
 // Puts junction u's row.
-fn row(out: &mut [u8], at: usize, adj: &[u16], u: u16) -> usize
-    requires { IsAdjacency adj.now × (u < count_in adj.now) × (at + 63 ≤ length out.old) }
-    ensures added { (b : List ℕ) → Adjacency b adj.now
-        → Appended out.old at (row_text b u) out.new result }
-    ensures short { result ≤ at + 63 }
+fn row<const N: usize>(out: &mut Text<N>, adj: &[u16], u: u16)
+    requires { IsAdjacency adj.now × (u < count_in adj.now) × (length out.old + 63 ≤ N) }
+    ensures added { (b : List ℕ) → Adjacency b adj.now → out.new ≡ out.old ++ row_text b u }
+    ensures short { length out.new ≤ length out.old + 63 }
 {
     let mut ds = [0u32; 1024];
     road::walk::distances(adj, &mut ds, Junction { number: u });
     let n = adjacency::junctions(adj) as usize;
-    let first = text::put_number(out, at, u as u64, b" ");
-    let second = text::put_number(out, first, furthest(&ds, n), b" ");
-    text::put_number(out, second, total(&ds, n), b"\n")
+    out.put_number(u as u64, b" ");
+    out.put_number(furthest(&ds, n), b" ");
+    out.put_number(total(&ds, n), b"\n");
 }
 
 // Puts a line of names, and a row for each junction, in order.
-fn rows(out: &mut [u8], adj: &[u16]) -> usize
-    requires { IsAdjacency adj.now × (65536 ≤ length out.old) }
+#[tactic(auto, using(text::proofs::Appending::turns))]
+fn rows<const N: usize>(out: &mut Text<N>, adj: &[u16])
+    requires { IsAdjacency adj.now × (length out.old + 65536 ≤ N) }
     ensures text { (b : List ℕ) → Adjacency b adj.now
-        → take result out.new ≡ heading ++ in_turn (row_text b) (junctions b) }
-    ensures fits { result ≤ 65536 }
+        → out.new ≡ out.old ++ (heading ++ in_turn (row_text b) (junctions b)) }
+    ensures fits { length out.new ≤ length out.old + 65536 }
 {
-    let n = adjacency::junctions(adj);
-    let mut end = text::put(out, 0, b"junction furthest total\n");
-    let mut u: u16 = 0;
-    while u < n {
-        end = row(out, end, adj, u);
-        u += 1;
+    out.put(b"junction furthest total\n");
+    for u in 0..adjacency::junctions(adj) {
+        row(out, adj, u);
     }
-    end
 }
 
-// Makes the text that a road book's bytes lead to, at the start of an array, and answers its length.
-fn report(b: &[u8], out: &mut [u8]) -> usize
-    requires { 65536 ≤ length out.old }
-    ensures text { take result out.new ≡ eccentricity_text b.now }
-    ensures fits { result ≤ 65536 }
+// Puts the text that a road book's bytes lead to.
+fn report<const N: usize>(b: &[u8], out: &mut Text<N>)
+    requires { length out.old + 65536 ≤ N }
+    ensures text { out.new ≡ out.old ++ eccentricity_text b.now }
+    ensures fits { length out.new ≤ length out.old + 65536 }
 {
     let mut adj = [0u16; adjacency::WORDS];
     match road::read(b, &mut adj) {
         Ok(_) => rows(out, &adj),
-        Err(why) => text::put_refused(out, 0, why.number() as u32),
+        Err(why) => out.put_refused(why.number() as u32),
     }
 }
 
@@ -101,7 +98,7 @@ fn main(rt: HostRuntime) {
     let Read::Bytes(n) = streams::read_input(&rt, &mut rt.stdin(), &mut input) else {
         return;
     };
-    let mut out = [0u8; 65536];
-    let end = report(&input[..n], &mut out);
-    streams::write_output(&rt, &mut rt.stdout(), &out[..end]);
+    let mut out: Text<65536> = Text::new();
+    report(&input[..n], &mut out);
+    streams::write_output(&rt, &mut rt.stdout(), out.as_bytes());
 }

@@ -1,14 +1,14 @@
 #![tactic(auto)]
 // The paper's examples that are not starred, executed: a line for each, with what a search by its books answers. The
 // starred ones are proved, as the rows of one result (specs/Starred.antt).
-ghost use Rattle.std.specs.Prelude.{◌≡◌, ◌∷◌, [], ◌+◌, ◌*◌, ◌≤◌, ◌<◌, length};
-ghost use Rattle.text.specs.Text.{Appended};
+ghost use Rattle.std.specs.Prelude.{◌≡◌, ◌∷◌, [], ◌++◌, ◌+◌, ◌*◌, ◌≤◌, ◌<◌, length};
 ghost use Rattle.std.proofs.Math.Option.{none};
 ghost use Rattle.search_call.specs.Call.{want_any, search_refusal};
 ghost use Rattle.examples.specs.Books.{road_n, tree_n, asking};
 ghost use Rattle.examples.specs.Output.{example_line};
 
 use search_tree::{Goal, Want};
+use text::Text;
 
 // Net N's road book.
 fn road_n() -> [u8; 33]
@@ -110,74 +110,61 @@ fn junctions(n: u16) -> u32
 }
 
 // Net N and the listing's query with n crews, all at junction 0.
-fn crews(n: u8) -> u32
+fn crews(n: u16) -> u32
     requires { n ≤ 17 }
 {
     let road = road_n();
     let tree = tree_n();
     let mut query = [0u8; 46];
-    query[3] = 8 + 2 * n;
+    query[3] = 8 + 2 * (n as u8);
     query[4] = 1;
     query[6] = 2;
     query[10] = 6;
-    query[11] = n;
+    query[11] = n as u8;
     let end = 12 + 2 * (n as usize);
     refusal(&road, &tree, &query[..end])
 }
 
 // Puts an example's line: a name, the number that was tried, and what the search answers.
-fn line(out: &mut [u8], at: usize, name: &[u8], n: u16, then: &[u8], why: u32) -> usize
-    requires { (length name.now ≤ 20) × (length then.now ≤ 20) × (at + 100 ≤ length out.old) }
-    ensures added { Appended out.old at (example_line name.now n then.now why)
-        out.new result }
-    ensures short { result ≤ at + 100 }
+#[tactic(auto, using(crate::proofs::Printing::lines))]
+fn line<const N: usize>(out: &mut Text<N>, name: &[u8], n: u16, then: &[u8], why: u32)
+    requires { (length name.now ≤ 20) × (length then.now ≤ 20) × (length out.old + 100 ≤ N) }
+    ensures added { out.new ≡ out.old ++ example_line name.now n then.now why }
+    ensures short { length out.new ≤ length out.old + 100 }
 {
-    let first = text::put(out, at, name);
-    let second = text::put_number(out, first, n as u64, then);
+    out.put(name);
+    out.put_number(n as u64, then);
     if why == 0 {
-        return text::put(out, second, b"accepted\n");
+        out.put(b"accepted\n");
+    } else {
+        out.put_refused(why);
     }
-    text::put_refused(out, second, why)
 }
 
-// Each example's line has the number that it tries.
-fn put_seconds(out: &mut [u8], at: usize, s: u16) -> usize
-    requires { at + 100 ≤ length out.old }
-    ensures { result ≤ at + 100 }
+// Puts the line of an example, which has the number that it tries.
+fn put_tried<const N: usize, F: Fn(u16) -> u32>(
+    out: &mut Text<N>,
+    name: &[u8],
+    n: u16,
+    then: &[u8],
+    tried: F,
+)
+    requires { F.pre tried n × (length name.now ≤ 20) × (length then.now ≤ 20)
+        × (length out.old + 100 ≤ N) }
+    ensures { length out.new ≤ length out.old + 100 }
 {
-    line(out, at, b"seconds ", s, b": ", seconds(s))
-}
-
-fn put_no_road(out: &mut [u8], at: usize, n: u16) -> usize
-    requires { at + 100 ≤ length out.old }
-    ensures { result ≤ at + 100 }
-{
-    line(out, at, b"junctions ", n, b", no road: ", no_road(n))
-}
-
-fn put_junctions(out: &mut [u8], at: usize, n: u16) -> usize
-    requires { (5 ≤ n) × (n ≤ 1025) × (at + 100 ≤ length out.old) }
-    ensures { result ≤ at + 100 }
-{
-    line(out, at, b"junctions ", n, b": ", junctions(n))
-}
-
-fn put_crews(out: &mut [u8], at: usize, n: u8) -> usize
-    requires { (n ≤ 17) × (at + 100 ≤ length out.old) }
-    ensures { result ≤ at + 100 }
-{
-    line(out, at, b"crews ", n as u16, b": ", crews(n))
+    line(out, name, n, then, tried(n));
 }
 
 fn main(rt: HostRuntime) {
-    let mut out = [0u8; 4096];
-    let mut end = put_seconds(&mut out, 0, 0);
-    end = put_seconds(&mut out, end, 65535);
-    end = put_junctions(&mut out, end, 1024);
-    end = put_no_road(&mut out, end, 0);
-    end = put_junctions(&mut out, end, 1025);
-    end = put_no_road(&mut out, end, 2);
-    end = put_crews(&mut out, end, 16);
-    end = put_crews(&mut out, end, 17);
-    streams::write_output(&rt, &mut rt.stdout(), &out[..end]);
+    let mut out: Text<4096> = Text::new();
+    put_tried(&mut out, b"seconds ", 0, b": ", seconds);
+    put_tried(&mut out, b"seconds ", 65535, b": ", seconds);
+    put_tried(&mut out, b"junctions ", 1024, b": ", junctions);
+    put_tried(&mut out, b"junctions ", 0, b", no road: ", no_road);
+    put_tried(&mut out, b"junctions ", 1025, b": ", junctions);
+    put_tried(&mut out, b"junctions ", 2, b", no road: ", no_road);
+    put_tried(&mut out, b"crews ", 16, b": ", crews);
+    put_tried(&mut out, b"crews ", 17, b": ", crews);
+    streams::write_output(&rt, &mut rt.stdout(), out.as_bytes());
 }

@@ -1,6 +1,6 @@
 -- What writing an outline asks of the arrays that reading a tree book fills in, and what is then written. Assumes nothing.
 use mathlib.Core.Path.{◌≡◌, refl, sym, ap, ◌∙◌}
-use mathlib.Core.List.{List, ◌++◌}
+use mathlib.Core.List.{List, ◌++◌, append_assoc}
 use Prim.Native.Nat.{ℕ, ◌≤◌, ◌<◌}
 use native.Mathlib.Omega.{arith}
 use lib.ListN.{length, take, get_or}
@@ -58,7 +58,7 @@ module _ (b : List ℕ) (h : Header) (read : Shaped h ≡ tree_of b) where
     }
 
   -- the text of a book that is read
-  pub shaped_text : header_text h ++ in_turn (region_text b) h.regions ≡ outline_text b
+  pub shaped_text : outline_text b ≡ header_text h ++ in_turn (region_text b) h.regions
   unfolding outline_text
   shaped_text =
       let same = (shaped-found b h read).1 in
@@ -86,21 +86,24 @@ region_is b places ends i level f k h e l v w =
 
 -- ---- by the version
 
-pub columns_plain : (v : ℕ) → v ≡ 1 → columns ≡ columns_of v
+pub columns_plain : (v : ℕ) → v ≡ 1 → columns_of v ≡ columns
 unfolding columns_of
-columns_plain v e = sym (choose_yes (eqb v 1) columns columns_kinds (eq→eqb v 1 e))
+columns_plain v e = choose_yes (eqb v 1) columns columns_kinds (eq→eqb v 1 e)
 
-pub columns-kinds : (v : ℕ) → (v ≡ 1 → ⊥) → columns_kinds ≡ columns_of v
+pub columns-kinds : (v : ℕ) → (v ≡ 1 → ⊥) → columns_of v ≡ columns_kinds
 unfolding columns_of
-columns-kinds v n = sym (choose_no (eqb v 1) columns columns_kinds (ne→neqb v 1 n))
+columns-kinds v n = choose_no (eqb v 1) columns columns_kinds (ne→neqb v 1 n)
 
-pub end_plain : (v yards kinds : ℕ) → v ≡ 1 → decimal yards ++ line_end ≡ line_end_of v yards kinds
+pub end_plain : (v yards kinds : ℕ) → v ≡ 1 → line_end_of v yards kinds ≡ decimal yards ++ line_end
 unfolding line_end_of
-end_plain v yards kinds e = sym (choose_yes (eqb v 1) _ _ (eq→eqb v 1 e))
+end_plain v yards kinds e = choose_yes (eqb v 1) _ _ (eq→eqb v 1 e)
 
-pub end-kinds : (v yards kinds : ℕ) → (v ≡ 1 → ⊥) → (decimal yards ++ space) ++ (decimal kinds ++ line_end) ≡ line_end_of v yards kinds
+pub end-kinds : (v yards kinds : ℕ) → (v ≡ 1 → ⊥) → line_end_of v yards kinds ≡ (decimal yards ++ space) ++ (decimal kinds ++ line_end)
 unfolding line_end_of
-end-kinds v yards kinds n = sym (choose_no (eqb v 1) _ _ (ne→neqb v 1 n))
+end-kinds v yards kinds n = choose_no (eqb v 1) _ _ (ne→neqb v 1 n)
+
+-- what the version decides, in a text that is appended to
+pub ruleset by_version = (columns_plain, columns-kinds, end_plain, end-kinds, append_assoc)
 
 -- a book that is known has a version byte
 pub five : (b places ends : List ℕ) → Known b places ends → 5 ≤ length b

@@ -1,32 +1,30 @@
-use mathlib.Core.Path.{◌∙◌}
+use mathlib.Core.Path.{◌≡◌, ap, ◌∙◌}
+use mathlib.Core.List.{List, ◌++◌, append_assoc}
+use Prim.Native.Nat.{ℕ}
 use native.Mathlib.Omega.{arith}
 use Rattle.adjacency.proofs.Linking.{few-junctions}
-use Rattle.text.proofs.Appending.{append_as, append_then}
 use Rattle.eccentricity.specs.Output.{line_of}
 use Rattle.eccentricity.proofs.Printing.{row_is}
 use Rattle.eccentricity.proofs.row.Goals as goal
 
 pub furthest-requires : goal.furthest-requires
-furthest-requires c =
+furthest-requires g c =
     let few = few-junctions c.requires.0.adjacent in
     omega (arith, few, c.junctions-n.ensures, c.distances.auto)
 
 pub total-requires : goal.total-requires
-total-requires c =
+total-requires g c =
     let few = few-junctions c.requires.0.adjacent in
     let e = c.junctions-n.ensures in
     (omega (arith, few, e, c.distances.auto), omega (arith, few, e))
 
-pub returns : goal.returns
+pub returns-clause-added : goal.returns-clause-added
 unfolding line_of
-returns c =
-    let p = c.put_number-first.ensures in
-    let q = c.put_number-second.ensures in
-    let r = c.put_number.ensures in
-    let d = c.distances.ensures.row in
-    let n = c.junctions-n.ensures in record {
-      added = λ b ad.
-          append_as (row_is b _ _ _ _ _ (d b ad) (n ∙ ad.count) c.furthest.ensures c.total.ensures)
-          (append_then (append_then p.added q.added) r.added);
-      short = omega (arith, p.short, q.short, r.short);
-    }
+returns-clause-added g c =
+    let line : c.put_number-3.new.self ≡ c.args.out.now ++ line_of c.args.u c.furthest.result c.total.result =
+    simp (c.put_number-3.ensures.added, c.put_number-2.ensures.added, c.put_number.ensures.added, append_assoc)
+    in
+    λ b ad.
+    line
+    ∙ ap (λ (l : List ℕ). c.args.out.now ++ l)
+    (row_is b _ _ _ _ _ (c.distances.ensures.row b ad) (c.junctions-n.ensures ∙ ad.count) c.furthest.ensures c.total.ensures)

@@ -1,55 +1,21 @@
 use borrow.Author.Rules.{rules}
-use mathlib.Core.Path.{◌≡◌, refl, ◌∙◌}
+use mathlib.Core.Path.{ap, ◌∙◌}
 use native.Mathlib.Omega.{arith}
-use Rattle.road_layout.specs.Road.{junctions}
+use lib.ListN.{length, length-append}
 use Rattle.adjacency.proofs.Linking.{few-junctions}
-use Rattle.text.proofs.Appending.{turns_none, turns_more}
-use Rattle.eccentricity.specs.Output.{row_text}
-use Rattle.eccentricity.proofs.Printing.{table_held}
+use Rattle.eccentricity.specs.Output.{heading}
 use Rattle.eccentricity.proofs.rows.Goals as goal
 
-pub loop-u-init : goal.loop-u-init
-loop-u-init c = (search rules, refl, omega arith, λ b ad. turns_none _ _ _)
+pub row-requires : goal.row-requires
+row-requires g c =
+    let few = few-junctions c.requires.0.adjacent in
+    let n = c.junctions-u-end.ensures in
+    let names = ap length c.put.ensures ∙ length-append c.args.out.now heading in
+    (search rules, (c.requires.0, omega (arith, n), omega (arith, n, few, names, c.loop-u.invariant.0, c.requires.1)))
 
-pub row-end-requires : goal.row-end-requires
-row-end-requires c =
-    let p = c.requires in
-    let l = c.loop-u in
-    let few = few-junctions p.0.adjacent in
-    let n = c.junctions-n.ensures in
-    let h = c.put-end in (
-      p.0,
-      omega (arith, n, c.loop-u-test.true),
-      omega (
-        arith,
-        few,
-        n,
-        c.loop-u-test.true,
-        l.invariant.1,
-        l.invariant.2,
-        h.ensures.after,
-        h.auto.out,
-        p.1,
-      ),
-    )
-
-pub loop-u-preserved : goal.loop-u-preserved
-loop-u-preserved c =
-    let l = c.loop-u in
-    let w = c.row-end in
-    (omega arith, w.auto.out ∙ l.invariant.1, omega (arith, l.invariant.2, w.ensures.short), λ b ad. turns_more (row_text b) (l.invariant.3 b ad) (w.ensures.added b ad))
-
-pub shape_of-out : goal.shape_of-out
-shape_of-out c = c.loop-u.invariant.1 ∙ c.put-end.auto.out
-
-pub returns : goal.returns
-returns c =
-    let l = c.loop-u in
-    let n = c.junctions-n.ensures in
-    let h = c.put-end.ensures in
-    let few = few-junctions c.requires.0.adjacent in record {
-      text = λ b ad.
-          let all : l.u ≡ junctions b = omega (arith, c.loop-u-test.false, l.invariant.0, n, ad.count) in
-          table_held b h (l.invariant.3 b ad) all;
-      fits = omega (arith, few, n, l.invariant.0, l.invariant.2, h.after);
-    }
+pub returns-clause-fits : goal.returns-clause-fits
+returns-clause-fits g c =
+    let few = few-junctions c.requires.0.adjacent in
+    let n = c.junctions-u-end.ensures in
+    let names = ap length c.put.ensures ∙ length-append c.args.out.now heading in
+    omega (arith, n, few, names, c.loop-u.invariant.0)
