@@ -21,6 +21,7 @@ use Rattle.search_rules.proofs.Asked.{asked-rule, asked_covers, asked-count}
 use Rattle.search_rules.proofs.Few.{answer-few}
 use Rattle.search_rules.proofs.Theorems.{answer-spent, listed-few}
 use Rattle.search_call.specs.Call.{Want, want_nearest, want_within, asking_by, most_yards, Found, refused, accepted, search_refusal, search_in, search_answer, search_found}
+use Rattle.search_call.specs.code.Accepted.{AcceptedSearch}
 use Rattle.search_call.proofs.Calls.{tests, found-accepted, found-refused}
 
 -- no more yards are listed than the result area must hold: k, or the tree's
@@ -62,16 +63,17 @@ module _ (road tree query : List ℕ) (want : Want) (work results : ℕ) where
           omega (arith, ap (λ (f : Found). f.listed) (found-accepted road tree query want work results e), few e)
       go (inr t) = omega (arith, ap (λ (f : Found). f.listed) (found-refused road tree query want work results (neqb→ne why 0 t)))
 
+-- of an accepted call whose tree book is of bytes
+pub accepted-room : (road tree query : List ℕ) → Bytes tree → (want : Want) (work results : ℕ) → AcceptedSearch road tree query want work results
+    → 2 * length (search_answer road tree query want).listed ≤ results
+accepted-room road tree query bytes want work results c = go (T-split (search_answer road tree query want).settled)
+  where
+    go : T (search_answer road tree query want).settled ⊎ T (not (search_answer road tree query want).settled)
+        → 2 * length (search_answer road tree query want).listed ≤ results
+    go (inl t) = omega (arith, listed-most road tree query want (c.books bytes) t, c.results-full)
+    go (inr t) = omega (arith, ap length (answer-spent (search_in road tree query want) (limit_of query) t).0)
+
 -- of any search whose tree book is of bytes
 pub drive-fits : (road tree query : List ℕ) → Bytes tree → (want : Want) (work results : ℕ) → 2 * (search_found road tree query want work results).listed ≤ results
-drive-fits road tree query bytes want work results = fits_by road tree query want work results few
-  where
-    few : search_refusal road tree query want work results ≡ 0 → 2 * length (search_answer road tree query want).listed ≤ results
-    few e = go (T-split (search_answer road tree query want).settled)
-      where
-        go : T (search_answer road tree query want).settled ⊎ T (not (search_answer road tree query want).settled)
-            → 2 * length (search_answer road tree query want).listed ≤ results
-        go (inl t) =
-            let c = tests road tree query want work results e in
-            omega (arith, listed-most road tree query want (c.books bytes) t, c.results-full)
-        go (inr t) = omega (arith, ap length (answer-spent (search_in road tree query want) (limit_of query) t).0)
+drive-fits road tree query bytes want work results =
+    fits_by road tree query want work results (λ e. accepted-room road tree query bytes want work results (tests road tree query want work results e))

@@ -1,2 +1,1 @@
-pub mod InWords
 pub mod Keeping

@@ -1,4 +1,3 @@
-pub mod Ordering
-pub mod Pairing
 pub mod Inserting
 pub mod Writing
+pub mod Counting

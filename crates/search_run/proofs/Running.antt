@@ -19,7 +19,6 @@ use Rattle.search_rules.specs.Run.{Outcome as Ended, run, answer}
 use Rattle.search_rules.proofs.Equations.{search_of_lem}
 use Rattle.search_rules.proofs.Theorems.{decided}
 use Rattle.search_rules.proofs.Turns.{run_on}
-use Rattle.search_held.specs.code.Rules.{held_by, count_by, Fits}
 use Rattle.search_state.specs.code.State.{word_count, value_count, picks_in, fs_in, bounds_in, state_of, settled_by}
 use Rattle.search_state.proofs.Cells.{part-all}
 use Rattle.search_state.proofs.Choosing.{picked-word}
@@ -39,19 +38,14 @@ pub record Runs (i : Instance) (r n : ℕ) (words values : List ℕ) (st : Searc
   pub is : st ≡ (run i taken).state
   pub counts : taken ≡ (run i taken).taken
 
--- what the steps change: of the search by every road book beside which it is ready, and within the limit and the room
-pub record Steps (tree : List ℕ) (a : Asking) (crews drives places table : List ℕ) (limit room : ℕ) (words values list measured : List ℕ)
-    (progress : Progress) (taken : ℕ) : Type 0 where
+-- what the steps change: of the search by every road book beside which it is ready, and within the limit
+pub record Steps (tree : List ℕ) (a : Asking) (crews drives places table : List ℕ) (limit : ℕ) (words values : List ℕ) (progress : Progress)
+    (taken : ℕ) : Type 0 where
   pub size : length words ≡ word_count (length places) (junction_count tree)
   pub value-size : length values ≡ value_count
-  pub same : length measured ≡ room
-  pub list-size : length list ≡ 768
   pub runs : (road : List ℕ) → Ready road tree a crews drives places table
       → Runs (search_of road tree a crews) (length places) (junction_count tree) words values
-      (state_of (length places) (junction_count tree) words (held_by a.rule progress.kept list) measured progress.measured) taken
-  pub few : Fits a.rule progress.kept
-  pub low : count_by a.rule progress.kept ≤ progress.measured
-  pub most : progress.measured ≤ 256
+      (state_of (length places) (junction_count tree) words progress.kept progress.yards progress.measured) taken
   pub within : taken ≤ limit
 
 -- the queue's words are the first ones
@@ -62,9 +56,9 @@ pub least_of_lem : (r n : ℕ) (ws : List ℕ) (queue p : ℕ) → queue ≡ r +
     → p ≡ pick (take queue ws) (length (take queue ws)) → FirstLeast r n ws p
 least_of_lem r n ws queue p e s h = h ∙ (ap (pick (take queue ws)) (length-take-le queue ws (omega arith) ∙ e) ∙ rw (e, part-all ws (r + n)) refl)
 
-module _ {tree : List ℕ} {a : Asking} {crews drives places table : List ℕ} {limit room : ℕ} {words values list measured : List ℕ} {progress : Progress} {taken : ℕ}
-    (steps : Steps tree a crews drives places table limit room words values list measured progress taken)
-    (p : ℕ) (e : FirstLeast (length places) (junction_count tree) words p) (b : Bool) (q : b ≡ settled_by a.rule (get_or words p 0) (held_by a.rule progress.kept list)) where
+module _ {tree : List ℕ} {a : Asking} {crews drives places table : List ℕ} {limit : ℕ} {words values : List ℕ} {progress : Progress} {taken : ℕ}
+    (steps : Steps tree a crews drives places table limit words values progress taken)
+    (p : ℕ) (e : FirstLeast (length places) (junction_count tree) words p) (b : Bool) (q : b ≡ settled_by a.rule (get_or words p 0) progress.kept) where
   abbrev r : ℕ
   r = length places
 
@@ -72,7 +66,7 @@ module _ {tree : List ℕ} {a : Asking} {crews drives places table : List ℕ} {
   n = junction_count tree
 
   abbrev st : SearchState
-  st = state_of r n words (held_by a.rule progress.kept list) measured progress.measured
+  st = state_of r n words progress.kept progress.yards progress.measured
 
   module _ (road : List ℕ) (ready : Ready road tree a crews drives places table) where
     abbrev i : Instance
@@ -84,20 +78,20 @@ module _ {tree : List ℕ} {a : Asking} {crews drives places table : List ℕ} {
     -- what the test says
     settled_is : b ≡ settled i st
     settled_is =
-        q ∙ (ap (λ (w : ℕ). settled_by a.rule w (held_by a.rule progress.kept list))
+        q ∙ (ap (λ (w : ℕ). settled_by a.rule w progress.kept)
         (picked-word r n words steps.size (some_region ready) (some-junction ready) i (regions_of_lem ready) (junctions_are ready)
-        (held_by a.rule progress.kept list) measured progress.measured p e)
-        ∙ (ap (λ (k : Rule). settled_by k (least_key i st) (held_by a.rule progress.kept list)) (sym (ap (λ (z : Instance). z.rule) (search_of_lem road tree a crews)))
-        ∙ settled_of i r n words (held_by a.rule progress.kept list) measured progress.measured))
+        progress.kept progress.yards progress.measured p e)
+        ∙ (ap (λ (k : Rule). settled_by k (least_key i st) progress.kept) (sym (ap (λ (z : Instance). z.rule) (search_of_lem road tree a crews)))
+        ∙ settled_of i r n words progress.kept progress.yards progress.measured))
 
     -- one step more is taken
     pub going : b ≡ false → Going i r n words values st
     going z = record { value-count = steps.value-size; cached = s.cached; unsettled = record { steps = taken; is = s.is; unsettled = false_T (sym settled_is ∙ z) } }
 
-    goes_on : b ≡ false → (words' values' list' measured' : List ℕ) (progress' : Progress) → Cached i (picks_in r n words') (fs_in n values') (bounds_in n values')
-        → state_of r n words' (held_by a.rule progress'.kept list') measured' progress'.measured ≡ step i st
-        → Runs i r n words' values' (state_of r n words' (held_by a.rule progress'.kept list') measured' progress'.measured) (taken + 1)
-    goes_on z words' values' list' measured' progress' c t =
+    goes_on : b ≡ false → (words' values' : List ℕ) (progress' : Progress) → Cached i (picks_in r n words') (fs_in n values') (bounds_in n values')
+        → state_of r n words' progress'.kept progress'.yards progress'.measured ≡ step i st
+        → Runs i r n words' values' (state_of r n words' progress'.kept progress'.yards progress'.measured) (taken + 1)
+    goes_on z words' values' progress' c t =
         let o = run_on i taken (rw s.is at (going z).unsettled.unsettled) in
         rw add-one (record {
           cached = c;
@@ -107,41 +101,33 @@ module _ {tree : List ℕ} {a : Asking} {crews drives places table : List ℕ} {
 
     -- it is settled before the limit
     pub ends-settled : b ≡ true
-        → answer_of a.rule list (record { kept = progress.kept; measured = progress.measured; taken = taken; settled = true }) ≡ answer i limit
+        → answer_of (record { progress = progress; taken = taken; settled = true }) ≡ answer i limit
     ends-settled z =
         let t : T (settled i (run i taken).state) = rw s.is at (true_T (sym settled_is ∙ z)) in
         let l : taken + (limit - taken) ≡ limit = omega (arith, steps.within) in
         let o : run i limit ≡ run i taken = rw l at ((decided i (well road tree a crews drives places table ready) taken).stays t (limit - taken)) in
-        answer-is i limit r n words list measured a.rule (record { kept = progress.kept; measured = progress.measured; taken = taken; settled = true })
+        answer-is i limit r n words (record { progress = progress; taken = taken; settled = true })
         (s.is ∙ sym (ap (λ (x : Ended). x.state) o))
         (s.counts ∙ sym (ap (λ (x : Ended). x.taken) o))
         (rw (o, ← s.is) (sym z ∙ settled_is))
 
     -- the limit's number of steps was taken
     pub ends-limit : b ≡ false → taken ≡ limit
-        → answer_of a.rule list (record { kept = progress.kept; measured = progress.measured; taken = taken; settled = false }) ≡ answer i limit
-    ends-limit z l = rw (← l) (answer-is i taken r n words list measured a.rule
-        (record { kept = progress.kept; measured = progress.measured; taken = taken; settled = false })
+        → answer_of (record { progress = progress; taken = taken; settled = false }) ≡ answer i limit
+    ends-limit z l = rw (← l) (answer-is i taken r n words
+        (record { progress = progress; taken = taken; settled = false })
         s.is s.counts (rw (← s.is) (sym z ∙ settled_is)))
 
-  pub steps_on : b ≡ false → taken < limit → (words' values' list' measured' : List ℕ) (progress' : Progress) → length words' ≡ length words
+  pub steps_on : b ≡ false → taken < limit → (words' values' : List ℕ) (progress' : Progress) → length words' ≡ length words
       → length values' ≡ length values
-      → length list' ≡ length list
-      → length measured' ≡ length measured
       → ((road : List ℕ) → Ready road tree a crews drives places table
       → Cached (search_of road tree a crews) (picks_in r n words') (fs_in n values') (bounds_in n values'))
       → ((road : List ℕ) → Ready road tree a crews drives places table
-      → state_of r n words' (held_by a.rule progress'.kept list') measured' progress'.measured ≡ step (search_of road tree a crews) st)
-      → Fits a.rule progress'.kept × (count_by a.rule progress'.kept ≤ progress'.measured) × (progress'.measured ≤ 256)
-      → Steps tree a crews drives places table limit room words' values' list' measured' progress' (taken + 1)
-  steps_on z l words' values' list' measured' progress' sw sv sh sm c t f = record {
+      → state_of r n words' progress'.kept progress'.yards progress'.measured ≡ step (search_of road tree a crews) st)
+      → Steps tree a crews drives places table limit words' values' progress' (taken + 1)
+  steps_on z l words' values' progress' sw sv c t = record {
     size = sw ∙ steps.size;
     value-size = sv ∙ steps.value-size;
-    same = sm ∙ steps.same;
-    list-size = sh ∙ steps.list-size;
-    runs = λ road ready. goes_on road ready z words' values' list' measured' progress' (c road ready) (t road ready);
-    few = f.0;
-    low = f.1;
-    most = f.2;
+    runs = λ road ready. goes_on road ready z words' values' progress' (c road ready) (t road ready);
     within = omega arith;
   }

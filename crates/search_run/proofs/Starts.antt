@@ -2,7 +2,7 @@
 use mathlib.Core.Path.{◌≡◌, refl, sym, ap, ◌∙◌}
 use mathlib.Core.Logic.{◌⊎◌, inl, inr}
 use mathlib.Core.Bool.{Bool, false, not}
-use mathlib.Core.List.{List}
+use mathlib.Core.List.{List, []}
 use Prim.Native.Nat.{ℕ, ◌+◌, ◌*◌, ◌≤◌, ◌<◌}
 use native.Mathlib.Omega.{arith}
 use lib.ListN.{length, get_or, take, set, replicate, length-set, length-replicate, get_or-replicate}
@@ -16,7 +16,7 @@ use Rattle.tree_layout.specs.declared.Header.{Header}
 use Rattle.tree_layout.proofs.Reading.{header-junctions}
 use Rattle.tree.specs.Arrays.{Laid}
 use Rattle.tree.proofs.Fielding.{laid-few}
-use Rattle.search_rules.specs.Rule.{Rule, nearest, in_drive, Asking}
+use Rattle.search_rules.specs.Rule.{Asking}
 use Rattle.search_rules.specs.Instance.{Instance, size}
 use Rattle.search_rules.specs.Books.{search_of}
 use Rattle.search_rules.specs.Bounds.{bound}
@@ -26,9 +26,7 @@ use Rattle.search_rules.specs.Run.{Outcome as Ended, run}
 use Rattle.search_rules.proofs.Equations.{admits_of}
 use Rattle.search_rules.proofs.Steps.{start_is, root_in, root_out}
 use Rattle.search_rules.proofs.Turns.{run_start}
-use Rattle.search_held.specs.declared.Kept.{Kept}
-use Rattle.search_held.specs.code.Rules.{held_by, count_by, Fits, Small}
-use Rattle.search_held.proofs.Ruling.{none-held}
+use Rattle.search_yard.specs.declared.Progress.{Progress}
 use Rattle.search_state.specs.code.State.{word_count, value_count, firsts_at, fs_in, bounds_in, state_of}
 use Rattle.search_state.proofs.Cells.{Parts, parts-replicate, store_key, store_first, state_by, part-replicate, part-all}
 use Rattle.search_state.proofs.Values.{values-count}
@@ -72,7 +70,7 @@ module _ (admitted : Bool) (r n key : ℕ) (ws : List ℕ) where
   put_length = choose_case (λ (l : List ℕ). length l ≡ length ws) admitted (λ t. simp (length-set, length-set)) (λ t. refl)
 
 module _ {road tree : List ℕ} {a : Asking} {crews drives places table : List ℕ} (ready : Ready road tree a crews drives places table)
-    (words values list measured : List ℕ) (kept : Kept) (none : (kept.held.count ≡ 0) × (kept.listed ≡ 0)) where
+    (words values : List ℕ) (progress : Progress) (none : (progress.kept ≡ []) × (progress.measured ≡ 0)) where
   abbrev i : Instance
   i = search_of road tree a crews
 
@@ -107,43 +105,29 @@ module _ {road tree : List ℕ} {a : Asking} {crews drives places table : List �
             (store_first (store_key fresh 0 key 0 refl (some_region ready)) (firsts_at r n) key 0 (omega arith) (some_region ready))
         go (inr t) = rw (e, put_out admitted r n key (replicate (word_count r n) unqueued) (rw admits-is at t), root_out i t, regions_of_lem ready) fresh
 
-    start_state : state_of r n words (held_by a.rule kept list) measured 0 ≡ (run i 0).state
+    start_state : state_of r n words progress.kept progress.yards progress.measured ≡ (run i 0).state
     start_state =
-        state_by start_parts (held_by a.rule kept list) measured 0
-        ∙ (rw (none-held a.rule kept list none, newest-none measured, ← junctions_are ready) refl
+        state_by start_parts progress.kept progress.yards progress.measured
+        ∙ (rw (none.0, none.1, newest-none progress.yards, ← junctions_are ready) refl
         ∙ sym (ap (λ (o : Ended). o.state) (run_start i) ∙ start_is i))
 
-    starts : length values ≡ value_count → Runs i r n words values (state_of r n words (held_by a.rule kept list) measured 0) 0
+    starts : length values ≡ value_count → Runs i r n words values (state_of r n words progress.kept progress.yards progress.measured) 0
     starts v = record {
       cached = cached_by start_parts (cached-none i r n values (regions_of_lem ready) (junctions_are ready) ready.laid.layout.junctions.1 v);
       is = start_state;
       counts = sym (ap (λ (o : Ended). o.taken) (run_start i));
     }
 
--- none is no more than a rule lets
-none-fits : (rule : Rule) (kept : Kept) → (kept.held.count ≡ 0) × (kept.listed ≡ 0) → Small rule → Fits rule kept
-none-fits (nearest k) kept z s = (omega (arith, z.0), s)
-none-fits (in_drive seconds) kept z s = tt
-
-none-low : (rule : Rule) (kept : Kept) → (kept.held.count ≡ 0) × (kept.listed ≡ 0) → count_by rule kept ≤ 0
-none-low (nearest k) kept z = omega (arith, z.0)
-none-low (in_drive seconds) kept z = omega (arith, z.1)
-
-pub steps_start : (tree : List ℕ) (a : Asking) (crews drives places table : List ℕ) (limit : ℕ) (words₀ words values list measured : List ℕ) (kept : Kept)
+pub steps_start : (tree : List ℕ) (a : Asking) (crews drives places table : List ℕ) (limit : ℕ) (words₀ words values : List ℕ) (progress : Progress)
     → words₀ ≡ replicate (word_count (length places) (junction_count tree)) unqueued
     → words ≡ put_root (wanted_in tree a.wanted 0) (length places) (junction_count tree)
     (rows_bound table (landmark_count tree) a.code crews (region_at (decode tree).regions 0).marks) words₀
-    → length values ≡ value_count → length list ≡ 768 → Small a.rule → (kept.held.count ≡ 0) × (kept.listed ≡ 0)
-    → Steps tree a crews drives places table limit (length measured) words values list measured (record { kept = kept; measured = 0 }) 0
-steps_start tree a crews drives places table limit words₀ words values list measured kept z e v h small none = record {
+    → length values ≡ value_count → (progress.kept ≡ []) × (progress.measured ≡ 0)
+    → Steps tree a crews drives places table limit words values progress 0
+steps_start tree a crews drives places table limit words₀ words values progress z e v none = record {
   size = ap length e ∙ (put_length _ (length places) (junction_count tree) _ words₀ ∙ (ap length z ∙ length-replicate _ unqueued));
   value-size = v;
-  same = refl;
-  list-size = h;
-  runs = λ road ready. starts ready words values list measured kept none (rw z at e) v;
-  few = none-fits a.rule kept none small;
-  low = none-low a.rule kept none;
-  most = omega arith;
+  runs = λ road ready. starts ready words values progress none (rw z at e) v;
   within = omega arith;
 }
 

@@ -2,11 +2,11 @@
 // One step of a search.
 mod regions; // regions.rt: a region is taken
 
-ghost use Rattle.std.specs.Prelude.{◌≡◌, List, ℕ, ◌≤◌, length};
+ghost use Rattle.std.specs.Prelude.{◌≡◌, List, ℕ, length};
 ghost use Rattle.tree_layout.specs.Decode.{junction_count};
 ghost use Rattle.search_rules.specs.Books.{search_of};
 ghost use Rattle.search_rules.specs.Step.{step};
-ghost use Rattle.search_held.specs.code.Rules.{rule_of, asking_of, held_by, count_by, Fits};
+ghost use Rattle.search_held.specs.code.Rules.{asking_of};
 ghost use Rattle.search_state.specs.code.State.{word_count, picks_in, fs_in, bounds_in, state_of};
 ghost use Rattle.search_inner.specs.code.Children.{Ended};
 ghost use Rattle.search_leaf.specs.code.Ready.{Ready, Cached};
@@ -30,11 +30,9 @@ pub fn step(
     asked: Asked,
     words: &mut [u64],
     values: &mut [u32],
-    list: &mut [u32],
-    measured: &mut [u16],
-    progress: Progress,
+    progress: &mut Progress,
     p: usize,
-) -> Progress
+)
     requires { IsPrepared adj.now tree.now (asking_of asked)
         crews.now drives.now places.now table.now
         × Ended tree.now ends.now
@@ -44,12 +42,9 @@ pub fn step(
         → Going (search_of road tree.now (asking_of asked) crews.now)
         (length places.now) (junction_count tree.now) words.old values.old
         (state_of (length places.now) (junction_count tree.now) words.old
-        (held_by (rule_of asked.rule) progress.kept list.old) measured.old progress.measured))
+        progress.old.kept progress.old.yards progress.old.measured))
         × (length words.old ≡ word_count (length places.now) (junction_count tree.now))
-        × FirstLeast (length places.now) (junction_count tree.now) words.old p
-        × (256 ≤ length measured.old) × (progress.measured ≤ 256)
-        × Fits (rule_of asked.rule) progress.kept
-        × (count_by (rule_of asked.rule) progress.kept ≤ progress.measured) × (length list.old ≡ 768) }
+        × FirstLeast (length places.now) (junction_count tree.now) words.old p }
     ensures cached { (road : List ℕ)
         → Ready road tree.now (asking_of asked)
         crews.now drives.now places.now table.now
@@ -61,13 +56,10 @@ pub fn step(
         → Ready road tree.now (asking_of asked)
         crews.now drives.now places.now table.now
         → state_of (length places.now) (junction_count tree.now) words.new
-        (held_by (rule_of asked.rule) result.kept list.new) measured.new result.measured
+        progress.new.kept progress.new.yards progress.new.measured
         ≡ step (search_of road tree.now (asking_of asked) crews.now)
         (state_of (length places.now) (junction_count tree.now) words.old
-        (held_by (rule_of asked.rule) progress.kept list.old)
-        measured.old progress.measured) }
-    ensures room { Fits (rule_of asked.rule) result.kept
-        × (count_by (rule_of asked.rule) result.kept ≤ result.measured) × (result.measured ≤ 256) }
+        progress.old.kept progress.old.yards progress.old.measured) }
 {
     let r = places.len();
     if p < r {
@@ -76,11 +68,11 @@ pub fn step(
         regions::take(
             tree, places, ends, table, drives, crews, asked, words, values, region, a,
         );
-        return progress;
+        return;
     }
     words[p] = search_queue::UNQUEUED;
     let yard = Junction {
         number: (p - r) as u16,
     };
-    search_yard::take(adj, drives, crews, asked, list, measured, progress, yard)
+    search_yard::take(adj, drives, crews, asked, progress, yard);
 }

@@ -1,6 +1,5 @@
 -- An accepted call: what its books' arrays are, and that they are all a search asks. Assumes nothing.
 use mathlib.Core.Path.{◌≡◌, refl, sym, ap, ◌∙◌}
-use mathlib.Core.Option.{Option, none, some}
 use mathlib.Core.List.{List, [], ◌∷◌, ◌++◌}
 use Prim.Native.Nat.{ℕ, suc, ◌+◌, ◌*◌, ◌≤◌, ◌<◌}
 use native.Mathlib.Omega.{arith}
@@ -12,18 +11,13 @@ use Rattle.work_area.specs.Work.{work_words, zeroed}
 use Rattle.work_area.proofs.Zeroing.{zeroed-over}
 use Rattle.adjacency.specs.Adjacency.{count_in, IsAdjacency}
 use Rattle.road.specs.code.Rows.{Within, Rowed}
-use Rattle.tree_layout.specs.Decode.{junction_count, tree_yard_count}
+use Rattle.tree_layout.specs.Decode.{junction_count}
 use Rattle.tree_layout.specs.Facts.{TreeLayout}
-use Rattle.query.specs.Query.{crew_count, crews_of, k_of, limit_of}
-use Rattle.search_rules.specs.Rule.{Rule, Asking}
+use Rattle.query.specs.Query.{crew_count, crews_of, limit_of}
+use Rattle.search_rules.specs.Rule.{Asking}
 use Rattle.search_rules.specs.Books.{search_of, Passed}
 use Rattle.search_rules.specs.Run.{Answer, answer}
-use Rattle.search_rules.proofs.Books.{accepted_of, well_of}
-use Rattle.search_rules.proofs.Theorems.{accepted-measured}
-use Rattle.search_rules.proofs.Asked.{yards_of_lem}
-use Rattle.search_held.specs.declared.Kept.{Kept}
-use Rattle.search_held.specs.code.Rules.{count_by, Fits, Small}
-use Rattle.search_call.specs.Call.{rule_by, most_by}
+use Rattle.search_call.proofs.Room.{accepted-room}
 use Rattle.search_bounds.specs.code.Rows.{table_words}
 use Rattle.search_bounds.specs.code.Tables.{root_places}
 use Rattle.search_bounds.proofs.Filled.{table_filled}
@@ -75,14 +69,6 @@ module _ {road tree adj places ends query : List ℕ} {asking : Asking} {work re
   pub crews_needs : (room : ℕ) → room ≡ 16 → (length query ≡ 12 + 2 * crew_count query) × (crew_count query ≤ room)
   crews_needs room e = (a.asked.sized, omega (arith, a.asked.few-crews))
 
-  -- its k is at most 64
-  pub rule-small : Small asking.rule
-  rule-small = go asking.rule by.want.drive (ap (λ (x : Asking). x.rule) by.is)
-    where
-      go : (r : Rule) (drive : Option ℕ) → r ≡ rule_by (k_of query) drive → Small r
-      go r none q = rw q a.asked.few-k
-      go r (some seconds) q = rw q tt
-
   -- ---- the crews and the limit
 
   module _ (q : ℕ) (count : q ≡ crew_count query) where
@@ -125,23 +111,10 @@ module _ {road tree adj places ends query : List ℕ} {asking : Asking} {work re
           tableed = table_filled road tree tree-laid asking (take q copied) table four rowed;
         }
 
-        -- the result area has room for what is held
-        pub results-room : (o : Answer) (kept : Kept) → o ≡ answer_by road tree query asking → Fits asking.rule kept → count_by asking.rule kept ≤ o.measured
-            → 2 * count_by asking.rule kept ≤ results
-        results-room o kept e fits low = by_drive asking.rule by.want.drive (ap (λ (x : Asking). x.rule) by.is) a.results-full fits low few
-          where
-            few : (answer_by road tree query asking).measured ≤ tree_yard_count tree
-            few = omega (
-              arith,
-              accepted-measured (search_of road tree asking (crews_of query)) (accepted_of road tree asking (crews_of query) (a.books
-                  bytes)) (limit_of query) (well_of road tree asking (crews_of query) (a.books bytes)),
-              yards_of_lem road tree asking (crews_of query),
-            )
-
-            measured-is : o.measured ≡ (answer_by road tree query asking).measured
-            measured-is = ap (λ (x : Answer). x.measured) e
-
-            by_drive : (r : Rule) (drive : Option ℕ) → r ≡ rule_by (k_of query) drive → 2 * most_by (k_of query) (tree_yard_count tree) drive ≤ results → Fits r kept
-                → count_by r kept ≤ o.measured → (answer_by road tree query asking).measured ≤ tree_yard_count tree → 2 * count_by r kept ≤ results
-            by_drive r none q full f l m = let k : (kept.held.count ≤ k_of query) × (k_of query ≤ 64) = rw q at f in rw q (omega (arith, k.0))
-            by_drive r (some seconds) q full f l m = omega (arith, measured-is)
+        -- the result area has room for what is listed
+        pub results-room : (o : Answer) → o ≡ answer_by road tree query asking → 2 * length o.listed ≤ results
+        results-room o e = omega (
+          arith,
+          ap (λ (x : Answer). length x.listed) (e ∙ ap (answer_by road tree query) by.is),
+          accepted-room road tree query bytes by.want work results a,
+        )

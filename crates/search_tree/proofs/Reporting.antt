@@ -9,9 +9,6 @@ use Rattle.book.specs.Writing.{write}
 use Rattle.book.proofs.Choosing.{choose_yes, choose_no, true_T, false_T}
 use Rattle.search_rules.specs.Order.{Entry}
 use Rattle.search_rules.specs.Run.{Answer, words}
-use Rattle.search_rules.specs.Rule.{Rule}
-use Rattle.search_held.specs.code.Rules.{held_by, count_by}
-use Rattle.search_held.proofs.Ruling.{count-length}
 use Rattle.search_run.specs.declared.Outcome.{Outcome}
 use Rattle.search_run.specs.code.Answers.{answer_of}
 use Rattle.search_run.proofs.Answering.{answered}
@@ -26,36 +23,37 @@ same-found s l t m s' l' t' m' e f g h = rw (e, f, g, h) refl
 
 -- ---- of an outcome
 
-module _ (rule : Rule) (list : List ℕ) (o : Outcome) where
-  pub measured_of_lem : (answer_of rule list o).measured ≡ o.measured
-  measured_of_lem = rw (answered rule list o) refl
+module _ (o : Outcome) where
+  -- a settled search lists what it keeps
+  pub listed-is : o.settled ≡ true → (answer_of o).listed ≡ o.progress.kept
+  listed-is z = rw (answered o) (choose_yes o.settled o.progress.kept [] (true_T z))
 
-  pub spent-found : (m : ℕ) → o.settled ≡ false → m ≡ o.measured
-      → found_of (record { refusal = 0; settled = 0; listed = 0; taken = o.taken; measured = m }) ≡ accepted (answer_of rule list o)
+  pub spent-found : (m : ℕ) → o.settled ≡ false → m ≡ o.progress.measured
+      → found_of (record { refusal = 0; settled = 0; listed = 0; taken = o.taken; measured = m }) ≡ accepted (answer_of o)
   unfolding found_of
   spent-found m z e =
       let t : T (not o.settled) = false_T z in
-      rw (answered rule list o) (same-found 0 0 o.taken m _ _ _ _ (sym (choose_no o.settled 1 0 t)) (sym (ap length (choose_no o.settled (held_by rule o.kept list) [] t))) refl e
+      rw (answered o) (same-found 0 0 o.taken m _ _ _ _ (sym (choose_no o.settled 1 0 t)) (sym (ap length (choose_no o.settled o.progress.kept [] t))) refl e
       ∙ sym (accepted-is _))
 
-  pub settled-found : (n m : ℕ) → o.settled ≡ true → n ≡ count_by rule o.kept → m ≡ o.measured
-      → found_of (record { refusal = 0; settled = 1; listed = n; taken = o.taken; measured = m }) ≡ accepted (answer_of rule list o)
+  pub settled-found : (n m : ℕ) → o.settled ≡ true → n ≡ length o.progress.kept → m ≡ o.progress.measured
+      → found_of (record { refusal = 0; settled = 1; listed = n; taken = o.taken; measured = m }) ≡ accepted (answer_of o)
   unfolding found_of
   settled-found n m z f e =
       let t : T o.settled = true_T z in
-      rw (answered rule list o) (same-found 1 n o.taken m _ _ _ _ (sym (choose_yes o.settled 1 0 t))
-      (f ∙ sym (ap length (choose_yes o.settled (held_by rule o.kept list) [] t) ∙ count-length rule o.kept list)) refl e
+      rw (answered o) (same-found 1 n o.taken m _ _ _ _ (sym (choose_yes o.settled 1 0 t))
+      (f ∙ sym (ap length (choose_yes o.settled o.progress.kept [] t))) refl e
       ∙ sym (accepted-is _))
 
-  pub spent-written : (results : List ℕ) → o.settled ≡ false → results ≡ written_by (answer_of rule list o) results
+  pub spent-written : (results : List ℕ) → o.settled ≡ false → results ≡ written_by (answer_of o) results
   unfolding written_by
-  spent-written results z = rw (answered rule list o) (sym (choose_no o.settled _ results (false_T z)))
+  spent-written results z = rw (answered o) (sym (choose_no o.settled _ results (false_T z)))
 
-  pub settled-written : (results out : List ℕ) → o.settled ≡ true → out ≡ write results 0 (words (held_by rule o.kept list)) → out ≡ written_by (answer_of rule list o) results
+  pub settled-written : (results out : List ℕ) → o.settled ≡ true → out ≡ write results 0 (words o.progress.kept) → out ≡ written_by (answer_of o) results
   unfolding written_by
   settled-written results out z e =
       let t : T o.settled = true_T z in
-      rw (answered rule list o) (e ∙ ap (λ (l : List Entry). write results 0 (words l)) (sym (choose_yes o.settled (held_by rule o.kept list) [] t))
+      rw (answered o) (e ∙ ap (λ (l : List Entry). write results 0 (words l)) (sym (choose_yes o.settled o.progress.kept [] t))
       ∙ sym (choose_yes o.settled _ results t))
 
 -- what is reported of them

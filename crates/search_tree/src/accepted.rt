@@ -3,7 +3,7 @@ ghost use Rattle.std.specs.Prelude.{◌≡◌, List, ℕ, ◌*◌, ◌≤◌, le
 ghost use Rattle.work_area.specs.Work.{work_words, zeroed};
 ghost use Rattle.query.specs.Query.{limit_of};
 ghost use Rattle.search_run.specs.code.Answers.{answer_of};
-ghost use Rattle.search_held.specs.code.Rules.{rule_of, asking_of, count_by, Fits};
+ghost use Rattle.search_held.specs.code.Rules.{asking_of};
 ghost use Rattle.search_call.specs.Call.{accepted};
 ghost use Rattle.search_tree.specs.code.Asking.{AcceptedBy, answer_by};
 ghost use Rattle.search_tree.specs.code.District.{District, IsDistrict};
@@ -11,23 +11,20 @@ ghost use Rattle.search_tree.specs.Found.{found_of, written_by};
 
 use crate::Found;
 use search_bounds::table;
-use search_held::{Asked, Rule};
+use search_held::Asked;
 use search_run::Outcome;
 
 // The most crews that a query has.
 const CREWS: usize = 16;
 
 // "Settled writes (yard, distance) words into the result area and nothing after them; spent writes nothing there."
-fn report(list: &[u32], rule: Rule, o: Outcome, results: &mut [u32]) -> Found
-    requires { Fits (rule_of rule) o.kept × (count_by (rule_of rule) o.kept ≤ 256) × (length list.now ≡ 768)
-        × (2 * count_by (rule_of rule) o.kept ≤ length results.old) × (o.measured ≤ 256) }
-    ensures found { found_of result ≡ accepted (answer_of (rule_of rule) list.now o) }
-    ensures results { results.new
-        ≡ written_by (answer_of (rule_of rule) list.now o) results.old }
+fn report(o: &Outcome, results: &mut [u32]) -> Found
+    requires { 2 * length (answer_of o.now).listed ≤ length results.old }
+    ensures found { found_of result ≡ accepted (answer_of o.now) }
+    ensures results { results.new ≡ written_by (answer_of o.now) results.old }
 {
-    let measured = o.measured as u32;
-    let settled = o.settled;
-    if !settled {
+    let measured = o.progress.measured as u32;
+    if !o.settled {
         return Found {
             refusal: 0,
             settled: 0,
@@ -36,9 +33,9 @@ fn report(list: &[u32], rule: Rule, o: Outcome, results: &mut [u32]) -> Found
             measured,
         };
     }
-    let kept = o.kept;
-    search_held::write_words(kept, list, rule, results);
-    let listed = search_held::count(kept, rule) as u32;
+    let kept = &o.progress.kept;
+    kept.write(results);
+    let listed = kept.len() as u32;
     Found {
         refusal: 0,
         settled: 1,
@@ -82,7 +79,6 @@ pub fn search(
         &mut table,
         &mut work[..work_area::WORDS],
     );
-    let mut list = [0u32; search_held::WORDS];
     let o = search_run::run(
         adj,
         tree,
@@ -92,9 +88,7 @@ pub fn search(
         &work[..work_area::WORDS],
         &crews[..q],
         asked,
-        &mut list,
     );
     work_area::zero_words(work);
-    let rule = asked.rule;
-    report(&list, rule, o, results)
+    report(&o, results)
 }

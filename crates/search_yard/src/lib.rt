@@ -1,26 +1,42 @@
 #![tactic(auto)]
 // A yard is taken: it is measured, and held if the search's rule keeps it.
-ghost use Rattle.std.specs.Prelude.{◌≡◌, List, ◌∷◌, ℕ, ◌+◌, ◌≤◌, ◌<◌, length};
+ghost use Rattle.std.specs.Prelude.{◌≡◌, List, [], ◌∷◌, ℕ, ◌+◌, ◌≤◌, ◌<◌, length};
 ghost use Rattle.query.specs.Aggregates.{code_of};
 ghost use Rattle.search_rules.specs.Keeping.{keep_by};
 ghost use Rattle.search_rules.specs.Ceiling.{ceiling_by};
 ghost use Rattle.search_rules.specs.Theorems.{Sorted};
 ghost use Rattle.search_measure.specs.Crews.{measure_yard, yard_ways, Measures};
 ghost use Rattle.search_measure.specs.code.Cases.{measured_of, Measurable, IsMeasurable};
-ghost use Rattle.search_held.specs.code.Rules.{rule_of, held_by, count_by, Fits};
+ghost use Rattle.search_held.specs.code.Rules.{rule_of};
 ghost use Rattle.search_state.specs.code.State.{newest};
 ghost use Rattle.search_yard.specs.code.Entries.{entry_on};
 
 use book::Junction;
-use search_held::{Asked, Kept};
+use search_held::Asked;
 use search_measure::Numbers;
-use search_order::Entry;
+use search_order::{Entries, Entry};
 
-// What a search has come to beside its words: what it keeps, and the number of the measured yards.
-#[derive(Clone, Copy)]
+// The most yards that a search measures.
+const MOST_YARDS: usize = 256;
+
+// What a search has come to beside its words: what it keeps, and the measured yards with their number.
+#[derive(Drop)]
 pub struct Progress {
-    pub kept: Kept,
+    pub kept: Entries,
+    pub yards: [u16; MOST_YARDS],
     pub measured: usize,
+    ghost room: { (length kept ≤ measured) × (measured ≤ 256) },
+}
+
+// Nothing is kept, and no yard measured.
+pub fn none() -> Progress
+    ensures { (result.kept ≡ []) × (result.measured ≡ 0) }
+{
+    Progress {
+        kept: Entries::new(),
+        yards: [0u16; MOST_YARDS],
+        measured: 0,
+    }
 }
 
 // A walk's junctions have a place for each of 1,024.
@@ -34,24 +50,21 @@ fn under_ceiling(
     crews: &[u16],
     walked: &mut [u16],
     asked: Asked,
-    kept: Kept,
+    kept: &Entries,
     y: Junction,
 ) -> Option<Numbers>
-    requires { IsMeasurable adj.now crews.now drives.now y.number × Fits (rule_of asked.rule) kept
-        × (length walked.old ≡ 1024) }
-    ensures measures { (list : List ℕ) (road : List ℕ)
+    requires { IsMeasurable adj.now crews.now drives.now y.number × (length walked.old ≡ 1024) }
+    ensures measures { (road : List ℕ)
         → Measurable road adj.now crews.now drives.now y.number
-        → Measures road (code_of asked.aggregate) crews.now
-        (ceiling_by (rule_of asked.rule) (held_by (rule_of asked.rule) kept list)) y.number (measured_of result)
-        (yard_ways road (code_of asked.aggregate) crews.now
-        (ceiling_by (rule_of asked.rule) (held_by (rule_of asked.rule) kept list)) y.number) }
-    ensures run { (list : List ℕ) (road : List ℕ)
+        → Measures road (code_of asked.aggregate) crews.now (ceiling_by (rule_of asked.rule) kept.now) y.number
+        (measured_of result)
+        (yard_ways road (code_of asked.aggregate) crews.now (ceiling_by (rule_of asked.rule) kept.now) y.number) }
+    ensures run { (road : List ℕ)
         → Measurable road adj.now crews.now drives.now y.number
-        → measured_of result ≡ measure_yard road (code_of asked.aggregate) crews.now
-        (ceiling_by (rule_of asked.rule) (held_by (rule_of asked.rule) kept list)) y.number }
+        → measured_of result
+        ≡ measure_yard road (code_of asked.aggregate) crews.now (ceiling_by (rule_of asked.rule) kept.now) y.number }
 {
-    let rule = asked.rule;
-    let ceiling = search_held::ceiling(kept, rule);
+    let ceiling = search_held::ceiling(kept, asked.rule);
     search_measure::measure(adj, drives, crews, walked, asked.aggregate, ceiling, y)
 }
 
@@ -61,48 +74,31 @@ pub fn take(
     drives: &[u32],
     crews: &[u16],
     asked: Asked,
-    list: &mut [u32],
-    measured: &mut [u16],
-    progress: Progress,
+    progress: &mut Progress,
     y: Junction,
-) -> Progress
+)
     requires { IsMeasurable adj.now crews.now drives.now y.number
-        × (progress.measured < 256) × (256 ≤ length measured.old)
-        × Fits (rule_of asked.rule) progress.kept
-        × (count_by (rule_of asked.rule) progress.kept ≤ progress.measured) × (length list.old ≡ 768)
-        × Sorted (held_by (rule_of asked.rule) progress.kept list.old) }
-    ensures count { result.measured ≡ progress.measured + 1 }
-    ensures measured { newest measured.new (progress.measured + 1)
-        ≡ y.number ∷ newest measured.old progress.measured }
+        × (progress.old.measured < 256) × Sorted progress.old.kept }
+    ensures count { progress.new.measured ≡ progress.old.measured + 1 }
+    ensures measured { newest progress.new.yards (progress.old.measured + 1)
+        ≡ y.number ∷ newest progress.old.yards progress.old.measured }
     ensures held { (road : List ℕ)
         → Measurable road adj.now crews.now drives.now y.number
-        → held_by (rule_of asked.rule) result.kept list.new ≡ keep_by (rule_of asked.rule)
-        (entry_on road (code_of asked.aggregate) crews.now y.number)
-        (held_by (rule_of asked.rule) progress.kept list.old) }
-    ensures room { Fits (rule_of asked.rule) result.kept
-        × (count_by (rule_of asked.rule) result.kept ≤ result.measured) }
+        → progress.new.kept ≡ keep_by (rule_of asked.rule)
+        (entry_on road (code_of asked.aggregate) crews.now y.number) progress.old.kept }
 {
     let count = progress.measured;
-    measured[count] = y.number;
-    let so_many = count + 1;
-    let rule = asked.rule;
-    let so_far = progress.kept;
+    progress.yards[count] = y.number;
+    progress.measured = count + 1;
     let mut walked = [0u16; JUNCTIONS];
-    let answer = under_ceiling(adj, drives, crews, &mut walked, asked, so_far, y);
+    let answer = under_ceiling(adj, drives, crews, &mut walked, asked, &progress.kept, y);
     let Some(numbers) = answer else {
-        return Progress {
-            kept: so_far,
-            measured: so_many,
-        };
+        return;
     };
     let entry = Entry {
         distance: numbers.total,
         furthest: numbers.furthest,
         yard: y.number as u32,
     };
-    let kept = search_held::keep(so_far, list, rule, entry);
-    Progress {
-        kept,
-        measured: so_many,
-    }
+    search_held::keep(&mut progress.kept, asked.rule, entry);
 }

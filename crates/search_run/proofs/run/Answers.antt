@@ -25,9 +25,6 @@ steps-requires c =
     let h = c.header-h.ensures in (
       c.requires.0,
       c.requires.1,
-      c.requires.2,
-      search rules,
-      c.requires.3,
       first-words c.args.tree.now c.args.places.now _ 3581 _ h refl (most-words _ _ _ _ c.requires.0.ready.laid h refl),
       search rules,
     )

@@ -12,7 +12,7 @@ pub queue_root-requires : goal.queue_root-requires
 queue_root-requires c =
     let s = c.requires in
     let ready = s.0.ready in
-    (ready.laid, ready.tableed.limits, table_crews _ _ _ _ _ _ _ ready, ap length s.5 ∙ length-replicate _ _)
+    (ready.laid, ready.tableed.limits, table_crews _ _ _ _ _ _ _ ready, ap length s.2 ∙ length-replicate _ _)
 
 pub header-h-requires : goal.header-h-requires
 header-h-requires c = laid-header _ _ c.requires.0.ready.laid
@@ -20,14 +20,11 @@ header-h-requires c = laid-header _ _ c.requires.0.ready.laid
 pub overflow_add-queue : goal.overflow_add-queue
 overflow_add-queue c = record { fits = omega (arith, laid-few _ _ c.requires.0.ready.laid, c.struct_known-1) }
 
-pub none-requires : goal.none-requires
-none-requires c = tt
-
 pub loop-asked-init : goal.loop-asked-init
 loop-asked-init c =
     let s = c.requires in (
       queue-count _ _ _ c.header-h.ensures,
-      steps_start _ _ _ _ _ _ _ _ _ _ _ _ _ s.5 c.queue_root.ensures s.6 s.2 s.4 c.none.ensures,
+      steps_start _ _ _ _ _ _ _ _ _ _ _ s.2 c.queue_root.ensures s.3 c.none-progress.ensures,
     )
 
 pub slice_bounds-pick-end : goal.slice_bounds-pick-end
@@ -49,64 +46,40 @@ bounds-words-p c =
     let l = c.loop-asked.invariant in
     (picked c.requires.0 l.1.size (least_of_lem _ _ _ _ _ l.0 l.1.size c.pick-p.ensures)).inside
 
-pub settled-requires : goal.settled-requires
-settled-requires c = c.loop-asked.invariant.1.few
-
 pub shape_of-words-then-settled : goal.shape_of-words-then-settled
-shape_of-words-then-settled c = c.loop-asked.invariant.1.size ∙ sym (ap length c.requires.5 ∙ length-replicate _ _)
+shape_of-words-then-settled c = c.loop-asked.invariant.1.size ∙ sym (ap length c.requires.2 ∙ length-replicate _ _)
 
 pub shape_of-values-then-settled : goal.shape_of-values-then-settled
-shape_of-values-then-settled c = c.loop-asked.invariant.1.value-size ∙ sym c.requires.6
-
-pub shape_of-list-then-settled : goal.shape_of-list-then-settled
-shape_of-list-then-settled c = c.loop-asked.invariant.1.list-size ∙ sym c.requires.2
-
-pub shape_of-measured-then-settled : goal.shape_of-measured-then-settled
-shape_of-measured-then-settled c = c.loop-asked.invariant.1.same
+shape_of-values-then-settled c = c.loop-asked.invariant.1.value-size ∙ sym c.requires.3
 
 pub returns-then-settled : goal.returns-then-settled
 returns-then-settled c =
     let l = c.loop-asked.invariant in
-    let e = least_of_lem _ _ _ _ _ l.0 l.1.size c.pick-p.ensures in record {
-      answer = λ road ready. ends-settled l.1 _ e _ (c.settled.ensures _) road ready c.if-settled.true;
-      room = (l.1.few, l.1.low, l.1.most);
-    }
+    let e = least_of_lem _ _ _ _ _ l.0 l.1.size c.pick-p.ensures in
+    λ road ready. ends-settled l.1 _ e _ c.settled.ensures road ready c.if-settled.true
 
 pub shape_of-words-then-taken-asked : goal.shape_of-words-then-taken-asked
-shape_of-words-then-taken-asked c = c.loop-asked.invariant.1.size ∙ sym (ap length c.requires.5 ∙ length-replicate _ _)
+shape_of-words-then-taken-asked c = c.loop-asked.invariant.1.size ∙ sym (ap length c.requires.2 ∙ length-replicate _ _)
 
 pub shape_of-values-then-taken-asked : goal.shape_of-values-then-taken-asked
-shape_of-values-then-taken-asked c = c.loop-asked.invariant.1.value-size ∙ sym c.requires.6
-
-pub shape_of-list-then-taken-asked : goal.shape_of-list-then-taken-asked
-shape_of-list-then-taken-asked c = c.loop-asked.invariant.1.list-size ∙ sym c.requires.2
-
-pub shape_of-measured-then-taken-asked : goal.shape_of-measured-then-taken-asked
-shape_of-measured-then-taken-asked c = c.loop-asked.invariant.1.same
+shape_of-values-then-taken-asked c = c.loop-asked.invariant.1.value-size ∙ sym c.requires.3
 
 pub returns-then-taken-asked : goal.returns-then-taken-asked
 returns-then-taken-asked c =
     let l = c.loop-asked.invariant in
-    let e = least_of_lem _ _ _ _ _ l.0 l.1.size c.pick-p.ensures in record {
-      answer = λ road ready. ends-limit l.1 _ e _ (c.settled.ensures _) road ready c.if-settled.false (omega (arith, c.if-taken-asked.true));
-      room = (l.1.few, l.1.low, l.1.most);
-    }
+    let e = least_of_lem _ _ _ _ _ l.0 l.1.size c.pick-p.ensures in
+    λ road ready. ends-limit l.1 _ e _ c.settled.ensures road ready c.if-settled.false (omega (arith, c.if-taken-asked.true))
 
-pub step-progress-requires : goal.step-progress-requires
-step-progress-requires c =
+pub step-requires : goal.step-requires
+step-requires c =
     let l = c.loop-asked.invariant in
     let s = c.requires in
     let e = least_of_lem _ _ _ _ _ l.0 l.1.size c.pick-p.ensures in (
       s.0,
       s.1,
-      λ road ready. going l.1 _ e _ (c.settled.ensures _) road ready c.if-settled.false,
+      λ road ready. going l.1 _ e _ c.settled.ensures road ready c.if-settled.false,
       l.1.size,
       e,
-      omega (arith, s.3, l.1.same),
-      l.1.most,
-      l.1.few,
-      l.1.low,
-      l.1.list-size,
     )
 
 pub overflow_add-taken : goal.overflow_add-taken
@@ -119,8 +92,8 @@ pub loop-asked-preserved : goal.loop-asked-preserved
 loop-asked-preserved c =
     let l = c.loop-asked.invariant in
     let e = least_of_lem _ _ _ _ _ l.0 l.1.size c.pick-p.ensures in
-    let t = c.step-progress in (
+    let t = c.step in (
       l.0,
-      steps_on l.1 _ e _ (c.settled.ensures _) c.if-settled.false (omega (arith, l.1.within, c.if-taken-asked.false)) _ _ _ _ _
-          t.auto.words t.auto.values t.auto.list t.auto.measured t.ensures.cached t.ensures.state t.ensures.room,
+      steps_on l.1 _ e _ c.settled.ensures c.if-settled.false (omega (arith, l.1.within, c.if-taken-asked.false)) _ _ _
+          t.auto.words t.auto.values t.ensures.cached t.ensures.state,
     )

@@ -2,8 +2,6 @@
 use Rattle.std.specs.Prelude.{Bool, List, [], ℕ, set}
 use Rattle.book.specs.Choose.{choose}
 use Rattle.search_rules.specs.Run.{Answer}
-use Rattle.search_rules.specs.Rule.{Rule}
-use Rattle.search_held.specs.code.Rules.{held_by}
 use Rattle.search_state.specs.code.State.{firsts_at}
 use Rattle.search_run.specs.declared.Outcome.{Outcome}
 
@@ -12,10 +10,10 @@ unfoldable pub put_root : (admitted : Bool) → (r n key : ℕ) → List ℕ →
 put_root admitted r n key ws = choose admitted (set (set ws 0 key) (firsts_at r n) key) ws
 
 -- "Both return taken and measured, and settled also the number of yards listed."
-unfoldable pub answer_of : Rule → (list : List ℕ) → Outcome → Answer
-answer_of rule list o = record {
+unfoldable pub answer_of : Outcome → Answer
+answer_of o = record {
   settled = o.settled;
-  listed = choose o.settled (held_by rule o.kept list) [];
+  listed = choose o.settled o.progress.kept [];
   taken = o.taken;
-  measured = o.measured;
+  measured = o.progress.measured;
 }

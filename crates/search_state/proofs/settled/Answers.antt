@@ -3,7 +3,7 @@ use Rattle.search_state.proofs.Settling.{settled_empty, settled-queued, small_ke
 use Rattle.search_state.proofs.settled.Goals as goal
 
 pub returns-then-least-eq-UNQUEUED : goal.returns-then-least-eq-UNQUEUED
-returns-then-least-eq-UNQUEUED c = λ list. settled_empty _ _ _ c.if-least-eq-UNQUEUED.true
+returns-then-least-eq-UNQUEUED c = settled_empty _ _ _ c.if-least-eq-UNQUEUED.true
 
 pub returns : goal.returns
-returns c = λ list. settled-queued _ _ _ _ (small_key _ c.if-least-eq-UNQUEUED.false (omega arith)) (c.enough.ensures list)
+returns c = settled-queued _ _ _ _ (small_key _ c.if-least-eq-UNQUEUED.false (omega arith)) c.enough.ensures

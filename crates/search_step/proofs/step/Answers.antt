@@ -28,7 +28,6 @@ returns-then-p-r c =
     let o = c.take.ensures in record {
       cached = o.cached;
       state = λ road ready. region_is-taken ready _ _ _ _ _ s.3 (s.2 road ready) _ s.4 c.if-p-r.true _ (o.state road ready);
-      room = (s.7, s.8, s.6);
     }
 
 pub offset_bounds-words-p-2 : goal.offset_bounds-words-p-2
@@ -52,10 +51,6 @@ take-requires-2 c =
     let h = c.if-p-r.false in (
       yard-measurable s.0 _ (omega (arith, (picked s.0 s.3 s.4).below)),
       yard-room s.0.ready _ _ _ _ _ s.3 (s.2 s.0.road s.0.ready) _ s.4 h (λ j. omega (arith, c.slice_known-1.given j)),
-      s.5,
-      s.7,
-      s.8,
-      s.9,
       yard-sorted s.0.ready _ _ _ _ _ s.3 (s.2 s.0.road s.0.ready) _ s.4 h (λ j. omega (arith, c.slice_known-1.given j)),
     )
 
@@ -69,13 +64,4 @@ returns c =
       cached = λ road ready. yard-cached ready _ _ _ _ _ s.3 (s.2 road ready) _ s.4 h (λ j. omega (arith, known j));
       state = λ road ready. yard-is-taken ready _ _ _ _ _ s.3 (s.2 road ready) _ s.4 h (λ j. omega (arith, known j)) _ _ _ o.count o.measured
           (held_same s.0 road ready _ _ _ _ (omega (arith, below)) (o.held s.0.road (measurable_in s.0 _ (omega (arith, below)))));
-      room = (
-        o.room.0,
-        o.room.1,
-        omega (
-          arith,
-          o.count,
-          yard-room s.0.ready _ _ _ _ _ s.3 (s.2 s.0.road s.0.ready) _ s.4 h (λ j. omega (arith, known j)),
-        ),
-      );
     }

@@ -1,36 +1,21 @@
-use mathlib.Core.Path.{refl, ap}
-use native.Mathlib.Omega.{arith}
+use Rattle.std.proofs.Common.{ap, rules}
 use Rattle.search_measure.specs.code.Cases.{measured_of}
 use Rattle.search_measure.proofs.Totals.{answer-exact, answer-above}
 use Rattle.search_state.proofs.Newest.{newest_put}
 use Rattle.search_yard.proofs.Numbered.{held-exact, held-above}
 use Rattle.search_yard.proofs.take.Goals as goal
 
-pub overflow_add-so_many : goal.overflow_add-so_many
-overflow_add-so_many c = omega (arith, c.requires.1)
+pub returns-in_default-clause-measured : goal.returns-in_default-clause-measured
+returns-in_default-clause-measured c = newest_put c.args.progress.now.yards c.args.progress.now.measured c.args.y.number (search rules)
 
-pub under_ceiling-answer-requires : goal.under_ceiling-answer-requires
-under_ceiling-answer-requires c = let p = c.requires in (p.0, p.3, refl)
+pub returns-in_default-clause-held : goal.returns-in_default-clause-held
+returns-in_default-clause-held c road k =
+    held-above _ _ _ _ _ _ c.requires.2 (answer-above k (c.under_ceiling-answer.ensures.measures road k) (ap measured_of c.in_default.is))
 
-pub returns-in_default : goal.returns-in_default
-returns-in_default c =
-    let above = ap measured_of c.in_default.is in record {
-      count = refl;
-      measured = newest_put c.args.measured.now c.args.progress.measured c.args.y.number (omega (arith, c.requires.1, c.requires.2));
-      held = λ road k. held-above _ _ _ _ _ _ c.requires.6 (answer-above k (c.under_ceiling-answer.ensures.measures c.args.list.now road k) above);
-      room = (c.requires.3, omega (arith, c.requires.4));
-    }
+pub returns-clause-measured : goal.returns-clause-measured
+returns-clause-measured c = newest_put c.args.progress.now.yards c.args.progress.now.measured c.args.y.number (search rules)
 
-pub keep-kept-requires : goal.keep-kept-requires
-keep-kept-requires c = let p = c.requires in (p.3, omega (arith, p.4, p.1), p.5)
-
-pub returns : goal.returns
-returns c =
-    let k = c.keep-kept.ensures in
-    let m = c.under_ceiling-answer.ensures.measures c.args.list.now in
-    let exact = ap measured_of c.in-Some.is in record {
-      count = refl;
-      measured = newest_put c.args.measured.now c.args.progress.measured c.args.y.number (omega (arith, c.requires.1, c.requires.2));
-      held = λ road d. held-exact _ road _ _ _ _ _ _ _ (answer-exact d (m road d) _ _ exact) k.held;
-      room = (k.room.0, omega (arith, k.room.1, c.requires.4));
-    }
+pub returns-clause-held : goal.returns-clause-held
+returns-clause-held c road k =
+    let exact = ap measured_of c.in-Some.is in
+    held-exact _ road _ _ _ _ _ _ _ (answer-exact k (c.under_ceiling-answer.ensures.measures road k) _ _ exact) c.keep.ensures.held

@@ -4,6 +4,6 @@ pub returns : goal.returns
 returns c =
     let e = c.ceiling-ceiling.ensures in
     let m = c.measure.ensures in record {
-      measures = λ list road k. rw (← e list) (m.measures road k);
-      run = λ list road k. rw (← e list) (m.run road k);
+      measures = λ road k. rw (← e) (m.measures road k);
+      run = λ road k. rw (← e) (m.run road k);
     }

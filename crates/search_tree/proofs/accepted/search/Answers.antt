@@ -6,13 +6,13 @@ use lib.ListN.{take, drop}
 use Rattle.book.specs.Bytes.{Bytes}
 use Rattle.work_area.specs.Work.{work_words}
 use Rattle.search_run.specs.code.Answers.{answer_of}
-use Rattle.search_held.specs.code.Rules.{rule_of, asking_of}
+use Rattle.search_held.specs.code.Rules.{asking_of}
 use Rattle.search_leaf.specs.code.Ready.{Ready}
 use Rattle.search_tree.specs.code.District.{District}
 use Rattle.search_tree.specs.code.Asking.{answer_by}
-use Rattle.search_tree.proofs.Reporting.{measured_of_lem, found_so, written_so}
+use Rattle.search_tree.proofs.Reporting.{found_so, written_so}
 use Rattle.search_tree.proofs.Preparing.{bytes-all, part_room, part_of, lent-size, back_full, back-part, back-taken, back-zeroed}
-use Rattle.search_tree.proofs.Preparing.{crews_needs, rule-small, few-crews, results-room, rows_need, same_search, ready}
+use Rattle.search_tree.proofs.Preparing.{crews_needs, few-crews, results-room, rows_need, same_search, ready}
 use Rattle.search_tree.proofs.accepted.search.Goals.{After-prepare}
 use Rattle.search_tree.proofs.accepted.search.Goals as goal
 
@@ -100,8 +100,6 @@ run-o-requires c =
     let d = c.requires.0.district in (
       record { road = c.requires.0.road; ready = ready_at (goal.at.run-o-requires c).After-prepare c.requires.0.road d; adjacent = d.adjacent },
       d.ended,
-      refl,
-      rule-small d (c.requires.2 c.requires.0.road d),
     )
 
 pub zero_words-requires : goal.zero_words-requires
@@ -117,14 +115,8 @@ report-requires c =
     let a = c.requires.2 c.requires.0.road d in
     let tree = c.args.tree.now in
     let bytes : Bytes tree = bytes-all tree (λ i. omega (arith, c.shared_slice_known-2-1.given i)) in
-    let e = c.run-o.ensures.answer _ (ready_at (goal.at.report-requires c).After-prepare _ d) ∙ same_search d a _ c.crews-q.ensures.count _ c.requires.1 _ c.crews-q.ensures.crews in
-    let room = c.run-o.ensures.room in (
-      room.0,
-      omega (arith, room.1, room.2),
-      c.run-o.auto.list,
-      results-room d a _ c.crews-q.ensures.count _ c.requires.1 _ c.crews-q.ensures.crews bytes _ _ e room.0 (rw (measured_of_lem _ _ c.run-o.result) room.1),
-      room.2,
-    )
+    let e = c.run-o.ensures _ (ready_at (goal.at.report-requires c).After-prepare _ d) ∙ same_search d a _ c.crews-q.ensures.count _ c.requires.1 _ c.crews-q.ensures.crews in
+    results-room d a _ c.crews-q.ensures.count _ c.requires.1 _ c.crews-q.ensures.crews bytes _ e
 
 pub returns : goal.returns
 returns c =
@@ -132,9 +124,9 @@ returns c =
     let a = c.requires.2 c.requires.0.road d in
     let size = c.prepare.auto.drives ∙ lent-size c.args.work.now a.accepted.work-full in
     let so : (road : List ℕ) → District road c.args.tree.now c.args.adj.now c.args.places.now c.args.ends.now
-    → answer_of (rule_of c.args.asked.rule) c.run-o.new.list c.run-o.result
+    → answer_of c.run-o.result
     ≡ answer_by road c.args.tree.now c.args.query.now (asking_of c.args.asked)
-    = λ road e. c.run-o.ensures.answer road (ready_at (goal.at.returns c).After-prepare road e)
+    = λ road e. c.run-o.ensures road (ready_at (goal.at.returns c).After-prepare road e)
     ∙ same_search e (c.requires.2 road e) _ c.crews-q.ensures.count _ c.requires.1 _ c.crews-q.ensures.crews in record {
       found = λ road e. found_so _ _ _ c.report.ensures.found (so road e);
       work = back-zeroed c.args.work.now c.prepare.new.drives size _ c.zero_words.ensures;
