@@ -98,11 +98,10 @@ module _ (rs : List Road) (a s : ℕ) where
         (add-one v) refl) in
         rw (e, f) (record { low = omega (arith, x.low); high = omega arith; few = omega (arith, x.few); room = x.room; same = rw (← e1) x.same })
 
-  pub bordering_end : (list : List ℕ) (n v : ℕ) → a + s ≤ 1024 → Bordering rs a s list n v → a + s ≤ v → (n ≤ s) × (take n list ≡ borders rs a s)
+  pub bordering_end : (list : List ℕ) (n v : ℕ) → a + s ≤ 1024 → Bordering rs a s list n v → a + s ≤ v → take n list ≡ borders rs a s
   bordering_end list n v fits x h =
       let z : a + s - v ≡ 0 = omega arith in
-      let e = rw (z, borders-none rs a s v, append-nil (take n list)) at x.same in
-      (omega (arith, x.few, x.high), e)
+      rw (z, borders-none rs a s v, append-nil (take n list)) at x.same
 
 -- ---- a landmark
 
