@@ -3,7 +3,6 @@ use mathlib.Core.Path.{◌≡◌, refl, sym, ap, ◌∙◌}
 use mathlib.Core.Bool.{Bool, true, false, ◌&&◌, ◌||◌}
 use mathlib.Core.List.{List, [], ◌∷◌, ◌++◌, append-nil}
 use Prim.Native.Nat.{ℕ, suc, ◌+◌, ◌-◌, ◌*◌, ◌/◌, ◌≤◌, ◌<◌}
-use native.Mathlib.Nat.{mul-le-mul_right}
 use native.Mathlib.Numerals.{add-one}
 use native.Mathlib.Omega.{arith}
 use lib.ListN.{length, take, get_or, set, length-set}
@@ -110,7 +109,3 @@ landmark-from list m a s j r z e = e ∙ sym (landmark-none m a s list j z)
 
 pub landmark-at : (list : List ℕ) (m a s j r : ℕ) → (length list ≡ 0 → ⊥) → r ≡ get_or list (j * length list / m) 0 → r ≡ landmark m a s list j
 landmark-at list m a s j r z e = e ∙ sym (landmark-some m a s list j (omega (arith, z)))
-
--- the products of a landmark's number stay small
-pub product_small : (j m x : ℕ) → j < m → m ≤ 4 → x ≤ 1024 → j * x ≤ 4096
-product_small j m x h k l = let z : j ≤ 4 = omega arith in omega (arith, mul-le-mul_right x z)
