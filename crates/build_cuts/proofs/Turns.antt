@@ -2,7 +2,7 @@
 use mathlib.Core.Path.{◌≡◌, refl, sym, ap, ◌∙◌}
 use mathlib.Core.Logic.{◌⊎◌, inl, inr, ◌≢◌}
 use mathlib.Core.List.{List, [], ◌++◌}
-use Prim.Native.Nat.{ℕ, suc, ◌+◌, ◌-◌, ◌*◌, ◌≤◌, ◌<◌}
+use Prim.Native.Nat.{ℕ, suc, ◌+◌, ◌-◌, ◌≤◌, ◌<◌}
 use native.Mathlib.Numerals.{add-one}
 use native.Mathlib.Omega.{arith}
 use lib.ListN.{length}
@@ -15,21 +15,14 @@ use Rattle.build_rules.specs.Cut.{cut_at, cut_part}
 use Rattle.build_rules.specs.code.Facts.{count_below}
 use Rattle.build_rules.proofs.Parts.{cut-rise, cut-top}
 use Rattle.build_cuts.specs.code.Writing.{WrittenRegions}
-use Rattle.build_cuts.specs.code.Cutting.{range_regions, parts_from}
+use Rattle.build_records.specs.declared.Part.{Part}
+use Rattle.build_cuts.specs.declared.Plan.{Plan}
+use Rattle.adjacency.specs.Adjacency.{Adjacency}
+use Rattle.build_cuts.specs.code.Cutting.{range_regions, parts_from, regions_of, parts_of, Numbered, Room}
 use Rattle.build_cuts.proofs.Slices.{part-yards}
-use Rattle.build_cuts.proofs.Joining.{written_none, written_join, written_same, written-few, fits-first, fits-rest}
+use Rattle.build_cuts.proofs.Joining.{written_none, written_join, written_same, written-few, fits-first, fits-rest, room-kept}
 use Rattle.build_cuts.proofs.Cases.{parts_none, parts-drop, parts-keep}
 use Rattle.build_cuts.proofs.WholeRanges.{numbers-order, count-is}
-
--- a measure of the recursion falls: with a cut less left, and along the parts
-pub falls-cut : (levels t : ℕ) → levels ≢ 0 → levels * 1000 ≡ t → (levels - 1) * 1000 + (4 - 0 + 1) < t
-falls-cut levels t h e = omega (arith, h)
-
-pub falls-part : (levels i t : ℕ) → levels * 1000 + (4 - i + 1) ≡ t → levels * 1000 < t
-falls-part levels i t e = omega arith
-
-pub falls-next : (levels i t : ℕ) → i ≤ 4 → i ≢ 4 → levels * 1000 + (4 - i + 1) ≡ t → levels * 1000 + (4 - (i + 1) + 1) < t
-falls-next levels i t h n e = omega (arith, n)
 
 -- the cuts of a range rise, and none is after its end
 pub cuts-rise : (a s i low high : ℕ) → low ≡ cut_at a s i → high ≡ cut_at a s (i + 1) → low ≤ high
@@ -46,11 +39,8 @@ module _ (b yb : List ℕ) (ok : yard_refusal yb ≡ 0) (levels i a s limit m at
       written_same (version yb) tree at [] (parts_from b yb m limit levels a s i) tree at 0 (parts_none b yb m limit a s levels i e) (written_none (version yb) tree at)
 
   -- part i has `size` junctions from `low` on, and the yards of number `from` up to `end`
-  module _ (h : i ≤ 4) (n : i ≢ 4) (low size : ℕ) (el : low ≡ cut_at a s i) (eh : low + size ≡ cut_at a s (i + 1)) (from end : ℕ)
+  module _ (left : i < 4) (low size : ℕ) (el : low ≡ cut_at a s i) (eh : low + size ≡ cut_at a s (i + 1)) (from end : ℕ)
       (ef : from ≡ count_below low (yards_of yb)) (ee : end ≡ count_below (low + size) (yards_of yb)) where
-    left : i < 4
-    left = omega (arith, n)
-
     next : low + size ≡ cut_at a s (suc i)
     next = rw add-one at eh
 
@@ -107,19 +97,79 @@ module _ (b yb : List ℕ) (ok : yard_refusal yb ≡ 0) (levels i a s limit m at
               fits-rest (version yb) at room (parts_from b yb m limit levels a s i) (range_regions b yb m limit levels low size)
               (parts_from b yb m limit levels a s (i + 1)) kept fits tree mid p c w
 
-          pub rest-few : (after : List ℕ) (p' d : ℕ) → WrittenRegions (version yb) mid p (parts_from b yb m limit levels a s (i + 1)) after p' d → c + d ≤ room
-          rest-few after p' d v =
-              omega (
-                arith,
-                written-few (version yb) tree at (range_regions b yb m limit levels low size) mid p c w,
-                written-few (version yb) mid p (parts_from b yb m limit levels a s (i + 1)) after p' d v,
-                v.end,
-                rest-fits,
-              )
-
       pub rest-done : (tree mid : List ℕ) (p c : ℕ) → WrittenRegions (version yb) tree at (range_regions b yb m limit levels low size) mid p c
           → (after : List ℕ) (p' d : ℕ) → WrittenRegions (version yb) mid p (parts_from b yb m limit levels a s (i + 1)) after p' d
           → WrittenRegions (version yb) tree at (parts_from b yb m limit levels a s i) after p' (c + d)
       rest-done tree mid p c w after p' d v =
           written_same (version yb) tree at _ (parts_from b yb m limit levels a s i) after p' (c + d) kept
           (written_join (version yb) tree at (range_regions b yb m limit levels low size) (parts_from b yb m limit levels a s (i + 1)) mid p c after p' d w v)
+
+-- ---- a range that is cut, part by part
+
+-- with its parts below number i written, and `count` regions in all up to place `put`: what its other parts ask, and that
+-- with them it is done
+pub record Left (adj yb : List ℕ) (plan : Plan) (levels : ℕ) (p : Part) (tree₀ : List ℕ) (at : ℕ) (tree : List ℕ) (put count i : ℕ) : Type 0 where
+  pub room : Room (version yb) adj (parts_of yb plan (levels - 1) p i) put (length tree)
+  pub few : count ≤ put
+  pub done : (road : List ℕ) → Adjacency road adj → (after : List ℕ) (place more : ℕ)
+      → WrittenRegions (version yb) tree put (parts_of yb plan (levels - 1) p i road) after place more
+      → WrittenRegions (version yb) tree₀ at (regions_of yb plan levels p road) after place (count + more)
+
+module _ (adj yb : List ℕ) (ok : yard_refusal yb ≡ 0) (plan : Plan) (levels : ℕ) (p : Part) (tree₀ : List ℕ) (at : ℕ) (tree : List ℕ) (put count i : ℕ)
+    (x : Left adj yb plan levels p tree₀ at tree put count i) where
+  -- no part is left
+  pub left-none : 4 ≤ i → i ≤ 4 → (road : List ℕ) → Adjacency road adj → WrittenRegions (version yb) tree₀ at (regions_of yb plan levels p road) tree put count
+  left-none h l road a =
+      let z : count + 0 ≡ count = omega arith in
+      rw z at (x.done road a tree put 0 (parts-over road yb ok (levels - 1) i p.start.number p.size plan.limit plan.landmarks put tree (omega arith)))
+
+  module _ (left : i < 4) (q : Part) (el : q.start.number ≡ cut_at p.start.number p.size i)
+      (eh : q.start.number + q.size ≡ cut_at p.start.number p.size (i + 1)) (n : Numbered yb q) where
+    -- part i has no yards
+    pub left-drop : q.from ≡ q.end → Left adj yb plan levels p tree₀ at tree put count (i + 1)
+    left-drop e = record {
+      room = record {
+        book = x.room.book;
+        adjacent = x.room.adjacent;
+        fits = drop-fits x.room.book yb ok (levels - 1) i p.start.number p.size plan.limit plan.landmarks put left q.start.number q.size el eh q.from q.end
+            n.first n.after e (length tree) x.room.fits;
+      };
+      few = x.few;
+      done = λ road a after place more w. x.done road a after place more
+          (drop-done road yb ok (levels - 1) i p.start.number p.size plan.limit plan.landmarks put left q.start.number q.size el eh q.from q.end n.first n.after
+          e tree after place more w);
+    }
+
+    module _ (e : q.from ≢ q.end) where
+      pub left-room : Room (version yb) adj (regions_of yb plan (levels - 1) q) put (length tree)
+      left-room = record {
+        book = x.room.book;
+        adjacent = x.room.adjacent;
+        fits = part-fits x.room.book yb ok (levels - 1) i p.start.number p.size plan.limit plan.landmarks put left q.start.number q.size el eh q.from q.end
+            n.first n.after e (length tree) x.room.fits;
+      }
+
+      -- it is cut
+      module _ (next : List ℕ) (place c : ℕ)
+          (w : (road : List ℕ) → Adjacency road adj → WrittenRegions (version yb) tree put (regions_of yb plan (levels - 1) q road) next place c) where
+        rest : place + length (encode_regions (version yb) (parts_of yb plan (levels - 1) p (i + 1) x.room.book)) ≤ length tree
+        rest =
+            rest-fits x.room.book yb ok (levels - 1) i p.start.number p.size plan.limit plan.landmarks put left q.start.number q.size el eh q.from q.end
+            n.first n.after e (length tree) x.room.fits tree next place c (w x.room.book x.room.adjacent)
+
+        pub left-few : count + c ≤ place
+        left-few = omega (arith, x.few, written-few (version yb) tree put (regions_of yb plan (levels - 1) q x.room.book) next place c (w x.room.book x.room.adjacent))
+
+        pub left-in : place ≤ length tree
+        left-in = omega (arith, rest)
+
+        pub left-keep : length next ≡ length tree → Left adj yb plan levels p tree₀ at next place (count + c) (i + 1)
+        left-keep k = record {
+          room = record { book = x.room.book; adjacent = x.room.adjacent; fits = room-kept _ _ _ rest k };
+          few = left-few;
+          done = λ road a after end more v.
+              let z : count + c + more ≡ count + (c + more) = omega arith in
+              rw z (x.done road a after end (c + more)
+              (rest-done road yb ok (levels - 1) i p.start.number p.size plan.limit plan.landmarks put left q.start.number q.size el eh q.from q.end n.first
+              n.after e tree next place c (w road a) after end more v));
+        }

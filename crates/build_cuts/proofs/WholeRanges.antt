@@ -21,7 +21,7 @@ use Rattle.build_records.specs.code.Parts.{YardsUpTo, PartReady}
 use Rattle.build_cuts.specs.code.Writing.{own_regions, WrittenRegions}
 use Rattle.build_cuts.specs.code.Cutting.{Range, range_regions, parts_from}
 use Rattle.build_cuts.proofs.Slices.{below-most, below-rise, within-yards}
-use Rattle.build_cuts.proofs.Joining.{written_join, written_same, written-few, fits-first, fits-rest}
+use Rattle.build_cuts.proofs.Joining.{written_join, written_same, fits-first, fits-rest}
 use Rattle.build_cuts.proofs.Records.{own_room}
 use Rattle.build_cuts.proofs.Cases.{some-parts, regions-leaf, some_level, many_yards, regions-cut}
 
@@ -109,17 +109,6 @@ module _ (b yb : List ℕ) (ok : yard_refusal yb ≡ 0) (levels a s limit m at :
           parts_fit =
               fits-rest (version yb) at room (range_regions b yb m limit levels a s) (own_regions b yb m limit a s q ys)
               (parts_from b yb m limit (levels - 1) a s 0) both fits tree mid p c w
-
-          -- there are no more regions than bytes
-          pub cut-few : (after : List ℕ) (p' d : ℕ) → WrittenRegions (version yb) mid p (parts_from b yb m limit (levels - 1) a s 0) after p' d → c + d ≤ room
-          cut-few after p' d v =
-              omega (
-                arith,
-                written-few (version yb) tree at (own_regions b yb m limit a s q ys) mid p c w,
-                written-few (version yb) mid p (parts_from b yb m limit (levels - 1) a s 0) after p' d v,
-                v.end,
-                parts_fit,
-              )
 
       pub cut-done : (tree mid : List ℕ) (p c : ℕ) → WrittenRegions (version yb) tree at (own_regions b yb m limit a s q ys) mid p c
           → (after : List ℕ) (p' d : ℕ) → WrittenRegions (version yb) mid p (parts_from b yb m limit (levels - 1) a s 0) after p' d

@@ -7,7 +7,7 @@ ghost use Rattle.book.specs.Open.{version};
 ghost use Rattle.adjacency.specs.Adjacency.{Adjacency};
 ghost use Rattle.build_records.specs.code.Parts.{RecordReady, size_in};
 ghost use Rattle.build_cuts.specs.code.Writing.{own_in, WrittenRegions};
-ghost use Rattle.build_cuts.specs.code.Cutting.{Range, Room, regions_of, parts_of};
+ghost use Rattle.build_cuts.specs.code.Cutting.{Range, Room, regions_of};
 
 use build_records::{Part, Record};
 
@@ -50,8 +50,7 @@ fn put_own(adj: &[u16], yb: &[u8], r: Record, tree: &mut [u8], at: usize) -> Put
     }
 }
 
-// Writes the regions of a range, in preorder, with so many cuts left.
-#[cycle(cut_parts)]
+// Writes the regions of a range, in preorder, with so many cuts left. Each part that has yards is cut with one less.
 pub fn cut(
     levels: usize,
     p: Part,
@@ -76,43 +75,16 @@ pub fn cut(
         return put_own(adj, yb, leaf, tree, at);
     }
     let children = ranges::part_count(yb, p.start, p.size);
-    let first = put_own(adj, yb, Record { children, ..leaf }, tree, at);
-    let rest = parts(levels - 1, 0, p, plan, adj, yb, tree, first.at);
-    Put {
-        at: rest.at,
-        regions: first.regions + rest.regions,
+    let mut put = put_own(adj, yb, Record { children, ..leaf }, tree, at);
+    for i in 0..ranges::PARTS {
+        let q = ranges::part(yb, p, i);
+        if q.from != q.end {
+            let more = cut(levels - 1, q, plan, adj, yb, tree, put.at);
+            put = Put {
+                at: more.at,
+                regions: put.regions + more.regions,
+            };
+        }
     }
-}
-
-// Writes the regions of a range's parts of number i and after; each that has yards is cut with so many cuts left.
-#[cycle(cut_parts)]
-fn parts(
-    levels: usize,
-    i: usize,
-    p: Part,
-    plan: Plan,
-    adj: &[u16],
-    yb: &[u8],
-    tree: &mut [u8],
-    at: usize,
-) -> Put
-    requires { Range adj.now yb.now p × (i ≤ 4) × (plan.landmarks ≤ 4)
-        × Room (version yb.now) adj.now (parts_of yb.now plan levels p i) at (length tree.old) }
-    ensures { (road : List ℕ) → Adjacency road adj.now
-        → WrittenRegions (version yb.now) tree.old at
-        (parts_of yb.now plan levels p i road) tree.new result.at result.regions }
-{
-    if i == ranges::PARTS {
-        return Put { at: at, regions: 0 };
-    }
-    let q = ranges::part(yb, p, i);
-    if q.from == q.end {
-        return parts(levels, i + 1, p, plan, adj, yb, tree, at);
-    }
-    let first = cut(levels, q, plan, adj, yb, tree, at);
-    let rest = parts(levels, i + 1, p, plan, adj, yb, tree, first.at);
-    Put {
-        at: rest.at,
-        regions: first.regions + rest.regions,
-    }
+    put
 }

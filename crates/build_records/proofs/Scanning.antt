@@ -3,7 +3,6 @@ use mathlib.Core.Path.{◌≡◌, refl, sym, ap, ◌∙◌}
 use mathlib.Core.Bool.{Bool, true, false, ◌&&◌, ◌||◌}
 use mathlib.Core.List.{List, [], ◌∷◌, ◌++◌, append-nil}
 use Prim.Native.Nat.{ℕ, suc, ◌+◌, ◌-◌, ◌*◌, ◌/◌, ◌≤◌, ◌<◌}
-use native.Mathlib.Nat.{mul-le-mul_right}
 use native.Mathlib.Numerals.{add-one}
 use native.Mathlib.Omega.{arith}
 use lib.ListN.{length, take, get_or, set, length-set}
@@ -98,11 +97,10 @@ module _ (rs : List Road) (a s : ℕ) where
         (add-one v) refl) in
         rw (e, f) (record { low = omega (arith, x.low); high = omega arith; few = omega (arith, x.few); room = x.room; same = rw (← e1) x.same })
 
-  pub bordering_end : (list : List ℕ) (n v : ℕ) → a + s ≤ 1024 → Bordering rs a s list n v → a + s ≤ v → (n ≤ s) × (take n list ≡ borders rs a s)
+  pub bordering_end : (list : List ℕ) (n v : ℕ) → a + s ≤ 1024 → Bordering rs a s list n v → a + s ≤ v → take n list ≡ borders rs a s
   bordering_end list n v fits x h =
       let z : a + s - v ≡ 0 = omega arith in
-      let e = rw (z, borders-none rs a s v, append-nil (take n list)) at x.same in
-      (omega (arith, x.few, x.high), e)
+      rw (z, borders-none rs a s v, append-nil (take n list)) at x.same
 
 -- ---- a landmark
 
@@ -111,7 +109,3 @@ landmark-from list m a s j r z e = e ∙ sym (landmark-none m a s list j z)
 
 pub landmark-at : (list : List ℕ) (m a s j r : ℕ) → (length list ≡ 0 → ⊥) → r ≡ get_or list (j * length list / m) 0 → r ≡ landmark m a s list j
 landmark-at list m a s j r z e = e ∙ sym (landmark-some m a s list j (omega (arith, z)))
-
--- the products of a landmark's number stay small
-pub product_small : (j m x : ℕ) → j < m → m ≤ 4 → x ≤ 1024 → j * x ≤ 4096
-product_small j m x h k l = let z : j ≤ 4 = omega arith in omega (arith, mul-le-mul_right x z)

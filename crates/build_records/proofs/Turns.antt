@@ -2,7 +2,7 @@
 use mathlib.Core.Path.{◌≡◌, refl, sym, ap, ◌∙◌}
 use mathlib.Core.List.{List, ◌++◌}
 use Prim.Native.Nat.{ℕ, suc, ◌+◌, ◌-◌, ◌*◌, ◌≤◌, ◌<◌}
-use native.Mathlib.Nat.{suc-mul, mul-le-mul_right}
+use native.Mathlib.Nat.{suc-mul}
 use native.Mathlib.Numerals.{add-one}
 use native.Mathlib.Omega.{arith}
 use lib.ListN.{length}
@@ -16,10 +16,6 @@ use Rattle.build_records.specs.code.Marks.{landmark_bytes}
 -- with j landmarks written, each of w bytes, those that are left complete the tree
 pub record Marking (f : ℕ → List ℕ) (w m a s : ℕ) (bs tree₀ : List ℕ) (start : ℕ) (tree : List ℕ) (j : ℕ) : Type 0 where
   pub same : write tree (start + j * w) (landmark_bytes f m a s bs (m - j) j) ≡ write tree₀ start (landmark_bytes f m a s bs m 0)
-
--- the next landmark has its place
-pub marking_room : (w m start j size : ℕ) → start + m * w ≤ size → j < m → start + j * w + w ≤ size
-marking_room w m start j size h l = let z : suc j ≤ m = omega arith in omega (arith, mul-le-mul_right w z, suc-mul j w)
 
 module _ (f : ℕ → List ℕ) (w m a s : ℕ) (bs tree₀ : List ℕ) (start : ℕ) where
   pub marking_start : Marking f w m a s bs tree₀ start tree₀ 0

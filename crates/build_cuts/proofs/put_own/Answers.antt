@@ -6,9 +6,6 @@ use Rattle.build_cuts.proofs.put_own.Goals as goal
 pub returns-then-r-eq1 : goal.returns-then-r-eq1
 returns-then-r-eq1 c = λ road limit a. own_kept _ _ _ _ _ _ _ _ _ _ (omega (arith, c.if-r-eq1.true))
 
-pub put_record-end-requires : goal.put_record-end-requires
-put_record-end-requires c = let p = c.requires in (p.0, p.1 c.if-r-eq1.false)
-
 pub returns : goal.returns
 returns c =
     let w = c.put_record-end.ensures in

@@ -5,9 +5,6 @@ use Rattle.build_records.proofs.kinds_of.Goals as goal
 pub loop-k-init : goal.loop-k-init
 loop-k-init c = gathering_start _ _ _ c.requires
 
-pub kinds_at-requires : goal.kinds_at-requires
-kinds_at-requires c = let u = c.requires in (u.passes, omega (arith, c.loop-k-test.true, c.loop-k.invariant.low, u.most))
-
 pub loop-k-preserved : goal.loop-k-preserved
 loop-k-preserved c = gathering_turn _ _ _ c.requires _ _ _ _ c.loop-k.invariant c.loop-k-test.true c.kinds_at.ensures c.join-x.ensures
 

@@ -1,14 +1,13 @@
-use mathlib.Core.Path.{◌≡◌, refl, sym, ap, ◌∙◌}
-use Prim.Native.Nat.{ℕ, ◌+◌, ◌-◌, ◌*◌}
+use mathlib.Core.Path.{◌≡◌, refl, sym, ◌∙◌}
+use Prim.Native.Nat.{◌-◌}
 use native.Mathlib.Omega.{arith}
-use lib.ListN.{length}
 use Rattle.book.specs.Open.{version}
 use Rattle.adjacency.proofs.Linking.{few-junctions}
 use Rattle.tree_layout.specs.Decode.{mark_size}
 use Rattle.yard.proofs.YardLayout.{five}
 use Rattle.build_records.proofs.Numbered.{yards-few}
 use Rattle.build_records.proofs.Writing.{given_mark_length, mark_size_read}
-use Rattle.build_records.proofs.Turns.{marking_start, marking_room, marking_turn, marking_end, landmark-same, landmark-low}
+use Rattle.build_records.proofs.Turns.{marking_start, marking_turn, marking_end, landmark-same, landmark-low}
 use Rattle.build_records.proofs.put_marks.Goals.{After-mark_size-size}
 use Rattle.build_records.proofs.put_marks.Goals as goal
 
@@ -19,9 +18,6 @@ sized c = mark_size_read _ _ _ _ _ c.version.ensures c.mark_size-size.ensures
 
 pub version-requires : goal.version-requires
 version-requires c = five _ c.requires.0.range.yards.passes
-
-pub overflow_sub-p : goal.overflow_sub-p
-overflow_sub-p c = omega (arith, c.requires.0.range.yards.order)
 
 pub mark_size-size-requires : goal.mark_size-size-requires
 mark_size-size-requires c = omega (arith, yards-few _ _ _ c.requires.0.range.yards)
@@ -48,20 +44,6 @@ walk_from-requires c =
     c.landmark_of-l.ensures in
     (p.0.range.adjacency, i.0, h, i.1)
 
-pub put_mark-requires : goal.put_mark-requires
-put_mark-requires c =
-    let p = c.requires in (
-      p.0.range.yards,
-      p.0.held,
-      c.walk_from.auto.row ∙ c.loop-j.invariant.0,
-      omega (
-        arith,
-        sized (goal.at.put_mark-requires c).After-mark_size-size,
-        marking_room c.mark_size-size.result c.args.r.landmarks c.args.start c.loop-j.j (length c.args.tree.now) (rw (sized (goal.at.put_mark-requires c).After-mark_size-size) p.3) c.loop-j-test.true,
-        c.loop-j.auto.tree,
-      ),
-    )
-
 pub loop-j-preserved : goal.loop-j-preserved
 loop-j-preserved c =
     let w = c.walk_from in
@@ -74,9 +56,5 @@ loop-j-preserved c =
           (landmark-same _ _ _ _ _ _ _ (c.requires.1 road b) c.landmark_of-l.ensures) (x.ensures road (w.ensures road b) _ limit),
     )
 
-pub returns : goal.returns
-returns c =
-    let i = c.loop-j.invariant.2 in record {
-      place = ap (λ (w : ℕ). c.args.start + c.args.r.landmarks * w) (sized (goal.at.returns c).After-mark_size-size);
-      tree = λ road limit b. marking_end _ _ _ _ _ _ _ _ _ _ (i road limit b) c.loop-j-test.false;
-    }
+pub returns-clause-tree : goal.returns-clause-tree
+returns-clause-tree c = λ road limit b. marking_end _ _ _ _ _ _ _ _ _ _ (c.loop-j.invariant.2 road limit b) c.loop-j-test.false

@@ -23,9 +23,6 @@ overflow_cast-p-2 c = omega (arith, c.requires.0.range.inside, few-junctions c.r
 pub overflow_cast-p-3 : goal.overflow_cast-p-3
 overflow_cast-p-3 c = omega (arith, yards-few _ _ _ c.requires.0.range.yards)
 
-pub kinds_of-requires : goal.kinds_of-requires
-kinds_of-requires c = c.requires.0.range.yards
-
 pub put_fields-requires : goal.put_fields-requires
 put_fields-requires c = fields_room _ _ _ _ _ _ 0 c.version-v.ensures _ c.requires.1
 

@@ -1,14 +1,6 @@
 use mathlib.Core.Path.{sym}
-use native.Mathlib.Omega.{arith}
-use native.Mathlib.Nat.{mul-le-mul_right}
 use Rattle.build_rules.proofs.Parts.{cut-is}
 use Rattle.build_cuts.proofs.ranges.cut_at.Goals as goal
-
-pub overflow_mul-result : goal.overflow_mul-result
-overflow_mul-result c = omega (arith, mul-le-mul_right c.args.s c.requires.1, c.requires.0)
-
-pub overflow_add-result : goal.overflow_add-result
-overflow_add-result c = omega (arith, mul-le-mul_right c.args.s c.requires.1, c.requires.0)
 
 pub returns : goal.returns
 returns c = sym (cut-is _ _ _)

@@ -3,15 +3,6 @@ use native.Mathlib.Omega.{arith}
 use Rattle.build_cuts.proofs.Turns.{cuts-rise, cuts-top}
 use Rattle.build_cuts.proofs.ranges.part.Goals as goal
 
-pub cut_at-low-requires : goal.cut_at-low-requires
-cut_at-low-requires c = let p = c.requires in (p.1, omega (arith, p.2))
-
-pub overflow_add-i : goal.overflow_add-i
-overflow_add-i c = omega (arith, c.requires.2)
-
-pub cut_at-high-requires : goal.cut_at-high-requires
-cut_at-high-requires c = let p = c.requires in (p.1, omega (arith, p.2))
-
 pub overflow_cast-number : goal.overflow_cast-number
 overflow_cast-number c =
     let p = c.requires in

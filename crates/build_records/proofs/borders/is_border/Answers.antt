@@ -25,9 +25,6 @@ known : (c : In-loop-x) → ChainStep (outside c.args.a c.args.s)
     c.args.s c.args.v) c.loop-x.x
 known c = facts c c.requires.0.book c.requires.0.adjacent
 
-pub head-x-requires : goal.head-x-requires
-head-x-requires c = let p = c.requires in (p.0.adjacent.size, p.1)
-
 pub loop-x-init : goal.loop-x-init
 loop-x-init c = λ road a. border_begin road _ _ _ _ _ a c.requires.1 c.head-x.ensures
 
@@ -41,9 +38,6 @@ returns-then-u-a c = λ road a.
       | then-u-a-via-then-u-a w ↦ sym (stop (border_low _ _ _ _ c.to-u.ensures (omega (arith, w.if-u-a.true))))
       | then-u-a-via-else-u-a+then-a-s w ↦ sym (stop (border_high _ _ _ _ c.to-u.ensures (omega (arith, w.if-a-s.true))))
     ]
-
-pub overflow_add-a : goal.overflow_add-a
-overflow_add-a c = omega (arith, c.requires.2)
 
 pub next-x-requires : goal.next-x-requires
 next-x-requires c = (

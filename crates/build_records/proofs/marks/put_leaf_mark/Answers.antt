@@ -13,9 +13,6 @@ rank-list-requires c =
 pub put_leaf_mark_junction-requires : goal.put_leaf_mark_junction-requires
 put_leaf_mark_junction-requires c = junction-fits _ _ _ _ c.requires.2
 
-pub overflow_add-start : goal.overflow_add-start
-overflow_add-start c = omega (arith, junction-fits _ _ _ _ c.requires.2, c.well_formed, c.ranges)
-
 pub version-requires : goal.version-requires
 version-requires c = five _ c.requires.0.passes
 

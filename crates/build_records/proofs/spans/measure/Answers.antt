@@ -4,9 +4,6 @@ use Rattle.build_records.proofs.Numbered.{yard_read, yard-fits}
 use Rattle.build_records.proofs.Measuring.{measuring_start, measuring_turn, measuring_end}
 use Rattle.build_records.proofs.spans.measure.Goals as goal
 
-pub yard_at-first-requires : goal.yard_at-first-requires
-yard_at-first-requires c = let p = c.requires in (p.0.passes, omega (arith, p.0.most, p.1))
-
 pub bounds-row-first : goal.bounds-row-first
 bounds-row-first c =
     omega (
@@ -19,9 +16,6 @@ pub loop-k-init : goal.loop-k-init
 loop-k-init c =
     measuring_start _ _ _ _ _ _ c.requires.1 (yard_read _ _ _ c.requires.0 _ _ c.requires.1
     c.yard_at-first.ensures) refl
-
-pub yard_at-y-requires : goal.yard_at-y-requires
-yard_at-y-requires c = let u = c.requires.0 in (u.passes, omega (arith, c.loop-k-test.true, u.most))
 
 pub bounds-row-y : goal.bounds-row-y
 bounds-row-y c =
