@@ -110,6 +110,15 @@ pub marks_read : (b : List ℕ) (at : ℕ) → marks_at b at ≡ (read_region b 
 unfolding marks_at
 marks_read b at = refl
 
+-- by a count that is the header's
+module _ (b : List ℕ) (at m : ℕ) (e : m ≡ landmark_count b) where
+  pub marks-own : (read_region b m at).marks ≡ marks_at b at
+  unfolding marks_at
+  marks-own = rw e refl
+
+  pub record-fits : RecordAt b at → at + size_at b m at ≤ length b
+  record-fits r = rw e r.inside
+
 -- a landmark's numbers are its mark's
 pub landmark_fields : (l : Landmark) (m : Mark) → l ≡ landmark_of m → (l.place.number ≡ m.place) × (l.least ≡ m.least) × (l.greatest ≡ m.greatest)
 unfolding landmark_of
