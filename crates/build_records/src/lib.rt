@@ -79,14 +79,14 @@ fn put_marks(
 {
     let size = mark_size(book::version(yb), children, p.end - p.from);
     let mut row = [0u32; 1024];
-    let mut last = Junction { number: 65535 };
+    let mut last = None;
     let mut at = start;
     let mut j: usize = 0;
     while j < m {
         let l = borders::landmark_of(list, m, p.start, p.size, j);
         road::walk::walk_from(adj, &mut row, last, l);
         marks::put_mark(&row, yb, p, children, l, tree, at);
-        last = l;
+        last = Some(l);
         at += size;
         j += 1;
     }
