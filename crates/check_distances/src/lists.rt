@@ -18,7 +18,12 @@ fn list_true(p: &[u8], v: u8, n: usize, ds: &[u32]) -> bool
     requires { (n ≤ 65535) × (list_size v n ≤ length p.now) }
     ensures { result ≡ list_in ds.now (read_list v p.now n 0) }
 {
-    every::every_element(p, v, n, |e| e.distance == road::walk::distance_to(ds, e.yard))
+    every::every_element(
+        p,
+        v,
+        n,
+        |e| e.distance == road::walk::distance_to(ds, e.yard),
+    )
 }
 
 // Whether the lists of a leaf's m landmarks are true, by the fields of its record.

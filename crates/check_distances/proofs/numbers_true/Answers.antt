@@ -12,8 +12,7 @@ header-requires c = (layout-facts _ c.requires.regions).opens.headed
 
 pub every_region-requires : goal.every_region-requires
 every_region-requires c =
-    let p = c.requires in
-    (
+    let p = c.requires in (
       p.regions,
       λ k h.
           let marked = region_marked _ _ _ p k h _ refl in

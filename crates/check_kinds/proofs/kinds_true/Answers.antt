@@ -12,8 +12,7 @@ header-requires c = (layout-facts _ c.requires.1).opens.headed
 
 pub every_region-requires : goal.every_region-requires
 every_region-requires c =
-    let p = c.requires in
-    (
+    let p = c.requires in (
       p.1,
       λ k h.
           let stands = layout_record _ (layout-facts _ p.1) k h _ refl in

@@ -13,8 +13,7 @@ version-v-requires c = omega (arith, c.requires.0.header)
 
 pub every_mark-requires : goal.every_mark-requires
 every_mark-requires c =
-    let p = c.requires in
-    (
+    let p = c.requires in (
       p.0.header,
       record-fits _ _ _ p.3 p.0,
       λ j h.

@@ -17,11 +17,11 @@ loop-k-preserved c =
     let left : c.loop-k.k < length (yards_of c.args.yard.now) = omega (arith, c.loop-k-test.true, c.count-k-end.ensures, yards-length c.args.yard.now) in
     let t : c.contains.result ≡ (leb c.args.f.first.number c.yard_at-y.result.number && ltb c.yard_at-y.result.number c.args.f.after) = search rules in
     elim c.if-contains.branch [
-      then-contains w ↦ (
+      | then-contains w ↦ (
         least-turn _ _ _ _ _ _ _ _ left c.yard_at-y.ensures (least_in _ _ _ _ _ (sym t ∙ w.if-contains.true) _ (omega (arith, w.low-is, w.min-low.ensures, w.distance_to-d.ensures))) ∙ i.0,
         greatest-turn _ _ _ _ _ _ _ _ left c.yard_at-y.ensures (greatest_in _ _ _ _ _ (sym t ∙ w.if-contains.true) _ (omega (arith, w.high-is, w.max-high.ensures, w.distance_to-d.ensures))) ∙ i.1,
       )
-    | else-contains w ↦ (
+      | else-contains w ↦ (
         least-turn _ _ _ _ _ _ _ _ left c.yard_at-y.ensures (w.low-is ∙ least-out _ _ _ _ _ (sym t ∙ w.if-contains.false)) ∙ i.0,
         greatest-turn _ _ _ _ _ _ _ _ left c.yard_at-y.ensures (w.high-is ∙ greatest-out _ _ _ _ _ (sym t ∙ w.if-contains.false)) ∙ i.1,
       )
