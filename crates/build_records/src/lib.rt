@@ -80,12 +80,12 @@ fn put_marks(
     let p = r.part;
     let size = mark_size(book::version(yb), r.children, p.end - p.from);
     let mut row = [0u32; 1024];
-    let mut last = Junction { number: 65535 };
+    let mut last = None;
     for j in 0..r.landmarks {
         let l = borders::landmark_of(list, r.landmarks, p.start, p.size, j);
         road::walk::walk_from(adj, &mut row, last, l);
         marks::put_mark(&row, yb, p, r.children, l, tree, start + j * size);
-        last = l;
+        last = Some(l);
     }
     start + r.landmarks * size
 }

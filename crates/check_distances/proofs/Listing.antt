@@ -22,39 +22,13 @@ use Rattle.tree_layout.specs.Refusal.{all}
 use Rattle.tree_layout.specs.declared.Fields.{Fields}
 use Rattle.tree_layout.specs.declared.Listed.{Listed}
 use Rattle.tree_layout.proofs.Accessing.{listed-distance, listed-yard}
-use Rattle.tree_layout.proofs.Turns.{all_same}
+use Rattle.tree_layout.proofs.Turns.{all_same, all_goes, all_stops}
 use Rattle.check_rules.specs.Truth.{true_element, true_list}
 use Rattle.check_rules.proofs.Testing.{element-test, list-test}
-use Rattle.check_rules.proofs.Records.{mark_mem}
-use Rattle.check_rules.proofs.Elements.{elements_first, elements_done, elements_on, elements_off, list-is, place_is, marks_on, marks_off}
+use Rattle.check_rules.proofs.Records.{mark_number, mark_mem}
+use Rattle.check_rules.proofs.Elements.{list-is, place_is}
 use Rattle.check_distances.specs.code.Row.{element_in, list_in}
 use Rattle.check_distances.specs.code.Beside.{Marked}
-
--- ---- a list of a version v book, with k of n elements done
-
-module _ (ds : List ℕ) (v : ℕ) (p : List ℕ) (n k : ℕ) where
-  pub list-first : list_in ds (read_list v p (n - 0) (list_size v 0)) ≡ list_in ds (read_list v p n 0)
-  unfolding list_in
-  list-first = elements_first (element_in ds) v p n
-
-  pub list-end : n ≤ k → list_in ds (read_list v p (n - k) (list_size v k)) ≡ true
-  unfolding list_in
-  list-end h = elements_done (element_in ds) v p n k h
-
-  module _ (d : ℕ) (e : Listed) (h : k < n) (q : e ≡ listed_at v p k) (g : d ≡ at ds e.yard.number) where
-    here : element_in ds (element_at v p (list_size v k)) ≡ eqb e.distance d
-    unfolding element_in
-    here = rw (g, listed-distance v p k e q, listed-yard v p k e q) refl
-
-    -- the element's distance is another
-    pub list_stop : (e.distance ≡ d → ⊥) → list_in ds (read_list v p (n - k) (list_size v k)) ≡ false
-    unfolding list_in
-    list_stop x = elements_off (element_in ds) v p n k h (here ∙ ne_eqb _ _ x)
-
-    -- it is that one: the later elements decide
-    pub list-next : e.distance ≡ d → list_in ds (read_list v p (n - (k + 1)) (list_size v (k + 1))) ≡ list_in ds (read_list v p (n - k) (list_size v k))
-    unfolding list_in
-    list-next x = elements_on (element_in ds) v p n k h (here ∙ eq-eqb _ _ x)
 
 -- ---- what a row says of a list is what test 9 says
 
@@ -86,7 +60,7 @@ module _ (adj tree : List ℕ) (f : Fields) (k : Marked adj tree f.at) (ef : f �
         g ∙ list_same road mark
 
     pub lists_on : r ≡ true → all (true_list (dist road)) (drop (j + 1) (marks_at tree f.at)) ≡ all (true_list (dist road)) (drop j (marks_at tree f.at))
-    lists_on t = marks_on tree f.at (true_list (dist road)) j h r answer t
+    lists_on t = all_goes (true_list (dist road)) (marks_at tree f.at) no_mark j (mark_number tree f.at j h) (sym answer ∙ t)
 
     pub lists_off : r ≡ false → all (true_list (dist road)) (drop j (marks_at tree f.at)) ≡ false
-    lists_off t = marks_off tree f.at (true_list (dist road)) j h r answer t
+    lists_off t = all_stops (true_list (dist road)) (marks_at tree f.at) no_mark j (mark_number tree f.at j h) (sym answer ∙ t)

@@ -1,13 +1,12 @@
 -- An inner region's landmarks, one yard and one landmark at a time. Assumes nothing.
 use mathlib.Core.Path.{◌≡◌, sym, ◌∙◌}
-use mathlib.Core.Logic.{inl, inr}
-use mathlib.Core.Bool.{Bool, true, false}
+use mathlib.Core.Bool.{Bool, true, false, ◌&&◌}
 use mathlib.Core.List.{List, [], ◌∷◌}
 use Prim.Native.Nat.{ℕ, ◌+◌, ◌≤◌, ◌<◌, min, max}
 use native.Mathlib.Omega.{arith}
 use borrow.Author.Tests.{eq-eqb, ne_eqb}
 use lib.ListN.{length, get_or, drop}
-use lib.Dec.{eqb}
+use lib.Dec.{ltb, leb, eqb}
 use Rattle.road_layout.proofs.Layouts.{passing_layout}
 use Rattle.adjacency.specs.Adjacency.{count_in, Adjacency}
 use Rattle.road.specs.Dijkstra.{far, at, dist}
@@ -24,7 +23,7 @@ use Rattle.check_rules.proofs.Testing.{span-test}
 use Rattle.check_rules.proofs.Folding.{outside, inside, turn, ended}
 use Rattle.check_distances.specs.code.Row.{span_in}
 use Rattle.check_distances.specs.code.Beside.{Marked}
-use Rattle.check_rules.proofs.Turns.{all_goes, all_stops}
+use Rattle.tree_layout.proofs.Turns.{all_goes, all_stops}
 use Rattle.check_distances.proofs.Rows.{looks, dist-most}
 use Rattle.check_rules.proofs.Records.{mark_number, mark_mem}
 
@@ -32,23 +31,17 @@ use Rattle.check_rules.proofs.Records.{mark_number, mark_mem}
 
 module _ (f : ℕ → ℕ) (low high : ℕ) where
   module _ (x y : ℕ) where
-    pub least-low : y < low → x ≡ least_distance_from f x (within low high (y ∷ []))
-    least-low h = outside (least_distance_from f) (λ a b. min a (f b)) (least-none f) (least-next f) low high x y (inl h)
+    pub least-out : (leb low y && ltb y high) ≡ false → x ≡ least_distance_from f x (within low high (y ∷ []))
+    least-out h = outside (least_distance_from f) (λ a b. min a (f b)) (least-none f) (least-next f) low high x y h
 
-    pub least-high : high ≤ y → x ≡ least_distance_from f x (within low high (y ∷ []))
-    least-high h = outside (least_distance_from f) (λ a b. min a (f b)) (least-none f) (least-next f) low high x y (inr h)
+    pub least_in : (leb low y && ltb y high) ≡ true → (z : ℕ) → z ≡ min x (f y) → z ≡ least_distance_from f x (within low high (y ∷ []))
+    least_in h z e = e ∙ inside (least_distance_from f) (λ a b. min a (f b)) (least-none f) (least-next f) low high x y h
 
-    pub least_in : low ≤ y → y < high → (z : ℕ) → z ≡ min x (f y) → z ≡ least_distance_from f x (within low high (y ∷ []))
-    least_in h l z e = e ∙ inside (least_distance_from f) (λ a b. min a (f b)) (least-none f) (least-next f) low high x y h l
+    pub greatest-out : (leb low y && ltb y high) ≡ false → x ≡ greatest_from f x (within low high (y ∷ []))
+    greatest-out h = outside (greatest_from f) (λ a b. max a (f b)) (greatest-none f) (greatest-next f) low high x y h
 
-    pub greatest-low : y < low → x ≡ greatest_from f x (within low high (y ∷ []))
-    greatest-low h = outside (greatest_from f) (λ a b. max a (f b)) (greatest-none f) (greatest-next f) low high x y (inl h)
-
-    pub greatest-high : high ≤ y → x ≡ greatest_from f x (within low high (y ∷ []))
-    greatest-high h = outside (greatest_from f) (λ a b. max a (f b)) (greatest-none f) (greatest-next f) low high x y (inr h)
-
-    pub greatest_in : low ≤ y → y < high → (z : ℕ) → z ≡ max x (f y) → z ≡ greatest_from f x (within low high (y ∷ []))
-    greatest_in h l z e = e ∙ inside (greatest_from f) (λ a b. max a (f b)) (greatest-none f) (greatest-next f) low high x y h l
+    pub greatest_in : (leb low y && ltb y high) ≡ true → (z : ℕ) → z ≡ max x (f y) → z ≡ greatest_from f x (within low high (y ∷ []))
+    greatest_in h z e = e ∙ inside (greatest_from f) (λ a b. max a (f b)) (greatest-none f) (greatest-next f) low high x y h
 
   module _ (ys : List ℕ) where
     pub least-turn : (k x z y : ℕ) → k < length ys → y ≡ get_or ys k 0 → z ≡ least_distance_from f x (within low high (y ∷ []))

@@ -12,7 +12,7 @@ ghost use Rattle.tree_layout.specs.Decode.{decode, read_region, landmark_count};
 ghost use Rattle.check_rules.specs.Truth.{within, true_beside_region, true_beside};
 ghost use Rattle.check_distances.specs.code.Beside.{Marked, Beside};
 
-use tree_layout::records;
+use tree_layout::{every, records};
 
 // Whether the numbers of the region whose record is at a place are true. It has m landmarks.
 fn region_true(adj: &[u16], yard: &[u8], tree: &[u8], m: usize, at: usize) -> bool
@@ -35,17 +35,6 @@ pub fn numbers_true(adj: &[u16], yard: &[u8], tree: &[u8]) -> bool
     ensures { (road : List ℕ) → Adjacency road adj.now
         → result ≡ true_beside (dist road) (yards_of yard.now) (decode tree.now) }
 {
-    let h = records::header(tree);
-    let m = h.landmarks as usize;
-    let n = h.regions as usize;
-    let mut at = records::FIRST_RECORD;
-    let mut k: usize = 0;
-    while k < n {
-        if !region_true(adj, yard, tree, m, at) {
-            return false;
-        }
-        at += tree_layout::size_at(tree, m, at);
-        k += 1;
-    }
-    true
+    let m = records::header(tree).landmarks as usize;
+    every::every_region(tree, |at| region_true(adj, yard, tree, m, at))
 }

@@ -11,23 +11,19 @@ ghost use Rattle.check_rules.specs.Truth.{true_list};
 ghost use Rattle.check_distances.specs.code.Row.{list_in};
 ghost use Rattle.check_distances.specs.code.Beside.{Marked};
 
-use book::Junction;
-use tree_layout::{Fields, landmarks, records};
+use tree_layout::{Fields, every, landmarks, records};
 
 // Whether each of n elements has the distance that ds has for its yard.
 fn list_true(p: &[u8], v: u8, n: usize, ds: &[u32]) -> bool
     requires { (n ≤ 65535) × (list_size v n ≤ length p.now) }
     ensures { result ≡ list_in ds.now (read_list v p.now n 0) }
 {
-    let mut k: usize = 0;
-    while k < n {
-        let e = records::element(p, v, k);
-        if e.distance != road::walk::distance_to(ds, e.yard) {
-            return false;
-        }
-        k += 1;
-    }
-    true
+    every::every_element(
+        p,
+        v,
+        n,
+        |e| e.distance == road::walk::distance_to(ds, e.yard),
+    )
 }
 
 // Whether the lists of a leaf's m landmarks are true, by the fields of its record.
@@ -40,9 +36,8 @@ pub fn lists_true(adj: &[u16], tree: &[u8], f: Fields, m: usize) -> bool
     let v = book::version(tree);
     let yards = f.yards as usize;
     let mut ds = [0u32; 1024];
-    let mut last = Junction { number: 65535 };
-    let mut j: usize = 0;
-    while j < m {
+    let mut last = None;
+    for j in 0..m {
         let at = landmarks::mark_place(tree, f.at, j);
         let place = records::junction(tree, at);
         road::walk::walk_from(adj, &mut ds, last, place);
@@ -50,8 +45,7 @@ pub fn lists_true(adj: &[u16], tree: &[u8], f: Fields, m: usize) -> bool
         if !list_true(list, v, yards, &ds) {
             return false;
         }
-        last = place;
-        j += 1;
+        last = Some(place);
     }
     true
 }

@@ -1,11 +1,12 @@
 -- The bits of the yards in a range together, one yard at a time. Assumes nothing.
 use mathlib.Core.Path.{◌≡◌, sym, ap, ◌∙◌}
-use mathlib.Core.Logic.{inl, inr}
+use mathlib.Core.Bool.{true, false, ◌&&◌}
 use mathlib.Core.List.{List, [], ◌∷◌}
 use Prim.Native.Nat.{ℕ, ◌+◌, ◌≤◌, ◌<◌}
 use native.Mathlib.Omega.{arith}
 use lib.ListN.{get_or, drop}
 use lib.Bits.{bit_or}
+use lib.Dec.{ltb, leb}
 use Rattle.kinds.specs.Kinds.{together_from, together}
 use Rattle.yard.specs.Yards.{yard_count, yard_at, yard_kind, yards_of, kind_of, yard_refusal}
 use Rattle.yard.proofs.YardLayout.{yards-at, yards-length}
@@ -23,19 +24,16 @@ module _ (b : List ℕ) (e : yard_refusal b ≡ 0) (low high i x y : ℕ) (h : i
   read : y ≡ yard_at b i
   read = g ∙ yards-at b i h
 
-  -- it lies before the range, or after it
-  pub join_low : y < low → x ≡ together_from (kind_of b) x (within low high (yard_at b i ∷ []))
-  join_low l = rw (← read) (outside (together_from (kind_of b)) next (from-none (kind_of b)) (from_next (kind_of b)) low high x y (inl l))
-
-  pub join_high : high ≤ y → x ≡ together_from (kind_of b) x (within low high (yard_at b i ∷ []))
-  join_high l = rw (← read) (outside (together_from (kind_of b)) next (from-none (kind_of b)) (from_next (kind_of b)) low high x y (inr l))
+  -- it lies out of the range
+  pub join_out : (leb low y && ltb y high) ≡ false → x ≡ together_from (kind_of b) x (within low high (yard_at b i ∷ []))
+  join_out l = rw (← read) (outside (together_from (kind_of b)) next (from-none (kind_of b)) (from_next (kind_of b)) low high x y l)
 
   -- it lies in the range
-  pub join_in : low ≤ y → y < high → (k z : ℕ) → k ≡ yard_kind b i → z ≡ bit_or x k → z ≡ together_from (kind_of b) x (within low high (yard_at b i ∷ []))
-  join_in l m k z q t =
+  pub join_in : (leb low y && ltb y high) ≡ true → (k z : ℕ) → k ≡ yard_kind b i → z ≡ bit_or x k → z ≡ together_from (kind_of b) x (within low high (yard_at b i ∷ []))
+  join_in l k z q t =
       let c : kind_of b y ≡ k = ap (kind_of b) read ∙ kind_of_lem b e i h ∙ sym q in
       let w : z ≡ bit_or x (kind_of b y) = rw c t in
-      rw (← read) (w ∙ inside (together_from (kind_of b)) next (from-none (kind_of b)) (from_next (kind_of b)) low high x y l m)
+      rw (← read) (w ∙ inside (together_from (kind_of b)) next (from-none (kind_of b)) (from_next (kind_of b)) low high x y l)
 
 -- ---- with i of a book's yards done
 

@@ -12,7 +12,7 @@ ghost use Rattle.tree_layout.specs.Refusal.{all, tree_layout_refusal};
 ghost use Rattle.check_rules.specs.Truth.{within, kinds_element, kinds_list, kinds_beside_region, kinds_beside};
 
 use book::Junction;
-use tree_layout::{Fields, every, landmarks, records};
+use tree_layout::{Fields, every, records};
 
 // A table of kinds has a place for each of 1,024 junctions.
 const JUNCTIONS: usize = 1024;
@@ -40,16 +40,9 @@ fn lists_true(tree: &[u8], f: Fields, m: usize, table: &[u8]) -> bool
 {
     let v = book::version(tree);
     let yards = f.yards as usize;
-    let mut j: usize = 0;
-    while j < m {
-        let at = landmarks::mark_place(tree, f.at, j);
-        let list = records::list(tree, at, yards);
-        if !list_true(list, v, yards, table) {
-            return false;
-        }
-        j += 1;
-    }
-    true
+    every::every_mark(tree, f.at, m, |at| {
+        list_true(records::list(tree, at, yards), v, yards, table)
+    })
 }
 
 // x with the bits of yard number i, if the yard lies in the region's range; else x.
@@ -59,10 +52,7 @@ fn joined(yard: &[u8], i: usize, f: Fields, x: u8) -> u8
         (within f.first.number f.after (yard_at yard.now i ∷ [])) }
 {
     let y = yard::yard_at(yard, i).number;
-    if y < f.first.number {
-        return x;
-    }
-    if f.after <= y {
+    if !(f.first.number..f.after).contains(&y) {
         return x;
     }
     kinds::join(x, yard::kinds_at(yard, i))
@@ -74,12 +64,9 @@ fn together(yard: &[u8], f: Fields) -> u8
     ensures { result ≡ together (kind_of yard.now)
         (within f.first.number f.after (yards_of yard.now)) }
 {
-    let n = yard::count(yard) as usize;
     let mut x: u8 = 0;
-    let mut i: usize = 0;
-    while i < n {
+    for i in 0..yard::count(yard) as usize {
         x = joined(yard, i, f, x);
-        i += 1;
     }
     x
 }
@@ -109,17 +96,6 @@ pub fn kinds_true(yard: &[u8], tree: &[u8]) -> bool
 {
     let mut table = [0u8; JUNCTIONS];
     yard::kind_table(yard, &mut table);
-    let h = records::header(tree);
-    let m = h.landmarks as usize;
-    let n = h.regions as usize;
-    let mut at = records::FIRST_RECORD;
-    let mut k: usize = 0;
-    while k < n {
-        if !region_true(yard, tree, m, at, &table) {
-            return false;
-        }
-        at += tree_layout::size_at(tree, m, at);
-        k += 1;
-    }
-    true
+    let m = records::header(tree).landmarks as usize;
+    every::every_region(tree, |at| region_true(yard, tree, m, at, &table))
 }

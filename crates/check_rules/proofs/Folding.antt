@@ -1,41 +1,35 @@
 -- A number that is carried along the yards of a list that lie in a range. Assumes nothing.
-use mathlib.Core.Path.{◌≡◌, refl, sym, ap, ◌∙◌}
-use mathlib.Core.Logic.{◌⊎◌, inl, inr}
+use mathlib.Core.Path.{◌≡◌, refl, sym, ◌∙◌}
+use mathlib.Core.Bool.{Bool, true, false, ◌&&◌}
 use mathlib.Core.List.{List, [], ◌∷◌}
 use Prim.Native.Nat.{ℕ, ◌+◌, ◌≤◌, ◌<◌}
-use native.Mathlib.Omega.{arith}
 use lib.ListN.{length, get_or, drop, drop_of_length-le}
-use Rattle.book.proofs.Choosing.{lt-or_ge}
+use lib.Dec.{ltb, leb}
+use Rattle.book.specs.Choose.{choose}
+use Rattle.tree_layout.proofs.Turns.{drop-next}
 use Rattle.check_rules.specs.Truth.{within}
-use Rattle.check_rules.proofs.Within.{within_yes, within_no, within_empty}
-use Rattle.check_rules.proofs.Turns.{drop-next}
-
-module _ (low high y : ℕ) (ys : List ℕ) where
-  -- before the range, or after it
-  skip : (y < low) ⊎ (high ≤ y) → within low high (y ∷ ys) ≡ within low high ys
-  skip (inl h) = within_no low high y ys (λ a b. omega arith)
-  skip (inr h) = within_no low high y ys (λ a b. omega arith)
+use Rattle.check_rules.proofs.Within.{within_empty}
 
 -- a number that is carried along a list: `fold x ys` is that of the list, `next` that of one yard
 module _ (fold : ℕ → List ℕ → ℕ) (next : ℕ → ℕ → ℕ) (none : (x : ℕ) → fold x [] ≡ x)
     (more : (x y : ℕ) (ys : List ℕ) → fold x (y ∷ ys) ≡ fold (next x y) ys) (low high x y : ℕ) where
-  pub outside : (y < low) ⊎ (high ≤ y) → x ≡ fold x (within low high (y ∷ []))
-  outside h = sym (ap (fold x) (skip low high y [] h ∙ within_empty low high) ∙ none x)
+  -- by whether the yard is in the range
+  pub outside : (leb low y && ltb y high) ≡ false → x ≡ fold x (within low high (y ∷ []))
+  unfolding within choose
+  outside h = rw h (sym (none x))
 
-  pub inside : low ≤ y → y < high → next x y ≡ fold x (within low high (y ∷ []))
-  inside h l = sym (ap (fold x) (within_yes low high y [] h l ∙ ap (λ (t : List ℕ). y ∷ t) (within_empty low high)) ∙ more x y [] ∙ none (next x y))
+  pub inside : (leb low y && ltb y high) ≡ true → next x y ≡ fold x (within low high (y ∷ []))
+  unfolding within choose
+  inside h = rw h (sym (more x y [] ∙ none (next x y)))
 
   -- the yard, then the later ones
   onward : (ys : List ℕ) → fold (fold x (within low high (y ∷ []))) (within low high ys) ≡ fold x (within low high (y ∷ ys))
-  onward ys = go (lt-or_ge y low) (lt-or_ge y high)
+  unfolding within choose
+  onward ys = go (leb low y && ltb y high)
     where
-      out : (y < low) ⊎ (high ≤ y) → fold (fold x (within low high (y ∷ []))) (within low high ys) ≡ fold x (within low high (y ∷ ys))
-      out h = rw (skip low high y ys h, ← outside h) refl
-
-      go : (y < low) ⊎ (low ≤ y) → (y < high) ⊎ (high ≤ y) → fold (fold x (within low high (y ∷ []))) (within low high ys) ≡ fold x (within low high (y ∷ ys))
-      go (inl h) l = out (inl h)
-      go (inr h) (inr l) = out (inr l)
-      go (inr h) (inl l) = rw (within_yes low high y ys h l, more x y (within low high ys), ← inside h l) refl
+      go : (t : Bool) → fold (fold x (choose t (y ∷ []) [])) (within low high ys) ≡ fold x (choose t (y ∷ within low high ys) (within low high ys))
+      go true = rw (more x y [], none (next x y), more x y (within low high ys)) refl
+      go false = rw (none x) refl
 
 -- with k of a list's yards done
 module _ (fold : ℕ → List ℕ → ℕ) (next : ℕ → ℕ → ℕ) (none : (x : ℕ) → fold x [] ≡ x)

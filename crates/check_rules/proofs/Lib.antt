@@ -1,4 +1,3 @@
-pub mod Turns
 pub mod Extremes
 pub mod Within
 pub mod Folding

@@ -20,9 +20,9 @@ use Rattle.tree_layout.specs.declared.Listed.{Listed}
 use Rattle.tree_layout.proofs.Accessing.{listed-yard}
 use Rattle.tree_leaf.specs.Leaf.{first_list}
 use Rattle.tree_leaf.proofs.Named.{first-from}
-use Rattle.check_rules.proofs.Turns.{drop-next}
+use Rattle.tree_layout.proofs.Turns.{drop-next}
 use Rattle.check_rules.proofs.Records.{marks_are, children_are, own_place, fields_own, record_own}
-use Rattle.check_rules.proofs.Elements.{elements_first, elements_done, elements_on, elements_off, list-fits, list_length, list-is}
+use Rattle.check_rules.proofs.Elements.{list-fits, list_length, list-is}
 use Rattle.check_tree.specs.Check.{has}
 use Rattle.check_tree.specs.code.Known.{known_element, known_list, known_region, known_tree}
 
@@ -42,31 +42,6 @@ module _ (ys : List ℕ) (y k z : ℕ) (h : k < length ys) (e : z ≡ get_or ys 
 pub has-none : (ys : List ℕ) (y k : ℕ) → length ys ≤ k → has (drop k ys) y ≡ false
 unfolding has
 has-none ys y k h = rw (drop_of_length-le ys h) refl
-
--- ---- a list of a version v book, with k of n elements done
-
-module _ (ys : List ℕ) (v : ℕ) (p : List ℕ) (n k : ℕ) where
-  pub list-first : known_list ys (read_list v p (n - 0) (list_size v 0)) ≡ known_list ys (read_list v p n 0)
-  unfolding known_list
-  list-first = elements_first (known_element ys) v p n
-
-  pub list_done : n ≤ k → known_list ys (read_list v p (n - k) (list_size v k)) ≡ true
-  unfolding known_list
-  list_done h = elements_done (known_element ys) v p n k h
-
-  module _ (e : Listed) (h : k < n) (q : e ≡ listed_at v p k) where
-    list-here : known_element ys (element_at v p (list_size v k)) ≡ has ys e.yard.number
-    unfolding known_element
-    list-here = ap (has ys) (sym (listed-yard v p k e q))
-
-    pub list_unknown : has ys e.yard.number ≡ false → known_list ys (read_list v p (n - k) (list_size v k)) ≡ false
-    unfolding known_list
-    list_unknown f = elements_off (known_element ys) v p n k h (list-here ∙ f)
-
-    pub list_known_lem : has ys e.yard.number ≡ true
-        → known_list ys (read_list v p (n - (k + 1)) (list_size v (k + 1))) ≡ known_list ys (read_list v p (n - k) (list_size v k))
-    unfolding known_list
-    list_known_lem f = elements_on (known_element ys) v p n k h (list-here ∙ f)
 
 -- ---- a region, by the fields of its record
 

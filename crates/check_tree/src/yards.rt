@@ -9,21 +9,17 @@ ghost use Rattle.check_tree.specs.Check.{has};
 ghost use Rattle.check_tree.specs.code.Known.{known_list, known_region, known_tree};
 
 use book::Junction;
-use tree_layout::{landmarks, records};
+use tree_layout::{every, landmarks, records};
 
 // Whether a yard book has yard y.
 fn has_yard(yard: &[u8], y: Junction) -> bool
     requires { yard_refusal yard.now ≡ 0 }
     ensures { result ≡ has (yards_of yard.now) y.number }
 {
-    let n = yard::count(yard) as usize;
-    let mut k: usize = 0;
-    while k < n {
-        let z = yard::yard_at(yard, k);
-        if z.number == y.number {
+    for k in 0..yard::count(yard) as usize {
+        if yard::yard_at(yard, k).number == y.number {
             return true;
         }
-        k += 1;
     }
     false
 }
@@ -33,15 +29,7 @@ fn list_known(yard: &[u8], p: &[u8], v: u8, n: usize) -> bool
     requires { (yard_refusal yard.now ≡ 0) × (n ≤ 65535) × (list_size v n ≤ length p.now) }
     ensures { result ≡ known_list (yards_of yard.now) (read_list v p.now n 0) }
 {
-    let mut k: usize = 0;
-    while k < n {
-        let e = records::element(p, v, k);
-        if !has_yard(yard, e.yard) {
-            return false;
-        }
-        k += 1;
-    }
-    true
+    every::every_element(p, v, n, |e| has_yard(yard, e.yard))
 }
 
 // Whether a yard book has each yard of the region whose record is at a place: a leaf's, which its first list names.
@@ -65,17 +53,5 @@ pub fn yards_known(yard: &[u8], tree: &[u8]) -> bool
     requires { (yard_refusal yard.now ≡ 0) × (tree_layout_refusal tree.now ≡ 0) }
     ensures { result ≡ known_tree (yards_of yard.now) (decode tree.now) }
 {
-    let h = records::header(tree);
-    let m = h.landmarks as usize;
-    let n = h.regions as usize;
-    let mut at = records::FIRST_RECORD;
-    let mut k: usize = 0;
-    while k < n {
-        if !region_known(yard, tree, at) {
-            return false;
-        }
-        at += tree_layout::size_at(tree, m, at);
-        k += 1;
-    }
-    true
+    every::every_region(tree, |at| region_known(yard, tree, at))
 }

@@ -23,7 +23,7 @@ use Rattle.tree.specs.Answer.{Shaped, Refused, tree_of, places_after, ends_after
 use Rattle.tree.proofs.Answering.{shaped-found, turned_back, accepted-laid, accepted_slots, accepted-room, accepted-ends}
 use Rattle.outline.specs.Known.{Known}
 use Rattle.outline.specs.Output.{columns, columns_kinds, columns_of, header_text, line_end_of, line_of, region_text, outline_text}
-use Rattle.tree.proofs.Filling.{level-same}
+use Rattle.outline.proofs.Levels.{level_same}
 
 module _ (b : List ℕ) (h : Header) (read : Shaped h ≡ tree_of b) where
   accepted : tree_refusal b ≡ 0
@@ -81,7 +81,7 @@ pub region_is : (b places ends : List ℕ) (i level : ℕ) (f : Fields) → Know
     → level ≡ level_by (λ j. get_or ends j 0) i → (v : ℕ) → v ≡ version b → line_of v level f ≡ region_text b i
 unfolding region_text
 region_is b places ends i level f k h e l v w =
-    let same = level-same (λ j. get_or ends j 0) (end_of (decode b).regions) i (λ x p. k.ended x (omega (arith, k.count))) in
+    let same = level_same (λ j. get_or ends j 0) (end_of (decode b).regions) i (λ x p. k.ended x (omega (arith, k.count))) in
     cc (l ∙ same, w, level_is (decode b).regions i)
 
 -- ---- by the version

@@ -1,15 +1,18 @@
 -- The landmarks of a record, as they are read. Assumes nothing.
 use mathlib.Core.Path.{◌≡◌, refl, sym, ap, ◌∙◌}
+use mathlib.Core.Bool.{Bool, true}
 use mathlib.Core.List.{List}
 use Prim.Native.Nat.{ℕ, zero, suc, ◌+◌, ◌*◌, ◌-◌, ◌≤◌, ◌<◌}
 use native.Mathlib.Nat.{suc-mul, mul-le-mul_right}
 use native.Mathlib.Omega.{arith}
-use lib.ListN.{length, get_or}
+use lib.ListN.{length, get_or, drop}
 use Rattle.book.specs.Bytes.{u8_at, u16_at, u32_at}
 use Rattle.book.specs.Open.{version}
 use Rattle.tree_layout.specs.Sizes.{fields_size, list_size, leaf_mark_size}
 use Rattle.tree_layout.specs.Values.{Element, Mark, no_mark, leaf_mark, inner_mark, first_distance, last_from}
 use Rattle.tree_layout.specs.Decode.{mark_size, size_at, read_list, list_part, read_region, landmark_count}
+use Rattle.tree_layout.specs.Refusal.{all}
+use Rattle.tree_layout.proofs.Turns.{all-ends}
 use Rattle.tree_layout.proofs.Places.{mark_size-leaf, mark_size-inner, size-at, size-least}
 use Rattle.tree_layout.proofs.Ends.{leaf-is, inner-is, first_read, last_read}
 use Rattle.tree_layout.proofs.MarkPlaces.{region_marks, leaf_mark_at, inner_mark_at}
@@ -109,6 +112,19 @@ marks-count b at = region_marks b (landmark_count b) at
 pub marks_read : (b : List ℕ) (at : ℕ) → marks_at b at ≡ (read_region b (landmark_count b) at).marks
 unfolding marks_at
 marks_read b at = refl
+
+-- a test of every landmark, with none left
+pub all-marks-done : (b : List ℕ) (at m : ℕ) (f : Mark → Bool) (j : ℕ) → m ≡ landmark_count b → m ≤ j → all f (drop j (marks_at b at)) ≡ true
+all-marks-done b at m f j e h = all-ends f (marks_at b at) j (omega (arith, marks-count b at))
+
+-- by a count that is the header's
+module _ (b : List ℕ) (at m : ℕ) (e : m ≡ landmark_count b) where
+  pub marks-own : (read_region b m at).marks ≡ marks_at b at
+  unfolding marks_at
+  marks-own = rw e refl
+
+  pub record-fits : RecordAt b at → at + size_at b m at ≤ length b
+  record-fits r = rw e r.inside
 
 -- a landmark's numbers are its mark's
 pub landmark_fields : (l : Landmark) (m : Mark) → l ≡ landmark_of m → (l.place.number ≡ m.place) × (l.least ≡ m.least) × (l.greatest ≡ m.greatest)

@@ -26,7 +26,7 @@ pub loop-j-init : goal.loop-j-init
 loop-j-init c =
     let p = c.requires in (
       refl,
-      λ h. absurd (omega (arith, h, few-junctions p.0.range.adjacency.adjacent)),
+      tt,
       λ road limit b. marking_start _ _ _ _ _ _ _ _,
     )
 

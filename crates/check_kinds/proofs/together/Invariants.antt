@@ -1,5 +1,4 @@
 use mathlib.Core.Path.{◌≡◌}
-use Prim.Native.Nat.{◌-◌, ◌≤◌}
 use lib.ListN.{drop}
 use Rattle.kinds.specs.Kinds.{together_from, together}
 use Rattle.yard.specs.Yards.{yards_of, kind_of}
@@ -7,9 +6,6 @@ use Rattle.check_rules.specs.Truth.{within}
 use Rattle.check_kinds.proofs.together.Given as goal
 
 abbrev pub invariant-loop-i : goal.invariant-loop-i
-invariant-loop-i l = (l.i ≤ l.n)
-    × (together_from (kind_of l.yard) l.x (within l.f.first.number l.f.after (drop l.i (yards_of l.yard)))
-    ≡ together (kind_of l.yard) (within l.f.first.number l.f.after (yards_of l.yard)))
-
-abbrev pub decreases-loop-i : goal.decreases-loop-i
-decreases-loop-i l = l.n - l.i
+invariant-loop-i l =
+    together_from (kind_of l.yard) l.x (within l.f.first.number l.f.after (drop l.i (yards_of l.yard)))
+    ≡ together (kind_of l.yard) (within l.f.first.number l.f.after (yards_of l.yard))

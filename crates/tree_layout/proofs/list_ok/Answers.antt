@@ -26,9 +26,9 @@ pub returns-then-not-element_ok-2 : goal.returns-then-not-element_ok-2
 returns-then-not-element_ok-2 c =
     let e = c.element-e in
     elim c.then-not-element_ok-2.branch [
-      then-not-element_ok-2-via-then-not-element_ok-2 w ↦
+      | then-not-element_ok-2-via-then-not-element_ok-2 w ↦
           sym (list-limit _ _ _ _ _ c.loop-k-test.true _ (listed-is _ _ _ _ e.ensures) (sym c.element_ok-in-loop-k.ensures ∙ w.if-not-element_ok-2.true)) ∙ c.loop-k.invariant
-    | then-not-element_ok-2-via-else-not-element_ok-2+then-not-comes w ↦
+      | then-not-element_ok-2-via-else-not-element_ok-2+then-not-comes w ↦
           sym (list-order _ _ _ _ _ c.loop-k-test.true _ (listed-is _ _ _ _ e.ensures) (sym w.comes.ensures ∙ w.if-not-comes.true)) ∙ c.loop-k.invariant
     ]
 

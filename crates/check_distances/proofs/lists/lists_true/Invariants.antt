@@ -1,6 +1,7 @@
 use mathlib.Core.Path.{◌≡◌}
 use mathlib.Core.List.{List}
-use Prim.Native.Nat.{ℕ, ◌-◌, ◌≤◌, ◌<◌}
+use Prim.Native.Nat.{ℕ, ◌<◌}
+use Rattle.std.proofs.Common.{IfSome}
 use lib.ListN.{length, drop}
 use Rattle.adjacency.specs.Adjacency.{count_in, Adjacency}
 use Rattle.road.specs.Dijkstra.{dist}
@@ -11,8 +12,5 @@ use Rattle.check_rules.specs.Truth.{true_list}
 use Rattle.check_distances.proofs.lists.lists_true.Given as goal
 
 abbrev pub invariant-loop-j : goal.invariant-loop-j
-invariant-loop-j l = (l.j ≤ l.m) × (length l.ds ≡ 1024) × (l.last.number < count_in l.adj → RowFrom l.adj l.ds l.last.number)
+invariant-loop-j l = (length l.ds ≡ 1024) × IfSome l.last (λ u. u.number < count_in l.adj → RowFrom l.adj l.ds u.number)
     × ((road : List ℕ) → Adjacency road l.adj → all (true_list (dist road)) (drop l.j (marks_at l.tree l.f.at)) ≡ all (true_list (dist road)) (marks_at l.tree l.f.at))
-
-abbrev pub decreases-loop-j : goal.decreases-loop-j
-decreases-loop-j l = l.m - l.j

@@ -1,5 +1,4 @@
 use mathlib.Core.Path.{◌≡◌}
-use Prim.Native.Nat.{◌-◌, ◌≤◌}
 use lib.ListN.{drop}
 use Rattle.road.specs.Dijkstra.{far, at}
 use Rattle.yard.specs.Yards.{yards_of}
@@ -7,10 +6,7 @@ use Rattle.check_rules.specs.Truth.{least_distance_from, greatest_from, within}
 use Rattle.check_distances.proofs.spans.span_true.Given as goal
 
 abbrev pub invariant-loop-k : goal.invariant-loop-k
-invariant-loop-k l = (l.k ≤ l.n)
-    × (least_distance_from (at l.ds) l.low (within l.f.first.number l.f.after (drop l.k (yards_of l.yard)))
+invariant-loop-k l =
+    (least_distance_from (at l.ds) l.low (within l.f.first.number l.f.after (drop l.k (yards_of l.yard)))
     ≡ least_distance_from (at l.ds) far (within l.f.first.number l.f.after (yards_of l.yard)))
     × (greatest_from (at l.ds) l.high (within l.f.first.number l.f.after (drop l.k (yards_of l.yard))) ≡ greatest_from (at l.ds) 0 (within l.f.first.number l.f.after (yards_of l.yard)))
-
-abbrev pub decreases-loop-k : goal.decreases-loop-k
-decreases-loop-k l = l.n - l.k
