@@ -23,14 +23,6 @@ use Rattle.search_rules.specs.Bounds.{first_mark, two_way_bound, one_way_bound, 
 
 -- ---- numbers
 
-pub abs_diff_less : (a b : ℕ) → a < b → b - a ≡ abs_diff a b
-unfolding abs_diff
-abs_diff_less a b h = omega arith
-
-pub abs_diff_more : (a b : ℕ) → b ≤ a → a - b ≡ abs_diff a b
-unfolding abs_diff
-abs_diff_more a b h = omega arith
-
 pub combine-sum : (code a b : ℕ) → code ≡ 0 → a + b ≡ combine code a b
 unfolding combine
 combine-sum code a b e = rw (choose_yes (eqb code 0) (a + b) (max a b) (eq→eqb code 0 e)) refl
@@ -38,12 +30,6 @@ combine-sum code a b e = rw (choose_yes (eqb code 0) (a + b) (max a b) (eq→eqb
 pub combine-max : (code a b : ℕ) → (code ≡ 0 → ⊥) → max a b ≡ combine code a b
 unfolding combine
 combine-max code a b h = rw (choose_no (eqb code 0) (a + b) (max a b) (ne→neqb code 0 h)) refl
-
-pub combine_less : (code a b : ℕ) → (code ≡ 0 → ⊥) → a < b → b ≡ combine code a b
-combine_less code a b h k = omega (arith, combine-max code a b h)
-
-pub combine-more : (code a b : ℕ) → (code ≡ 0 → ⊥) → b ≤ a → a ≡ combine code a b
-combine-more code a b h k = omega (arith, combine-max code a b h)
 
 pub combine-most : (code a b : ℕ) → combine code a b ≤ a + b
 unfolding combine

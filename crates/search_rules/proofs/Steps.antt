@@ -32,10 +32,6 @@ unfolding queued
 queued_no = refl
 
 -- a leaf's key when it is queued again
-pub again_more : (first next : ℕ) → next < unqueued → again_key first next ≡ max first next
-unfolding again_key
-again_more first next h = choose_yes (queued next) (max first next) unqueued (small-queued next h)
-
 pub again_none : (first : ℕ) → again_key first unqueued ≡ unqueued
 unfolding again_key
 again_none first = rw queued_no (choose_no false (max first unqueued) unqueued tt)
