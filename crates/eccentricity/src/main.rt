@@ -10,7 +10,6 @@ ghost use Rattle.eccentricity.specs.Output.{heading, row_text, eccentricity_text
 
 use book::Junction;
 use road_layout::RoadBook;
-use streams::Read;
 
 fn wide(x: u32) -> u64
     ensures { (result ≡ x) × (result < 4294967296) }
@@ -100,7 +99,7 @@ fn report(b: &[u8], out: &mut [u8]) -> usize
 
 fn main(rt: HostRuntime) {
     let mut input = streams::buffer();
-    let Read::Bytes(n) = streams::read_input(&rt, &mut rt.stdin(), &mut input) else {
+    let Some(n) = streams::read_input(&rt, &mut rt.stdin(), &mut input) else {
         return;
     };
     let mut out = [0u8; 65536];

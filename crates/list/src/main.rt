@@ -5,7 +5,6 @@ ghost use Rattle.std.specs.Prelude.{◌≡◌, ◌≤◌, length, take};
 ghost use Rattle.list.specs.Output.{list_text};
 
 use search_tree::Goal;
-use streams::Read;
 
 // Makes the text that the input leads to, at the start of an array, and answers its length.
 fn text_of(input: &[u8], out: &mut [u8]) -> usize
@@ -19,7 +18,7 @@ fn text_of(input: &[u8], out: &mut [u8]) -> usize
 
 fn main(rt: HostRuntime) {
     let mut input = streams::buffer();
-    let Read::Bytes(n) = streams::read_input(&rt, &mut rt.stdin(), &mut input) else {
+    let Some(n) = streams::read_input(&rt, &mut rt.stdin(), &mut input) else {
         return;
     };
     let mut out = [0u8; 65536];

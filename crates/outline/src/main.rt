@@ -6,7 +6,6 @@ ghost use Rattle.text.specs.Text.{in_turn, Appended};
 ghost use Rattle.outline.specs.Output.{columns_of, header_text, line_end_of, line_of, region_text, outline_text};
 ghost use Rattle.outline.specs.Known.{Known};
 
-use streams::Read;
 use tree::Tree;
 use tree_layout::{Fields, Header, Region};
 
@@ -111,7 +110,7 @@ fn report(b: &[u8], out: &mut [u8]) -> usize
 
 fn main(rt: HostRuntime) {
     let mut input = streams::buffer();
-    let Read::Bytes(n) = streams::read_input(&rt, &mut rt.stdin(), &mut input) else {
+    let Some(n) = streams::read_input(&rt, &mut rt.stdin(), &mut input) else {
         return;
     };
     let mut out = [0u8; 65536];

@@ -9,7 +9,6 @@ ghost use Rattle.within.specs.Output.{within_text};
 
 use line::Seconds;
 use search_tree::Goal;
-use streams::Read;
 
 // Makes the text that the input leads to, at the start of an array, and answers its length.
 fn text_of(input: &[u8], out: &mut [u8]) -> usize
@@ -27,7 +26,7 @@ fn text_of(input: &[u8], out: &mut [u8]) -> usize
 
 fn main(rt: HostRuntime) {
     let mut input = streams::buffer();
-    let Read::Bytes(n) = streams::read_input(&rt, &mut rt.stdin(), &mut input) else {
+    let Some(n) = streams::read_input(&rt, &mut rt.stdin(), &mut input) else {
         return;
     };
     let mut out = [0u8; 65536];
