@@ -1,7 +1,7 @@
 #![tactic(auto)]
 // Reads a road book from standard input, and writes for each junction its greatest distance to any junction and the sum
 // of its distances to all. The whole text is made first, and then written.
-ghost use Rattle.std.specs.Prelude.{◌≡◌, List, ◌++◌, ℕ, ◌+◌, ◌≤◌, ◌<◌, max, length, take};
+ghost use Rattle.std.specs.Prelude.{◌≡◌, List, ◌++◌, ℕ, ◌+◌, ◌≤◌, ◌<◌, length, take};
 ghost use Rattle.text.specs.Text.{in_turn, Appended};
 ghost use Rattle.road_layout.specs.Road.{junctions};
 ghost use Rattle.adjacency.specs.Adjacency.{count_in, Adjacency, IsAdjacency};
@@ -11,28 +11,14 @@ ghost use Rattle.eccentricity.specs.Output.{heading, row_text, eccentricity_text
 use book::Junction;
 use road_layout::RoadBook;
 
-fn wide(x: u32) -> u64
-    ensures { (result ≡ x) × (result < 4294967296) }
-{
-    x as u64
-}
-
-fn greater(a: u64, b: u64) -> u64
-    ensures { result ≡ max a b }
-{
-    if a <= b { b } else { a }
-}
-
 // The greatest of the first n distances.
 fn furthest(ds: &[u32], n: usize) -> u64
     requires { n ≤ length ds.now }
     ensures { result ≡ furthest_of ds.now n }
 {
     let mut most: u64 = 0;
-    let mut v: usize = 0;
-    while v < n {
-        most = greater(most, wide(ds[v]));
-        v += 1;
+    for d in &ds[..n] {
+        most = most.max(u64::from(*d));
     }
     most
 }
@@ -43,10 +29,8 @@ fn total(ds: &[u32], n: usize) -> u64
     ensures { result ≡ row_total ds.now n }
 {
     let mut sum: u64 = 0;
-    let mut v: usize = 0;
-    while v < n {
-        sum += wide(ds[v]);
-        v += 1;
+    for d in &ds[..n] {
+        sum += u64::from(*d);
     }
     sum
 }
@@ -61,7 +45,7 @@ fn row(out: &mut [u8], at: usize, adj: &[u16], u: u16) -> usize
     let mut ds = [0u32; 1024];
     road::walk::distances(adj, &mut ds, Junction { number: u });
     let n = adjacency::junctions(adj) as usize;
-    let first = text::put_number(out, at, u as u64, b" ");
+    let first = text::put_number(out, at, u64::from(u), b" ");
     let second = text::put_number(out, first, furthest(&ds, n), b" ");
     text::put_number(out, second, total(&ds, n), b"\n")
 }
@@ -73,12 +57,9 @@ fn rows(out: &mut [u8], adj: &[u16]) -> usize
         → take result out.new ≡ heading ++ in_turn (row_text b) (junctions b) }
     ensures fits { result ≤ 65536 }
 {
-    let n = adjacency::junctions(adj);
     let mut end = text::put(out, 0, b"junction furthest total\n");
-    let mut u: u16 = 0;
-    while u < n {
+    for u in 0..adjacency::junctions(adj) {
         end = row(out, end, adj, u);
-        u += 1;
     }
     end
 }

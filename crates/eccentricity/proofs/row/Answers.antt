@@ -26,7 +26,7 @@ returns c =
     let d = c.distances.ensures.row in
     let n = c.junctions-n.ensures in record {
       added = λ b ad.
-          append_as (row_is b _ _ _ _ _ (d b ad) (n ∙ ad.count) c.furthest.ensures c.total.ensures)
+          append_as (row_is b _ _ _ _ _ _ (d b ad) (n ∙ ad.count) c.from.ensures c.furthest.ensures c.total.ensures)
           (append_then (append_then p.added q.added) r.added);
       short = omega (arith, p.short, q.short, r.short);
     }

@@ -1,4 +1,3 @@
-use borrow.Author.Rules.{rules}
 use mathlib.Core.Path.{◌≡◌, refl, ◌∙◌}
 use native.Mathlib.Omega.{arith}
 use Rattle.road_layout.specs.Road.{junctions}
@@ -9,14 +8,14 @@ use Rattle.eccentricity.proofs.Printing.{table_held}
 use Rattle.eccentricity.proofs.rows.Goals as goal
 
 pub loop-u-init : goal.loop-u-init
-loop-u-init c = (search rules, refl, omega arith, λ b ad. turns_none _ _ _)
+loop-u-init c = (refl, omega arith, λ b ad. turns_none _ _ _)
 
 pub row-end-requires : goal.row-end-requires
 row-end-requires c =
     let p = c.requires in
     let l = c.loop-u in
     let few = few-junctions p.0.adjacent in
-    let n = c.junctions-n.ensures in
+    let n = c.junctions-u-end.ensures in
     let h = c.put-end in (
       p.0,
       omega (arith, n, c.loop-u-test.true),
@@ -25,8 +24,8 @@ row-end-requires c =
         few,
         n,
         c.loop-u-test.true,
+        l.invariant.0,
         l.invariant.1,
-        l.invariant.2,
         h.ensures.after,
         h.auto.out,
         p.1,
@@ -37,19 +36,19 @@ pub loop-u-preserved : goal.loop-u-preserved
 loop-u-preserved c =
     let l = c.loop-u in
     let w = c.row-end in
-    (omega arith, w.auto.out ∙ l.invariant.1, omega (arith, l.invariant.2, w.ensures.short), λ b ad. turns_more (row_text b) (l.invariant.3 b ad) (w.ensures.added b ad))
+    (w.auto.out ∙ l.invariant.0, omega (arith, l.invariant.1, w.ensures.short), λ b ad. turns_more (row_text b) (l.invariant.2 b ad) (w.ensures.added b ad))
 
 pub shape_of-out : goal.shape_of-out
-shape_of-out c = c.loop-u.invariant.1 ∙ c.put-end.auto.out
+shape_of-out c = c.loop-u.invariant.0 ∙ c.put-end.auto.out
 
 pub returns : goal.returns
 returns c =
     let l = c.loop-u in
-    let n = c.junctions-n.ensures in
+    let n = c.junctions-u-end.ensures in
     let h = c.put-end.ensures in
     let few = few-junctions c.requires.0.adjacent in record {
       text = λ b ad.
-          let all : l.u ≡ junctions b = omega (arith, c.loop-u-test.false, l.invariant.0, n, ad.count) in
-          table_held b h (l.invariant.3 b ad) all;
-      fits = omega (arith, few, n, l.invariant.0, l.invariant.2, h.after);
+          let all : l.u ≡ junctions b = omega (arith, c.loop-u-test.false, n, ad.count) in
+          table_held b h (l.invariant.2 b ad) all;
+      fits = omega (arith, few, n, l.invariant.1, h.after);
     }
