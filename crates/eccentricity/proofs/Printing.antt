@@ -17,10 +17,10 @@ use Rattle.eccentricity.specs.Rows.{furthest_of, row_total}
 use Rattle.eccentricity.specs.Output.{heading, line_of, row_text, eccentricity_text}
 
 -- junction u's row, by its distances in a book
-pub row_is : (b ds : List ℕ) (n u f t : ℕ) → ds ≡ distances (net b) (junctions b) u → n ≡ junctions b → f ≡ furthest_of ds n → t ≡ row_total ds n
-    → line_of u f t ≡ row_text b u
+pub row_is : (b ds : List ℕ) (n u w f t : ℕ) → ds ≡ distances (net b) (junctions b) u → n ≡ junctions b → w ≡ u → f ≡ furthest_of ds n → t ≡ row_total ds n
+    → line_of w f t ≡ row_text b u
 unfolding row_text
-row_is b ds n u f t d e g h = cc
+row_is b ds n u w f t d e k g h = cc
 
 module _ (b : List ℕ) where
   -- what is printed of a book that is refused

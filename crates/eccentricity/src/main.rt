@@ -1,7 +1,7 @@
 #![tactic(auto)]
 // Reads a road book from standard input, and writes for each junction its greatest distance to any junction and the sum
 // of its distances to all. The whole text is made first, and then written.
-ghost use Rattle.std.specs.Prelude.{◌≡◌, List, ◌++◌, ℕ, ◌+◌, ◌≤◌, ◌<◌, max, length};
+ghost use Rattle.std.specs.Prelude.{◌≡◌, List, ◌++◌, ℕ, ◌+◌, ◌≤◌, ◌<◌, length};
 ghost use Rattle.text.specs.Text.{in_turn};
 ghost use Rattle.road_layout.specs.Road.{junctions};
 ghost use Rattle.adjacency.specs.Adjacency.{count_in, Adjacency, IsAdjacency};
@@ -9,20 +9,7 @@ ghost use Rattle.eccentricity.specs.Rows.{furthest_of, row_total};
 ghost use Rattle.eccentricity.specs.Output.{heading, row_text, eccentricity_text};
 
 use book::Junction;
-use streams::Read;
 use text::Text;
-
-fn wide(x: u32) -> u64
-    ensures { (result ≡ x) × (result < 4294967296) }
-{
-    x as u64
-}
-
-fn greater(a: u64, b: u64) -> u64
-    ensures { result ≡ max a b }
-{
-    if a <= b { b } else { a }
-}
 
 // The greatest of the first n distances.
 fn furthest(ds: &[u32], n: usize) -> u64
@@ -30,10 +17,8 @@ fn furthest(ds: &[u32], n: usize) -> u64
     ensures { result ≡ furthest_of ds.now n }
 {
     let mut most: u64 = 0;
-    let mut v: usize = 0;
-    while v < n {
-        most = greater(most, wide(ds[v]));
-        v += 1;
+    for d in &ds[..n] {
+        most = most.max(u64::from(*d));
     }
     most
 }
@@ -44,10 +29,8 @@ fn total(ds: &[u32], n: usize) -> u64
     ensures { result ≡ row_total ds.now n }
 {
     let mut sum: u64 = 0;
-    let mut v: usize = 0;
-    while v < n {
-        sum += wide(ds[v]);
-        v += 1;
+    for d in &ds[..n] {
+        sum += u64::from(*d);
     }
     sum
 }
@@ -95,7 +78,7 @@ fn report<const N: usize>(b: &[u8], out: &mut Text<N>)
 
 fn main(rt: HostRuntime) {
     let mut input = streams::buffer();
-    let Read::Bytes(n) = streams::read_input(&rt, &mut rt.stdin(), &mut input) else {
+    let Some(n) = streams::read_input(&rt, &mut rt.stdin(), &mut input) else {
         return;
     };
     let mut out: Text<65536> = Text::new();

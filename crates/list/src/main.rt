@@ -5,7 +5,6 @@ ghost use Rattle.std.specs.Prelude.{◌≡◌, ◌++◌, ◌+◌, ◌≤◌, len
 ghost use Rattle.list.specs.Output.{list_text};
 
 use search_tree::Goal;
-use streams::Read;
 use text::Text;
 
 // Puts the text that the input leads to.
@@ -21,7 +20,7 @@ fn text_of<const N: usize>(input: &[u8], out: &mut Text<N>)
 
 fn main(rt: HostRuntime) {
     let mut input = streams::buffer();
-    let Read::Bytes(n) = streams::read_input(&rt, &mut rt.stdin(), &mut input) else {
+    let Some(n) = streams::read_input(&rt, &mut rt.stdin(), &mut input) else {
         return;
     };
     let mut out: Text<65536> = Text::new();

@@ -6,7 +6,6 @@ ghost use Rattle.text.specs.Text.{in_turn};
 ghost use Rattle.outline.specs.Output.{columns_of, header_text, line_end_of, line_of, region_text, outline_text};
 ghost use Rattle.outline.specs.Known.{Known};
 
-use streams::Read;
 use text::Text;
 use tree_layout::{Fields, Header, Region};
 
@@ -115,7 +114,7 @@ fn report<const N: usize>(b: &[u8], out: &mut Text<N>)
 
 fn main(rt: HostRuntime) {
     let mut input = streams::buffer();
-    let Read::Bytes(n) = streams::read_input(&rt, &mut rt.stdin(), &mut input) else {
+    let Some(n) = streams::read_input(&rt, &mut rt.stdin(), &mut input) else {
         return;
     };
     let mut out: Text<65536> = Text::new();

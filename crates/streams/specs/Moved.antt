@@ -1,13 +1,5 @@
--- How many bytes a read has brought, whether they are all, and how many an input may have. Assumes nothing: these are
--- definitions.
-use Rattle.std.specs.Prelude.{◌≡◌, ℕ, List, take, Option, IfSome, ⊤}
-use Rattle.streams.specs.declared.Read.{Read}
-use Rattle.streams.specs.declared.Read.TheVariants.{Bytes, Failed}
-
--- the bytes that were read, none if reading failed
-abbrev pub bytes_in : Read → ℕ
-bytes_in (Bytes n) = n
-bytes_in Failed = 0
+-- Whether bytes that were read are a whole input, and how many an input may have. Assumes nothing: these are definitions.
+use Rattle.std.specs.Prelude.{◌≡◌, ℕ, List, Option, IfSome}
 
 -- the most bytes that an input may have: 1 MiB
 abbrev pub most_input : ℕ
@@ -17,7 +9,6 @@ most_input = 1048576
 abbrev pub input_room : ℕ
 input_room = 1048577
 
--- what was read, at the start of an array, is the whole input, where its bytes are known
-abbrev pub IsWhole : Read → Option (List ℕ) → List ℕ → Type 0
-IsWhole (Bytes n) known array = IfSome known (λ input. take n array ≡ input)
-IsWhole Failed known array = ⊤
+-- these bytes are the whole input, where its bytes are known
+abbrev pub IsInput : Option (List ℕ) → List ℕ → Type 0
+IsInput known bytes = IfSome known (λ input. bytes ≡ input)

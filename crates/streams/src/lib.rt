@@ -1,10 +1,10 @@
 #![tactic(auto)]
 // Standard input read whole and standard output written whole, or a line on standard error that says why not. The
 // functions take any reader and any writer, so that their contracts can name its bytes.
-ghost use Rattle.std.specs.Prelude.{◌≡◌, ◌<◌, ◌≤◌, length, take, IfOk, OnOk, OnErr};
+ghost use Rattle.std.specs.Prelude.{◌≡◌, ◌<◌, ◌≤◌, length, take, IfOk, IfSome, OnOk, OnErr};
 ghost use Rattle.std.specs.Io.{ReadsAtMost};
 ghost use Rattle.std.specs.Io.KnownBytes.{Appends, Consumes, IsAtEnd, Keeps};
-ghost use Rattle.streams.specs.Moved.{bytes_in, most_input, input_room, IsWhole};
+ghost use Rattle.streams.specs.Moved.{most_input, input_room, IsInput};
 
 use std::io;
 use std::io::ErrorKind;
@@ -17,13 +17,6 @@ pub const ROOM: usize = 1048577;
 // How often a read or a write that a signal interrupts is begun again: far more than any run takes, since a loop has to
 // end.
 const TRIES: usize = 1000000;
-
-// What reading brings: so many bytes, none at the end of the input, or an error.
-#[derive(Clone, Copy)]
-pub enum Read {
-    Bytes(usize),
-    Failed,
-}
 
 // One read, begun again if a signal interrupts it.
 fn read_some<S: io::Read>(input: &mut S, part: &mut [u8]) -> io::Result<usize>
@@ -64,26 +57,25 @@ pub fn buffer() -> [u8; ROOM]
     [0; ROOM]
 }
 
-// Reads standard input until it ends. If a read fails, or the buffer is full and so the input is longer than it may be,
-// standard error says so.
-pub fn read_input<S: io::Read>(rt: &impl Eprint, input: &mut S, buf: &mut [u8]) -> Read
+// Reads standard input until it ends, and answers how many bytes it has. If a read fails, or the buffer is full and so
+// the input is longer than it may be, there is no answer, and standard error says so.
+pub fn read_input<S: io::Read>(rt: &impl Eprint, input: &mut S, buf: &mut [u8]) -> Option<usize>
     requires { input_room ≡ length buf.old }
-    ensures most { bytes_in result ≤ most_input }
-    ensures whole { IsWhole result (S.remaining input.old) buf.new }
+    ensures most { IfSome result (λ n. n ≤ most_input) }
+    ensures whole { IfSome result (λ n. IsInput (S.remaining input.old) (take n buf.new)) }
 {
-    let read = read_all(input, buf);
-    let n = match read {
+    let n = match read_all(input, buf) {
         Ok(n) => n,
         Err(e) => {
             let _ = eprintln!(rt; "standard input: {e}");
-            return Read::Failed;
+            return None;
         }
     };
     if MOST < n {
         let _ = eprintln!(rt; "standard input: longer than 1048576 bytes");
-        return Read::Failed;
+        return None;
     }
-    Read::Bytes(n)
+    Some(n)
 }
 
 // One write, begun again if a signal interrupts it: how many bytes were taken.

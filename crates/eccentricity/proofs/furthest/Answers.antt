@@ -1,16 +1,17 @@
 use mathlib.Core.Path.{◌≡◌, ap, ◌∙◌}
 use native.Mathlib.Omega.{arith}
+use lib.ListN.{length-take}
 use Rattle.eccentricity.specs.Rows.{furthest_of}
 use Rattle.eccentricity.proofs.Adding.{none-far, further}
 use Rattle.eccentricity.proofs.furthest.Goals as goal
 
-pub loop-v-init : goal.loop-v-init
-loop-v-init c = (omega arith, none-far _)
+pub loop-d-init : goal.loop-d-init
+loop-d-init c = none-far _
 
-pub loop-v-preserved : goal.loop-v-preserved
-loop-v-preserved c = (omega arith, further _ _ _ _ _ c.wide.ensures.0 c.loop-v.invariant.1 c.greater-most.ensures)
+pub loop-d-preserved : goal.loop-d-preserved
+loop-d-preserved c = further _ c.args.n _ _ _ (omega (arith, length-take c.args.n c.args.ds.now)) c.from.ensures _ c.loop-d.invariant c.max-most.ensures
 
 pub returns : goal.returns
 returns c =
-    let e : c.loop-v.v ≡ c.args.n = omega arith in
-    c.loop-v.invariant.1 ∙ ap (furthest_of _) e
+    let all : c.loop-d.d-index ≡ c.args.n = omega (arith, length-take c.args.n c.args.ds.now) in
+    c.loop-d.invariant ∙ ap (furthest_of _) all
