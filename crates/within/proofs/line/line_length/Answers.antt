@@ -1,4 +1,5 @@
 use native.Mathlib.Omega.{arith}
+use Rattle.within.specs.Input.{line_length}
 use Rattle.within.proofs.Lines.{found_here, not-here, nowhere}
 use Rattle.within.proofs.line.line_length.Goals as goal
 
