@@ -6,6 +6,7 @@ use Prim.Native.Nat.{ℕ, ◌+◌, ◌≤◌, ◌<◌}
 use lib.ListN.{length, get_or, drop, drop_of_length-le}
 use lib.Dec.{ltb, leb}
 use Rattle.book.specs.Choose.{choose}
+use Rattle.book.proofs.Choosing.{choose_yes, choose_no}
 use Rattle.tree_layout.proofs.Turns.{drop-next}
 use Rattle.check_rules.specs.Truth.{within}
 use Rattle.check_rules.proofs.Within.{within_empty}
@@ -15,21 +16,23 @@ module _ (fold : ℕ → List ℕ → ℕ) (next : ℕ → ℕ → ℕ) (none : 
     (more : (x y : ℕ) (ys : List ℕ) → fold x (y ∷ ys) ≡ fold (next x y) ys) (low high x y : ℕ) where
   -- by whether the yard is in the range
   pub outside : (leb low y && ltb y high) ≡ false → x ≡ fold x (within low high (y ∷ []))
-  unfolding within choose
-  outside h = rw h (sym (none x))
+  unfolding within
+  outside h = rw (h, choose_no false (y ∷ []) [] tt) (sym (none x))
 
   pub inside : (leb low y && ltb y high) ≡ true → next x y ≡ fold x (within low high (y ∷ []))
-  unfolding within choose
-  inside h = rw h (sym (more x y [] ∙ none (next x y)))
+  unfolding within
+  inside h = rw (h, choose_yes true (y ∷ []) [] tt) (sym (more x y [] ∙ none (next x y)))
 
   -- the yard, then the later ones
   onward : (ys : List ℕ) → fold (fold x (within low high (y ∷ []))) (within low high ys) ≡ fold x (within low high (y ∷ ys))
-  unfolding within choose
+  unfolding within
   onward ys = go (leb low y && ltb y high)
     where
       go : (t : Bool) → fold (fold x (choose t (y ∷ []) [])) (within low high ys) ≡ fold x (choose t (y ∷ within low high ys) (within low high ys))
-      go true = rw (more x y [], none (next x y), more x y (within low high ys)) refl
-      go false = rw (none x) refl
+      go true =
+          rw (choose_yes true (y ∷ []) [] tt, choose_yes true (y ∷ within low high ys) (within low high ys) tt, more x y [], none (next x y),
+          more x y (within low high ys)) refl
+      go false = rw (choose_no false (y ∷ []) [] tt, choose_no false (y ∷ within low high ys) (within low high ys) tt, none x) refl
 
 -- with k of a list's yards done
 module _ (fold : ℕ → List ℕ → ℕ) (next : ℕ → ℕ → ℕ) (none : (x : ℕ) → fold x [] ≡ x)

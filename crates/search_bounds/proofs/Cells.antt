@@ -9,6 +9,7 @@ use Rattle.book.proofs.Choosing.{choose_yes, choose_no}
 use Rattle.book.proofs.Lists.{ne→neqb}
 use Rattle.road.specs.code.Rows.{cell}
 use Rattle.search_rules.specs.Bounds.{abs_diff}
+use Rattle.search_rules.proofs.Bounds.{abs_diff_both}
 use Rattle.search_bounds.specs.code.Rows.{rows_lower, rows_upper}
 use Rattle.std.specs.Int as std
 
@@ -48,8 +49,7 @@ module _ (table : List ℕ) (l q : ℕ) where
 
 -- the difference, as the library computes it
 pub abs_diff_is : (a b : ℕ) → std.abs_diff a b ≡ abs_diff a b
-unfolding abs_diff
-abs_diff_is a b = refl
+abs_diff_is a b = sym (abs_diff_both a b)
 
 -- of two words that are read
 pub abs_diff_read : (a b x y r : ℕ) → x ≡ a → y ≡ b → r ≡ std.abs_diff x y → r ≡ abs_diff a b

@@ -14,7 +14,7 @@ use Rattle.tree_layout.specs.declared.Listed.{Listed}
 use Rattle.search_rules.specs.Queue.{unqueued, queued, word_at, pick}
 use Rattle.search_rules.specs.Step.{no_element, again_key}
 use Rattle.search_rules.proofs.Queue.{pick-range, queued-small, small-queued, not-queued}
-use Rattle.search_rules.proofs.Steps.{again_none}
+use Rattle.search_rules.proofs.Steps.{again_none, again_by}
 use Rattle.search_state.specs.code.State.{yard_keys_at, firsts_at, bounds_at, gone_at, region_keys_in, yard_keys_in, firsts_in, picks_in, fs_in, bounds_in, gone_in}
 use Rattle.search_state.proofs.Cells.{Parts, parts_of_lem, part_at, store_key, store_yard, store_gone}
 use Rattle.search_leaf.specs.code.Leaves.{words_of}
@@ -30,8 +30,7 @@ again_end first next e = rw e (sym (again_none first))
 
 pub again_on : (first : ℕ) (next : Option Next) (e : Next) (r : ℕ) → next ≡ Some e → first ≤ unqueued → e.f ≤ unqueued → r ≡ max first e.f
     → r ≡ again_key first (word_in next)
-unfolding again_key
-again_on first next e r p h k m = rw p (choose_case (λ z. r ≡ z) (queued e.f) (λ t. m) (λ t. omega (arith, not-queued e.f t)))
+again_on first next e r p h k m = rw (p, again_by first e.f) (choose_case (λ z. r ≡ z) (queued e.f) (λ t. m) (λ t. omega (arith, not-queued e.f t)))
 
 -- ---- the next element
 

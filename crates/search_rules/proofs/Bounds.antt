@@ -33,6 +33,10 @@ greatest_of_up h [] n x' = elim x' [ ]
 greatest_of_up h (m ∷ ms) n (head e) = omega (arith, ap h e)
 greatest_of_up h (m ∷ ms) n (tail k) = omega (arith, greatest_of_up h ms n k)
 
+pub abs_diff_both : (a b : ℕ) → abs_diff a b ≡ (a - b) + (b - a)
+unfolding abs_diff
+abs_diff_both a b = refl
+
 abs_diff_sum : (a b c : ℕ) → abs_diff a c ≤ abs_diff a b + abs_diff b c
 unfolding abs_diff
 abs_diff_sum a b c = omega arith

@@ -32,6 +32,10 @@ unfolding queued
 queued_no = refl
 
 -- a leaf's key when it is queued again
+pub again_by : (first next : ℕ) → again_key first next ≡ choose (queued next) (max first next) unqueued
+unfolding again_key
+again_by first next = refl
+
 pub again_none : (first : ℕ) → again_key first unqueued ≡ unqueued
 unfolding again_key
 again_none first = rw queued_no (choose_no false (max first unqueued) unqueued tt)

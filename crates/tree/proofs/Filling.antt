@@ -9,6 +9,7 @@ use native.Mathlib.Omega.{arith}
 use lib.ListN.{length, get_or, set, take, drop, length-set}
 use lib.Dec.{ltb}
 use Rattle.book.specs.Choose.{choose}
+use Rattle.book.proofs.Choosing.{choose_yes, choose_no}
 use lib.Seq.{get_or-set_same, get_or-set_other}
 use Rattle.std.proofs.Common.{cond, count_by}
 use Rattle.std.proofs.lemmas.List.Sums.{sum_by-cons}
@@ -96,9 +97,8 @@ hops-next f k i = hops-after f k i ∙ rw add-one refl
 -- ---- levels
 
 one-more : (t : Bool) (a b : ℕ) → a ≡ b → cond t 1 0 + a ≡ choose t 1 0 + b
-unfolding choose
-one-more true a b e = rw e refl
-one-more false a b e = rw e refl
+one-more true a b e = rw (choose_yes true 1 0 tt, e) refl
+one-more false a b e = rw (choose_no false 1 0 tt, e) refl
 
 -- how many of the ends of n subtrees from number j on are above i
 ends-above : (i : ℕ) (ends : List ℕ) (n j : ℕ) → j + n ≤ length ends → count_by (λ x. ltb i x) (take n (drop j ends)) ≡ holders (λ k. get_or ends k 0) n j i

@@ -58,12 +58,12 @@ module _ (b : List ℕ) (children yards at : ℕ) where
   inner-at z = choose_no (eqb children 0) _ _ (ne→neqb children 0 z)
 
   pub place-at : (mark_at b children yards at).place ≡ u16_at b at
-  unfolding mark_at choose leaf_mark inner_mark
+  unfolding mark_at leaf_mark inner_mark
   place-at = go (eqb children 0)
     where
       go : (t : Bool) → (choose t (list_mark b yards at) (span_mark b at)).place ≡ u16_at b at
-      go true = refl
-      go false = refl
+      go true = ap (λ (m : Mark). m.place) (choose_yes true (list_mark b yards at) (span_mark b at) tt)
+      go false = ap (λ (m : Mark). m.place) (choose_no false (list_mark b yards at) (span_mark b at) tt)
 
 -- its bytes
 module _ (v children yards : ℕ) where

@@ -1,7 +1,7 @@
 -- Laws of the tests of a tree book: a test over a list, and what each test of a value says. Assumes nothing.
 use mathlib.Core.Path.{◌≡◌, refl}
 use mathlib.Core.Logic.{◌⊎◌, inl, inr}
-use mathlib.Core.Bool.{Bool, ◌&&◌}
+use mathlib.Core.Bool.{Bool, ◌&&◌, ◌||◌}
 use mathlib.Core.List.Memᴰ.{head}
 use mathlib.Core.List.Memᴰ.{not-nil}
 use mathlib.Core.List.Memᴰ.{tail}
@@ -44,6 +44,10 @@ unfolding between
 both_between low high x h = and_both (leb low x) (leb x high) (le→leb low x h.0) (le→leb x high h.1)
 
 -- ---- a leaf's list
+
+pub comes_by : (e g : Element) → comes e g ≡ (ltb e.distance g.distance || (eqb e.distance g.distance && ltb e.yard g.yard))
+unfolding comes
+comes_by e g = refl
 
 pub comes_before : (e g : Element) → T (comes e g) → Before e g
 unfolding comes
