@@ -7,7 +7,6 @@ mod line; // line.rt: the seconds in the first line
 ghost use Rattle.std.specs.Prelude.{◌≡◌, ◌≤◌, length, take};
 ghost use Rattle.within.specs.Output.{within_text};
 
-use line::Seconds;
 use search_tree::Goal;
 
 // Makes the text that the input leads to, at the start of an array, and answers its length.
@@ -16,7 +15,7 @@ fn text_of(input: &[u8], out: &mut [u8]) -> usize
     ensures text { take result out.new ≡ within_text input.now }
     ensures fits { result ≤ 65536 }
 {
-    let Seconds::Given(seconds) = line::seconds_in(input) else {
+    let Some(seconds) = line::seconds_in(input) else {
         return text::put_refused(out, 0, 1);
     };
     let start = line::line_length(input) + 1;

@@ -15,23 +15,23 @@ returns-in_default c =
 
 pub overflow_add-start : goal.overflow_add-start
 overflow_add-start c =
-    let given = sym (ap given_by c.in-Given.is) ∙ c.seconds_in.ensures in
+    let given = sym (ap given_by c.in-Some.is) ∙ c.seconds_in.ensures in
     omega (arith, c.line_length-start.ensures, line_given _ _ given)
 
 pub slice_bounds-put-count : goal.slice_bounds-put-count
 slice_bounds-put-count c =
-    let given = sym (ap given_by c.in-Given.is) ∙ c.seconds_in.ensures in
+    let given = sym (ap given_by c.in-Some.is) ∙ c.seconds_in.ensures in
     omega (arith, c.line_length-start.ensures, line_given _ _ given)
 
 pub slice_bounds-put-start : goal.slice_bounds-put-start
 slice_bounds-put-start c =
-    let given = sym (ap given_by c.in-Given.is) ∙ c.seconds_in.ensures in
+    let given = sym (ap given_by c.in-Some.is) ∙ c.seconds_in.ensures in
     omega (arith, c.line_length-start.ensures, line_given _ _ given)
 
 pub returns : goal.returns
 returns c =
     let p = c.put.ensures in
-    let given = sym (ap given_by c.in-Given.is) ∙ c.seconds_in.ensures in record {
+    let given = sym (ap given_by c.in-Some.is) ∙ c.seconds_in.ensures in record {
       text = p.text ∙ listed-is _ _ _ _ given (omega (arith, c.line_length-start.ensures)) refl;
       fits = p.fits;
     }
