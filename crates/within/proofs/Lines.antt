@@ -40,5 +40,7 @@ module _ (s : List ℕ) (i : ℕ) (so_far : line_length s ≡ i + line_length (d
   pub not-here : i < length s → (get_or s i 0 ≡ 10 → ⊥) → line_length s ≡ (i + 1) + line_length (drop (i + 1) s)
   not-here more h = rw add-one (omega (arith, so_far, ap line_length (drop-cons s i 0 more), goes_on (get_or s i 0) (drop (suc i) s) h))
 
-  pub nowhere : length s ≤ i → i ≡ line_length s
-  nowhere all = omega (arith, so_far, ap line_length (drop_of_length-le s all), none)
+  pub nowhere : length s ≡ i → length s ≡ line_length s
+  nowhere all =
+      let past : length s ≤ i = omega arith in
+      omega (arith, so_far, ap line_length (drop_of_length-le s past), none)

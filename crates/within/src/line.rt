@@ -3,13 +3,6 @@ ghost use Rattle.std.specs.Prelude.{◌≡◌};
 ghost use Rattle.within.specs.Input.{line_length, number_of, seconds_in};
 ghost use Rattle.within.specs.code.Given.{given_by};
 
-// The seconds, if there are any.
-#[derive(Clone, Copy)]
-pub enum Seconds {
-    Given(u32),
-    None,
-}
-
 // The greatest number of seconds.
 const MOST: u64 = 4294967295;
 
@@ -17,46 +10,42 @@ const MOST: u64 = 4294967295;
 pub fn line_length(s: &[u8]) -> usize
     ensures { result ≡ line_length s.now }
 {
-    let mut i: usize = 0;
-    while i < s.len() {
-        if s[i] == b'\n' {
+    for (i, b) in s.iter().enumerate() {
+        if *b == b'\n' {
             return i;
         }
-        i += 1;
     }
-    i
+    s.len()
 }
 
 // The number that some bytes are, in decimal, if it is one of 32 bits.
-fn number(s: &[u8]) -> Seconds
+fn number(s: &[u8]) -> Option<u32>
     ensures { given_by result ≡ number_of s.now }
 {
     let mut n: u64 = 0;
-    let mut i: usize = 0;
-    while i < s.len() {
+    for i in 0..s.len() {
         let b = s[i];
         if b < b'0' || b > b'9' {
-            return Seconds::None;
+            return None;
         }
         n = 10 * n + (b - b'0') as u64;
         if n > MOST {
-            return Seconds::None;
+            return None;
         }
-        i += 1;
     }
-    if i == 0 {
-        return Seconds::None;
+    if s.is_empty() {
+        return None;
     }
-    Seconds::Given(n as u32)
+    Some(n as u32)
 }
 
 // The seconds that stand before the first line end.
-pub fn seconds_in(s: &[u8]) -> Seconds
+pub fn seconds_in(s: &[u8]) -> Option<u32>
     ensures { given_by result ≡ seconds_in s.now }
 {
     let end = line_length(s);
     if end == s.len() {
-        return Seconds::None;
+        return None;
     }
     number(&s[..end])
 }

@@ -7,7 +7,6 @@ mod line; // line.rt: the seconds in the first line
 ghost use Rattle.std.specs.Prelude.{◌≡◌, ◌++◌, ◌+◌, ◌≤◌, length};
 ghost use Rattle.within.specs.Output.{within_text};
 
-use line::Seconds;
 use search_tree::Goal;
 use text::Text;
 
@@ -17,7 +16,7 @@ fn text_of<const N: usize>(input: &[u8], out: &mut Text<N>)
     ensures text { out.new ≡ out.old ++ within_text input.now }
     ensures fits { length out.new ≤ length out.old + 65536 }
 {
-    let Seconds::Given(seconds) = line::seconds_in(input) else {
+    let Some(seconds) = line::seconds_in(input) else {
         out.put_refused(1);
         return;
     };

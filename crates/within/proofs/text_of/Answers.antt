@@ -13,20 +13,20 @@ returns-in_default-clause-text g c =
 
 pub overflow_add-start : goal.overflow_add-start
 overflow_add-start g c =
-    let given = sym (ap given_by c.in-Given.is) ∙ c.seconds_in.ensures in
+    let given = sym (ap given_by c.in-Some.is) ∙ c.seconds_in.ensures in
     omega (arith, c.line_length-start.ensures, line_given _ _ given)
 
 pub slice_bounds-put-count : goal.slice_bounds-put-count
 slice_bounds-put-count g c =
-    let given = sym (ap given_by c.in-Given.is) ∙ c.seconds_in.ensures in
+    let given = sym (ap given_by c.in-Some.is) ∙ c.seconds_in.ensures in
     omega (arith, c.line_length-start.ensures, line_given _ _ given)
 
 pub slice_bounds-put-start : goal.slice_bounds-put-start
 slice_bounds-put-start g c =
-    let given = sym (ap given_by c.in-Given.is) ∙ c.seconds_in.ensures in
+    let given = sym (ap given_by c.in-Some.is) ∙ c.seconds_in.ensures in
     omega (arith, c.line_length-start.ensures, line_given _ _ given)
 
 pub returns-clause-text : goal.returns-clause-text
 returns-clause-text g c =
-    let given = sym (ap given_by c.in-Given.is) ∙ c.seconds_in.ensures in
+    let given = sym (ap given_by c.in-Some.is) ∙ c.seconds_in.ensures in
     c.put.ensures.text ∙ ap (λ (l : List ℕ). c.args.out.now ++ l) (listed-is _ _ _ _ given (omega (arith, c.line_length-start.ensures)) refl)

@@ -1,5 +1,7 @@
-use borrow.Author.Tests.{ltb-true, ltb-false}
+use borrow.Author.Tests.{ltb-true, ltb-false, eqb-true, eqb-false}
+use mathlib.Core.Path.{sym, ◌∙◌}
 use native.Mathlib.Omega.{arith}
+use lib.ListN.{length}
 use Rattle.within.proofs.Numbers.{reading_none, reading_more, too_large, no_digit, empty_not, read_whole}
 use Rattle.within.proofs.line.number.Goals.{then-b-lt48-via-then-b-lt48, then-b-lt48-via-else-b-lt48+then-b-gt57}
 use Rattle.within.proofs.line.number.Goals as goal
@@ -28,8 +30,8 @@ loop-i-preserved c =
     let l = c.loop-i in
     reading_more l.invariant (omega arith) _ (omega arith) (omega arith) (omega (arith, ltb-false)) (omega (arith, c.if-n-gt-MOST.false))
 
-pub returns-then-i-eq0 : goal.returns-then-i-eq0
-returns-then-i-eq0 c = empty_not _ (omega (arith, c.if-i-eq0.true))
+pub returns-then-is_empty : goal.returns-then-is_empty
+returns-then-is_empty c = empty_not _ (eqb-true _ 0 (sym c.is_empty.ensures ∙ c.if-is_empty.true))
 
 pub returns : goal.returns
-returns c = read_whole c.loop-i.invariant (omega arith) (omega (arith, c.if-i-eq0.false))
+returns c = read_whole c.loop-i.invariant (omega arith) (omega (arith, eqb-false (length c.args.s.now) 0 (sym c.is_empty.ensures ∙ c.if-is_empty.false)))
