@@ -1,6 +1,6 @@
 // The aggregate that a query asks for.
 ghost use Rattle.std.specs.Prelude.{◌≡◌};
-ghost use Rattle.query.specs.Aggregates.{aggregate_by, code_of};
+ghost use Rattle.query.specs.Aggregates.{aggregate_by};
 
 // What a yard's aggregate is of the crews' drives: their sum, or the furthest crew's.
 #[derive(Clone, Copy, Debug, PartialEq, Eq)]
@@ -17,16 +17,6 @@ impl Aggregate {
         match code {
             0 => Aggregate::Sum,
             _ => Aggregate::Furthest,
-        }
-    }
-
-    // An aggregate's code.
-    pub fn code(self) -> u8
-        ensures { result ≡ code_of self }
-    {
-        match self {
-            Aggregate::Sum => 0,
-            Aggregate::Furthest => 1,
         }
     }
 }

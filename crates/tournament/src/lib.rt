@@ -9,13 +9,6 @@ pub const WORDS: usize = 2048;
 // The levels of words above the leaves.
 const LEVELS: usize = 5;
 
-// The lesser of two words.
-pub fn lesser(a: u64, b: u64) -> u64
-    ensures { result ≡ min a b }
-{
-    a.min(b)
-}
-
 // Makes every word x.
 pub fn clear(tree: &mut [u64], x: u64)
     requires { length tree.old ≡ queue_words }

@@ -39,14 +39,8 @@ module _ (v : ℕ) (p : List ℕ) (k : ℕ) (x : Listed) (e : x ≡ listed_at v 
   unfolding element_at
   listed-is = ap (λ (z : Listed). element z.distance z.yard.number z.kinds) e
 
-  pub listed-distance : x.distance ≡ (element_at v p (list_size v k)).distance
-  listed-distance = ap (λ (z : Element). z.distance) listed-is
-
   pub listed-yard : x.yard.number ≡ (element_at v p (list_size v k)).yard
   listed-yard = ap (λ (z : Element). z.yard) listed-is
-
-  pub listed-kinds : x.kinds ≡ (element_at v p (list_size v k)).kinds
-  listed-kinds = ap (λ (z : Element). z.kinds) listed-is
 
 -- a list is as long as its elements
 pub part_length : (v : ℕ) (b : List ℕ) (n at : ℕ) → at + leaf_mark_size v n ≤ length b → length (list_part v b n (at + junction_size)) ≡ list_size v n

@@ -130,11 +130,6 @@ pub decode-formed : (b : List ℕ) → FormedTree (decode b)
 unfolding decode
 decode-formed b = regions-formed b (landmark_count b) (region_count b) 12
 
--- region j stands in the list of regions
-pub at-is : (rs : List Region) (j : ℕ) → region_at rs j ≡ get_or rs j no_region
-unfolding region_at
-at-is rs j = refl
-
 pub at_mem : (rs : List Region) (j : ℕ) → j < length rs → Mem (region_at rs j) rs
 unfolding region_at
 at_mem rs j h = get_d_mem rs j no_region h

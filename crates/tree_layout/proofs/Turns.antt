@@ -140,41 +140,6 @@ room n k at s len h l =
     let q : at + (suc (n - (k + 1))) * s ≤ len = rw t at l in
     (omega (arith, suc-mul (n - (k + 1)) s), omega (arith, suc-mul (n - (k + 1)) s))
 
-module _ (f : Mark → Bool) (b : List ℕ) (yards m k at : ℕ) where
-  pub lists-next : k < m → f (leaf_mark (u16_at b at) (read_list (version b) (list_part (version b) b yards (at + 2)) yards 0)) ≡ true
-      → all f (read_lists b yards (m - (k + 1)) (at + leaf_mark_size (version b) yards)) ≡ all f (read_lists b yards (m - k) at)
-  lists-next h e = rw (lists-turn b yards m k at h) (all_on f _ _ e)
-
-  pub lists_stop : k < m → f (leaf_mark (u16_at b at) (read_list (version b) (list_part (version b) b yards (at + 2)) yards 0)) ≡ false
-      → all f (read_lists b yards (m - k) at) ≡ false
-  lists_stop h e = rw (lists-turn b yards m k at h) (all_off f _ _ e)
-
-  pub lists-end : m ≤ k → all f (read_lists b yards (m - k) at) ≡ true
-  lists-end h = rw (lists-none b yards m k at h) (all_none f)
-
--- ---- an inner region's landmarks
-
-module _ (f : Mark → Bool) (b : List ℕ) (m k at : ℕ) where
-  spans_split : k < m → read_spans b (m - k) at
-      ≡ inner_mark (u16_at b at) (u32_at b (at + 2)) (u32_at b (at + 6)) ∷ read_spans b (m - (k + 1)) (at + 10)
-  unfolding read_spans
-  spans_split h =
-      let s : m - k ≡ suc (m - (k + 1)) = omega arith in
-      simp s
-
-  pub spans-next : k < m → f (inner_mark (u16_at b at) (u32_at b (at + 2)) (u32_at b (at + 6))) ≡ true
-      → all f (read_spans b (m - (k + 1)) (at + 10)) ≡ all f (read_spans b (m - k) at)
-  spans-next h e = rw (spans_split h) (all_on f _ _ e)
-
-  pub spans_stop : k < m → f (inner_mark (u16_at b at) (u32_at b (at + 2)) (u32_at b (at + 6))) ≡ false → all f (read_spans b (m - k) at) ≡ false
-  spans_stop h e = rw (spans_split h) (all_off f _ _ e)
-
-  pub spans-end : m ≤ k → all f (read_spans b (m - k) at) ≡ true
-  unfolding all read_spans
-  spans-end h =
-      let s : m - k ≡ 0 = omega arith in
-      simp s
-
 -- ---- regions
 
 module _ (f : Region → Bool) (b : List ℕ) (m n k at : ℕ) where

@@ -37,9 +37,6 @@ module _ (v : ℕ) (p : List ℕ) (n k at : ℕ) where
   all_here : (f : Element → Bool) → k < n → all f (read_list v p (n - k) at) ≡ (f (element_at v p at) && all f (read_list v p (n - (k + 1)) (at + element_size v)))
   all_here f h = rw (list-turn v p n k at h) (all-next f (element_at v p at) (read_list v p (n - (k + 1)) (at + element_size v)))
 
-  pub all_end : (f : Element → Bool) → n ≤ k → all f (read_list v p (n - k) at) ≡ true
-  all_end f h = rw (list-none v p n k at h) (all_none f)
-
   range-here : (low high y : ℕ) → y ≡ (element_at v p at).yard → in_range low high (element_at v p at) ≡ (leb low y && ltb y high)
   unfolding in_range
   range-here low high y e = rw e refl
