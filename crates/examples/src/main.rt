@@ -79,10 +79,8 @@ fn put_road(b: &mut [u8], i: u16, s: u16)
 fn put_roads(b: &mut [u8], roads: u16)
     requires { (roads ≤ 1024) × (6153 ≤ length b.old) }
 {
-    let mut i: u16 = 0;
-    while i < roads {
+    for i in 0..roads {
         put_road(b, i, 1);
-        i += 1;
     }
     put_road(b, 0, 2);
     put_road(b, 1, 3);
