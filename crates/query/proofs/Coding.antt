@@ -2,7 +2,7 @@
 use mathlib.Core.Path.{◌≡◌, refl}
 use Prim.Native.Nat.{ℕ, zero, suc, ◌≤◌}
 use native.Mathlib.Omega.{arith}
-use Rattle.query.specs.Aggregates.{aggregate_by, code_of}
+use Rattle.query.specs.code.Aggregates.{aggregate_by, code_of}
 
 -- a code that a query may have is that of its aggregate
 pub code_kept : (code : ℕ) → code ≤ 1 → code_of (aggregate_by code) ≡ code

@@ -1,3 +1,3 @@
 pub mod Query
 pub mod Tests
-pub mod Aggregates
+pub mod code

@@ -1,6 +1,6 @@
 // The aggregate that a query asks for.
 ghost use Rattle.std.specs.Prelude.{◌≡◌};
-ghost use Rattle.query.specs.Aggregates.{aggregate_by};
+ghost use Rattle.query.specs.code.Aggregates.{aggregate_by};
 
 // What a yard's aggregate is of the crews' drives: their sum, or the furthest crew's.
 #[derive(Clone, Copy, Debug, PartialEq, Eq)]

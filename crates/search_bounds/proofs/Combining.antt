@@ -2,7 +2,7 @@
 use mathlib.Core.Path.{◌≡◌, ap, ◌∙◌}
 use Prim.Native.Nat.{ℕ, ◌+◌, max}
 use native.Mathlib.Omega.{arith}
-use Rattle.query.specs.Aggregates.{code_of}
+use Rattle.query.specs.code.Aggregates.{code_of}
 use Rattle.query.specs.declared.aggregate.Aggregate.{Aggregate}
 use Rattle.query.specs.declared.aggregate.Aggregate.TheVariants.{Sum, Furthest}
 use Rattle.search_rules.specs.Bounds.{combine}

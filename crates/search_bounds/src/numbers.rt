@@ -1,6 +1,6 @@
 // The aggregate of two numbers.
 ghost use Rattle.std.specs.Prelude.{◌≡◌, ◌+◌, ◌≤◌, ◌<◌};
-ghost use Rattle.query.specs.Aggregates.{code_of};
+ghost use Rattle.query.specs.code.Aggregates.{code_of};
 ghost use Rattle.search_rules.specs.Bounds.{combine};
 
 use query::aggregate::Aggregate;

@@ -3,7 +3,7 @@ ghost use Rattle.std.specs.Prelude.{◌≡◌, ◌<◌, length};
 ghost use Rattle.tree_layout.specs.Values.{region_at};
 ghost use Rattle.tree_layout.specs.Decode.{decode};
 ghost use Rattle.tree.specs.Arrays.{Laid};
-ghost use Rattle.query.specs.Aggregates.{code_of};
+ghost use Rattle.query.specs.code.Aggregates.{code_of};
 ghost use Rattle.search_rules.specs.Bounds.{crew_bound};
 ghost use Rattle.search_bounds.specs.code.Rows.{rows_lower, rows_upper, Rows};
 ghost use Rattle.tree_layout.specs.code.Marks.{marks_at, RecordAt};

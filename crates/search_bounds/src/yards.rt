@@ -1,7 +1,7 @@
 // What is computed of a yard by its leaf's landmark: f, and its bound.
 ghost use Rattle.std.specs.Prelude.{◌≡◌, ℕ, ◌≤◌, ◌<◌, length};
 ghost use mathlib.Core.List.{List, Memᴰ as Mem};
-ghost use Rattle.query.specs.Aggregates.{code_of};
+ghost use Rattle.query.specs.code.Aggregates.{code_of};
 ghost use Rattle.road_layout.specs.Road.{junctions};
 ghost use Rattle.search_bounds.specs.code.Rows.{Rows, rows_lower};
 ghost use Rattle.search_bounds.specs.code.Bounds.{Crews};

@@ -2,7 +2,7 @@
 // An inner region is taken: it queues its children.
 ghost use Rattle.std.specs.Prelude.{◌≡◌, ◌<◌, length, set};
 ghost use Rattle.book.specs.Lists.{keep_if};
-ghost use Rattle.query.specs.Aggregates.{code_of};
+ghost use Rattle.query.specs.code.Aggregates.{code_of};
 ghost use Rattle.tree_layout.specs.Decode.{decode, junction_count, landmark_count};
 ghost use Rattle.tree.specs.Arrays.{Laid};
 ghost use Rattle.tree.specs.Yards.{children_of};

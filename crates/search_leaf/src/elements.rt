@@ -1,7 +1,7 @@
 // A leaf's list: f and the bound of each of its yards, and which leaves next.
 ghost use Rattle.std.specs.Prelude.{◌≡◌, List, ℕ, ◌+◌, ◌≤◌, ◌<◌, length};
 ghost use Rattle.book.specs.Bytes.{u16_at};
-ghost use Rattle.query.specs.Aggregates.{code_of};
+ghost use Rattle.query.specs.code.Aggregates.{code_of};
 ghost use Rattle.road_layout.specs.Road.{junctions};
 ghost use Rattle.book.specs.Open.{version};
 ghost use Rattle.tree_layout.specs.Sizes.{header_size, list_size, leaf_mark_size};

@@ -4,7 +4,7 @@ use mathlib.Core.Bool.{Bool, true, false, not}
 use Prim.Native.Nat.{ℕ, ◌≤◌, ◌<◌}
 use lib.Dec.{T}
 use borrow.Author.Tests.{lt-ltb, le-ltb}
-use Rattle.query.specs.Aggregates.{code_of}
+use Rattle.query.specs.code.Aggregates.{code_of}
 use Rattle.query.specs.declared.aggregate.Aggregate.{Aggregate}
 use Rattle.search_rules.specs.Bounds.{combine}
 use Rattle.search_rules.specs.Ceiling.{exceeds}

@@ -6,7 +6,7 @@ ghost use Rattle.road_layout.specs.Road.{junctions};
 ghost use Rattle.adjacency.specs.Arcs.{net};
 ghost use Rattle.adjacency.specs.Adjacency.{count_in};
 ghost use Rattle.road.specs.Dijkstra.{dist};
-ghost use Rattle.query.specs.Aggregates.{code_of};
+ghost use Rattle.query.specs.code.Aggregates.{code_of};
 ghost use Rattle.search_rules.specs.Ceiling.{exceeds};
 ghost use Rattle.search_measure.specs.Way.{came_by, over, least_way, way_answer};
 ghost use Rattle.search_measure.specs.Facts.{Ways};

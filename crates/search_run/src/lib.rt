@@ -1,7 +1,7 @@
 #![tactic(auto)]
 // A search: its steps up to a limit.
 ghost use Rattle.std.specs.Prelude.{◌≡◌, List, ℕ, length, replicate};
-ghost use Rattle.query.specs.Aggregates.{code_of};
+ghost use Rattle.query.specs.code.Aggregates.{code_of};
 ghost use Rattle.tree_layout.specs.Values.{region_at};
 ghost use Rattle.tree_layout.specs.Decode.{decode, junction_count, landmark_count};
 ghost use Rattle.tree.specs.Arrays.{Laid};

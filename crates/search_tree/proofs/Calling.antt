@@ -13,7 +13,7 @@ use Rattle.work_area.specs.Work.{work_words, zeroed, work_after}
 use Rattle.work_area.proofs.Zeroing.{accepted-zeroed, refused-kept}
 use Rattle.adjacency.specs.Adjacency.{count_in}
 use Rattle.road_layout.specs.Road.{junctions}
-use Rattle.query.specs.Aggregates.{aggregate_by, code_of}
+use Rattle.query.specs.code.Aggregates.{aggregate_by, code_of}
 use Rattle.query.specs.declared.aggregate.Aggregate.{Aggregate}
 use Rattle.query.proofs.Coding.{code_kept}
 use Rattle.query.specs.Query.{aggregate_of, k_of, query_refusal, query_of, Asked, Refused, query_book}

@@ -1,7 +1,7 @@
 #![tactic(auto)]
 // A yard is taken: it is measured, and held if the search's rule keeps it.
 ghost use Rattle.std.specs.Prelude.{◌≡◌, List, [], ◌∷◌, ℕ, ◌+◌, ◌≤◌, ◌<◌, length};
-ghost use Rattle.query.specs.Aggregates.{code_of};
+ghost use Rattle.query.specs.code.Aggregates.{code_of};
 ghost use Rattle.search_rules.specs.Keeping.{keep_by};
 ghost use Rattle.search_rules.specs.Ceiling.{ceiling_by};
 ghost use Rattle.search_rules.specs.Theorems.{Sorted};

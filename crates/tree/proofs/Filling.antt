@@ -97,8 +97,8 @@ hops-next f k i = hops-after f k i ∙ rw add-one refl
 -- ---- levels
 
 one-more : (t : Bool) (a b : ℕ) → a ≡ b → cond t 1 0 + a ≡ choose t 1 0 + b
-one-more true a b e = rw (choose_yes true 1 0 tt, e) refl
-one-more false a b e = rw (choose_no false 1 0 tt, e) refl
+one-more true a b e = rw (choose_yes {A = ℕ} true 1 0 tt, e) refl
+one-more false a b e = rw (choose_no {A = ℕ} false 1 0 tt, e) refl
 
 -- how many of the ends of n subtrees from number j on are above i
 ends-above : (i : ℕ) (ends : List ℕ) (n j : ℕ) → j + n ≤ length ends → count_by (λ x. ltb i x) (take n (drop j ends)) ≡ holders (λ k. get_or ends k 0) n j i

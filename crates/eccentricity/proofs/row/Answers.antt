@@ -1,4 +1,4 @@
-use mathlib.Core.Path.{◌≡◌, ap, ◌∙◌}
+use mathlib.Core.Path.{◌≡◌, refl, ap, ◌∙◌}
 use mathlib.Core.List.{List, ◌++◌, append_assoc}
 use Prim.Native.Nat.{ℕ}
 use native.Mathlib.Omega.{arith}
@@ -27,4 +27,4 @@ returns-clause-added g c =
     λ b ad.
     line
     ∙ ap (λ (l : List ℕ). c.args.out.now ++ l)
-    (row_is b _ _ _ _ _ (c.distances.ensures.row b ad) (c.junctions-n.ensures ∙ ad.count) c.furthest.ensures c.total.ensures)
+    (row_is b _ _ _ _ _ _ (c.distances.ensures.row b ad) (c.junctions-n.ensures ∙ ad.count) refl c.furthest.ensures c.total.ensures)

@@ -1,5 +1,5 @@
 -- A search's rule as the code has it, and what is asked. Assumes nothing: these are definitions.
-use Rattle.query.specs.Aggregates.{code_of}
+use Rattle.query.specs.code.Aggregates.{code_of}
 use Rattle.search_rules.specs.Rule.{Rule, nearest, in_drive, Asking}
 use Rattle.search_held.specs.declared.Rule.{Rule as Given}
 use Rattle.search_held.specs.declared.Rule.TheVariants.{Nearest, InDrive}

@@ -1,5 +1,5 @@
 use lib.ListN.{length}
-use Rattle.query.specs.Aggregates.{code_of}
+use Rattle.query.specs.code.Aggregates.{code_of}
 use Rattle.tree_layout.specs.Decode.{junction_count, landmark_count}
 use Rattle.search_inner.specs.code.Children.{wanted_in, key_of}
 use Rattle.search_inner.proofs.Queueing.{Counted, Queueing}

@@ -2,7 +2,7 @@ use mathlib.Core.Path.{◌≡◌}
 use mathlib.Core.List.{List}
 use Prim.Native.Nat.{ℕ}
 use lib.ListN.{length}
-use Rattle.query.specs.Aggregates.{code_of}
+use Rattle.query.specs.code.Aggregates.{code_of}
 use Rattle.search_measure.specs.code.Cases.{ceiling_of, Measurable}
 use Rattle.search_measure.proofs.Crewing.{SoFar}
 use Rattle.search_measure.proofs.measure.Given as goal

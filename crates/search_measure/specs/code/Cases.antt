@@ -6,7 +6,7 @@ use Rattle.road_layout.specs.Road.{junctions}
 use Rattle.adjacency.specs.Adjacency.{count_in, Adjacency}
 use Rattle.road.specs.Dijkstra.{dist}
 use Rattle.road.specs.Facts.{Passing}
-use Rattle.query.specs.Aggregates.{code_of}
+use Rattle.query.specs.code.Aggregates.{code_of}
 use Rattle.query.specs.declared.aggregate.Aggregate.{Aggregate}
 use Rattle.search_rules.specs.Bounds.{aggregate}
 use Rattle.search_rules.specs.Ceiling as rules

@@ -1,4 +1,4 @@
-use Rattle.query.specs.Aggregates.{code_of}
+use Rattle.query.specs.code.Aggregates.{code_of}
 use Rattle.tree_layout.specs.code.Marks.{marks_at}
 use Rattle.search_bounds.specs.code.Bounds.{rows_crew}
 use Rattle.search_bounds.proofs.Folds.{Summed}

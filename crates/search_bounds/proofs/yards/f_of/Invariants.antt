@@ -1,4 +1,4 @@
-use Rattle.query.specs.Aggregates.{code_of}
+use Rattle.query.specs.code.Aggregates.{code_of}
 use Rattle.search_rules.specs.Bounds.{abs_diff}
 use Rattle.search_bounds.specs.code.Measures.{longest}
 use Rattle.search_bounds.proofs.Folds.{Summed}

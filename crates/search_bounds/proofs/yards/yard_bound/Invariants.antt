@@ -1,4 +1,4 @@
-use Rattle.query.specs.Aggregates.{code_of}
+use Rattle.query.specs.code.Aggregates.{code_of}
 use Rattle.search_bounds.proofs.Aggregating.{Bounding}
 use Rattle.search_bounds.proofs.yards.yard_bound.Given as goal
 

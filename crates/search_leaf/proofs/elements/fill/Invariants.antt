@@ -1,4 +1,4 @@
-use Rattle.query.specs.Aggregates.{code_of}
+use Rattle.query.specs.code.Aggregates.{code_of}
 use Rattle.search_leaf.specs.code.Leaves.{f_in, bound_in}
 use Rattle.search_leaf.proofs.Filling.{Filled}
 use Rattle.search_leaf.proofs.elements.fill.Given as goal

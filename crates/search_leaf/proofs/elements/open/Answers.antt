@@ -1,7 +1,7 @@
 use mathlib.Core.Path.{refl, sym, ◌∙◌}
 use native.Mathlib.Omega.{arith}
 use lib.Seq.{length-take-le}
-use Rattle.query.specs.Aggregates.{code_of}
+use Rattle.query.specs.code.Aggregates.{code_of}
 use Rattle.book.specs.Open.{version}
 use Rattle.tree_layout.proofs.Sizes.{leaf_mark_are}
 use Rattle.tree_layout.proofs.Accessing.{its_version}
