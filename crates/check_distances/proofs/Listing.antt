@@ -21,7 +21,7 @@ use Rattle.tree_layout.specs.code.Marks.{marks_at, mark_place}
 use Rattle.tree_layout.specs.Refusal.{all}
 use Rattle.tree_layout.specs.declared.Fields.{Fields}
 use Rattle.tree_layout.specs.declared.Listed.{Listed}
-use Rattle.tree_layout.proofs.Accessing.{listed-distance, listed-yard}
+use Rattle.tree_layout.proofs.Accessing.{listed-yard}
 use Rattle.tree_layout.proofs.Turns.{all_same, all_goes, all_stops}
 use Rattle.check_rules.specs.Truth.{true_element, true_list}
 use Rattle.check_rules.proofs.Testing.{element-test, list-test}

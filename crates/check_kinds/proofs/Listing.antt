@@ -15,7 +15,7 @@ use Rattle.tree_layout.specs.code.Marks.{marks_at, mark_place, RecordAt}
 use Rattle.tree_layout.specs.Refusal.{all}
 use Rattle.tree_layout.specs.declared.Fields.{Fields}
 use Rattle.tree_layout.specs.declared.Listed.{Listed}
-use Rattle.tree_layout.proofs.Accessing.{listed-yard, listed-kinds}
+use Rattle.tree_layout.proofs.Accessing.{listed-yard}
 use Rattle.check_rules.specs.Truth.{kinds_element, kinds_list}
 use Rattle.check_rules.proofs.Testing.{kinds-element-test, kinds-list-test}
 use Rattle.check_rules.proofs.Elements.{list-is}
