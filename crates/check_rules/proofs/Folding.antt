@@ -30,8 +30,13 @@ module _ (fold : ℕ → List ℕ → ℕ) (next : ℕ → ℕ → ℕ) (none : 
     where
       go : (t : Bool) → fold (fold x (choose t (y ∷ []) [])) (within low high ys) ≡ fold x (choose t (y ∷ within low high ys) (within low high ys))
       go true =
-          rw (choose_yes true (y ∷ []) [] tt, choose_yes true (y ∷ within low high ys) (within low high ys) tt, more x y [], none (next x y),
-          more x y (within low high ys)) refl
+          rw (
+            choose_yes true (y ∷ []) [] tt,
+            choose_yes true (y ∷ within low high ys) (within low high ys) tt,
+            more x y [],
+            none (next x y),
+            more x y (within low high ys),
+          ) refl
       go false = rw (choose_no false (y ∷ []) [] tt, choose_no false (y ∷ within low high ys) (within low high ys) tt, none x) refl
 
 -- with k of a list's yards done
