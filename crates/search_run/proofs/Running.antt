@@ -16,11 +16,12 @@ use Rattle.search_rules.specs.Books.{search_of}
 use Rattle.search_rules.specs.Queue.{pick}
 use Rattle.search_rules.specs.Step.{SearchState, least_key, step, settled}
 use Rattle.search_rules.specs.Run.{Outcome as Ended, run, answer}
+use Rattle.search_rules.specs.Theorems.{Allowed}
 use Rattle.search_rules.proofs.Equations.{search_of_lem}
 use Rattle.search_rules.proofs.Theorems.{decided}
 use Rattle.search_rules.proofs.Turns.{run_on}
 use Rattle.search_state.specs.code.State.{word_count, value_count, picks_in, fs_in, bounds_in, state_of, settled_by}
-use Rattle.search_state.proofs.Cells.{part-all}
+use Rattle.search_state.proofs.Cells.{part-all, state_by, parts_of_lem}
 use Rattle.search_state.proofs.Choosing.{picked-word}
 use Rattle.search_state.proofs.Settling.{settled_of}
 use Rattle.search_leaf.specs.code.Ready.{Ready, Cached}
@@ -47,6 +48,17 @@ pub record Steps (tree : List ℕ) (a : Asking) (crews drives places table : Lis
       → Runs (search_of road tree a crews) (length places) (junction_count tree) words values
       (state_of (length places) (junction_count tree) words progress.kept progress.yards progress.measured) taken
   pub within : taken ≤ limit
+
+-- of the yards measured so far no more are kept than the rule lets
+pub kept-allowed : {tree : List ℕ} {a : Asking} {crews drives places table : List ℕ} {limit : ℕ} {words values : List ℕ} {progress : Progress} {taken : ℕ}
+    → Steps tree a crews drives places table limit words values progress taken
+    → (road : List ℕ) → Ready road tree a crews drives places table → Allowed a.rule progress.kept
+kept-allowed {tree} {a} {crews} {drives} {places} {table} {limit} {words} {values} {progress} {taken} steps road ready =
+    let i : Instance = search_of road tree a crews in
+    let rule : i.rule ≡ a.rule = ap (λ (z : Instance). z.rule) (search_of_lem road tree a crews) in
+    let held : progress.kept ≡ (run i taken).state.held = ap (λ (s : SearchState). s.held)
+    (sym (state_by (parts_of_lem (length places) (junction_count tree) words) progress.kept progress.yards progress.measured) ∙ (steps.runs road ready).is) in
+    rw (← rule, held) (decided i (well road tree a crews drives places table ready) taken).listing.allowed
 
 -- the queue's words are the first ones
 pub queue-part : (r n queue : ℕ) (ws : List ℕ) → queue ≡ r + n → length ws ≡ word_count r n → queue ≡ length (take queue ws)

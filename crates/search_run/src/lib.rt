@@ -8,7 +8,8 @@ ghost use Rattle.tree.specs.Arrays.{Laid};
 ghost use Rattle.search_rules.specs.Books.{search_of};
 ghost use Rattle.search_rules.specs.Queue.{unqueued};
 ghost use Rattle.search_rules.specs.Run.{answer};
-ghost use Rattle.search_held.specs.code.Rules.{asking_of};
+ghost use Rattle.search_rules.specs.Theorems.{Allowed};
+ghost use Rattle.search_held.specs.code.Rules.{rule_of, asking_of};
 ghost use Rattle.search_bounds.specs.code.Rows.{Rows};
 ghost use Rattle.search_bounds.specs.code.Bounds.{rows_bound, Crews};
 ghost use Rattle.search_state.specs.code.State.{word_count, value_count};
@@ -82,12 +83,13 @@ fn steps(
         × Ended tree.now ends.now
         × (words.old ≡ replicate (word_count (length places.now) (junction_count tree.now)) unqueued)
         × (length values.old ≡ value_count) }
-    ensures { (road : List ℕ)
+    ensures answer { (road : List ℕ)
         → Ready road tree.now (asking_of asked)
         crews.now drives.now places.now table.now
         → answer_of result
         ≡ answer (search_of road tree.now (asking_of asked) crews.now)
         asked.limit }
+    ensures room { Allowed (rule_of asked.rule) result.progress.kept }
 {
     queue_root(tree, places, table, crews, asked, words);
     let h = records::header(tree);
@@ -142,12 +144,13 @@ pub fn run(
     requires { IsPrepared adj.now tree.now (asking_of asked)
         crews.now drives.now places.now table.now
         × Ended tree.now ends.now }
-    ensures { (road : List ℕ)
+    ensures answer { (road : List ℕ)
         → Ready road tree.now (asking_of asked)
         crews.now drives.now places.now table.now
         → answer_of result
         ≡ answer (search_of road tree.now (asking_of asked) crews.now)
         asked.limit }
+    ensures room { Allowed (rule_of asked.rule) result.progress.kept }
 {
     let mut words = [search_queue::UNQUEUED; MOST_WORDS];
     let mut values = [0u32; VALUES];

@@ -4,7 +4,7 @@ use lib.ListN.{length, length-replicate}
 use Rattle.tree.proofs.Fielding.{laid-header, laid-few}
 use Rattle.search_leaf.proofs.Landmarks.{table_crews}
 use Rattle.search_step.proofs.Taking.{picked}
-use Rattle.search_run.proofs.Running.{queue-part, least_of_lem, going, ends-settled, ends-limit, steps_on}
+use Rattle.search_run.proofs.Running.{queue-part, kept-allowed, least_of_lem, going, ends-settled, ends-limit, steps_on}
 use Rattle.search_run.proofs.Starts.{queue-count, steps_start}
 use Rattle.search_run.proofs.steps.Goals as goal
 
@@ -55,8 +55,10 @@ shape_of-values-then-settled c = c.loop-asked.invariant.1.value-size ∙ sym c.r
 pub returns-then-settled : goal.returns-then-settled
 returns-then-settled c =
     let l = c.loop-asked.invariant in
-    let e = least_of_lem _ _ _ _ _ l.0 l.1.size c.pick-p.ensures in
-    λ road ready. ends-settled l.1 _ e _ c.settled.ensures road ready c.if-settled.true
+    let e = least_of_lem _ _ _ _ _ l.0 l.1.size c.pick-p.ensures in record {
+      answer = λ road ready. ends-settled l.1 _ e _ c.settled.ensures road ready c.if-settled.true;
+      room = kept-allowed l.1 _ c.requires.0.ready;
+    }
 
 pub shape_of-words-then-taken-asked : goal.shape_of-words-then-taken-asked
 shape_of-words-then-taken-asked c = c.loop-asked.invariant.1.size ∙ sym (ap length c.requires.2 ∙ length-replicate _ _)
@@ -67,8 +69,10 @@ shape_of-values-then-taken-asked c = c.loop-asked.invariant.1.value-size ∙ sym
 pub returns-then-taken-asked : goal.returns-then-taken-asked
 returns-then-taken-asked c =
     let l = c.loop-asked.invariant in
-    let e = least_of_lem _ _ _ _ _ l.0 l.1.size c.pick-p.ensures in
-    λ road ready. ends-limit l.1 _ e _ c.settled.ensures road ready c.if-settled.false (omega (arith, c.if-taken-asked.true))
+    let e = least_of_lem _ _ _ _ _ l.0 l.1.size c.pick-p.ensures in record {
+      answer = λ road ready. ends-limit l.1 _ e _ c.settled.ensures road ready c.if-settled.false (omega (arith, c.if-taken-asked.true));
+      room = kept-allowed l.1 _ c.requires.0.ready;
+    }
 
 pub step-requires : goal.step-requires
 step-requires c =

@@ -115,7 +115,7 @@ report-requires c =
     let a = c.requires.2 c.requires.0.road d in
     let tree = c.args.tree.now in
     let bytes : Bytes tree = bytes-all tree (λ i. omega (arith, c.shared_slice_known-2-1.given i)) in
-    let e = c.run-o.ensures _ (ready_at (goal.at.report-requires c).After-prepare _ d) ∙ same_search d a _ c.crews-q.ensures.count _ c.requires.1 _ c.crews-q.ensures.crews in
+    let e = c.run-o.ensures.answer _ (ready_at (goal.at.report-requires c).After-prepare _ d) ∙ same_search d a _ c.crews-q.ensures.count _ c.requires.1 _ c.crews-q.ensures.crews in
     results-room d a _ c.crews-q.ensures.count _ c.requires.1 _ c.crews-q.ensures.crews bytes _ e
 
 pub returns : goal.returns
@@ -126,7 +126,7 @@ returns c =
     let so : (road : List ℕ) → District road c.args.tree.now c.args.adj.now c.args.places.now c.args.ends.now
     → answer_of c.run-o.result
     ≡ answer_by road c.args.tree.now c.args.query.now (asking_of c.args.asked)
-    = λ road e. c.run-o.ensures road (ready_at (goal.at.returns c).After-prepare road e)
+    = λ road e. c.run-o.ensures.answer road (ready_at (goal.at.returns c).After-prepare road e)
     ∙ same_search e (c.requires.2 road e) _ c.crews-q.ensures.count _ c.requires.1 _ c.crews-q.ensures.crews in record {
       found = λ road e. found_so _ _ _ c.report.ensures.found (so road e);
       work = back-zeroed c.args.work.now c.prepare.new.drives size _ c.zero_words.ensures;
