@@ -15,7 +15,7 @@ fn text_of<const N: usize>(input: &[u8], out: &mut Text<N>)
     ensures fits { length out.new ≤ length out.old + 65536 }
 {
     let mut results = [0u32; 128];
-    listing::put(input, Goal::Nearest, &mut results, out);
+    listing::append(input, Goal::Nearest, &mut results, out);
 }
 
 fn main(rt: HostRuntime) {

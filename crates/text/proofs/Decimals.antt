@@ -2,8 +2,8 @@
 use mathlib.Core.Path.{◌≡◌, sym, ap, ◌∙◌}
 use mathlib.Core.Logic.{◌⊎◌, inl, inr}
 use mathlib.Core.List.{List, [], ◌∷◌, ◌++◌}
-use Prim.Native.Nat.{ℕ, zero, suc, ◌+◌, ◌*◌, ◌/◌, ◌%◌, ◌^◌, ◌≤◌, ◌<◌}
-use native.Mathlib.Nat.{pow-suc, one-le-pow}
+use Prim.Native.Nat.{ℕ, zero, suc, ◌+◌, ◌*◌, ◌-◌, ◌/◌, ◌%◌, ◌^◌, ◌≤◌, ◌<◌}
+use native.Mathlib.Nat.{pow-suc, one-le-pow, pow-le-pow_right}
 use native.Mathlib.Numerals.{unary_clauses}
 use native.Mathlib.Omega.{arith}
 use borrow.Author.Tests.{lt-ltb}
@@ -61,3 +61,16 @@ digits_decimal (suc k) n high low =
 pub fewest_decimal : (k n : ℕ) → IsDigitCount 10 1 n k → last_digits 10 k n ≡ decimal n
 fewest_decimal zero n f = absurd (omega (arith, f.0))
 fewest_decimal (suc k) n f = digits_decimal k n f.1 (λ h. simp unary_clauses at (f.2 (omega arith)))
+
+-- a number of 64 bits has at most 20 digits
+pub fewest_short : (k n : ℕ) → IsDigitCount 10 1 n k → n < 18446744073709551616 → k ≤ 20
+fewest_short k n f h = go (lt-or_ge 20 k)
+  where
+    go : (20 < k) ⊎ (k ≤ 20) → k ≤ 20
+    go (inr s) = s
+    go (inl s) =
+        let positive : 0 < 10 = omega arith in
+        let more : 20 ≤ k - 1 = omega arith in
+        let long : 10 ^ 20 ≤ 10 ^ (k - 1) = pow-le-pow_right positive more in
+        let low : 10 ^ (k - 1) ≤ n = f.2 (omega arith) in
+        absurd (omega arith)

@@ -1,5 +1,6 @@
--- Text as bytes: numbers in decimal, and a line for each of several things. Assumes nothing: these are definitions.
-use Rattle.std.specs.Prelude.{List, [], ◌∷◌, ◌++◌, ℕ, zero, suc, ◌+◌, ◌/◌, ◌%◌, ltb}
+-- Text as bytes: numbers in decimal, a line for each of several things, and bytes appended in an array. Assumes
+-- nothing: these are definitions.
+use Rattle.std.specs.Prelude.{◌≡◌, List, [], ◌∷◌, ◌++◌, ℕ, zero, suc, ◌+◌, ◌/◌, ◌%◌, length, take, ltb}
 use Rattle.book.specs.Choose.{choose}
 
 -- the character of a number below 10: `0` has code 48
@@ -33,3 +34,8 @@ refused_text why = word_refused ++ (decimal why ++ line_end)
 unfoldable pub in_turn : (ℕ → List ℕ) → ℕ → List ℕ
 in_turn text zero = []
 in_turn text (suc n) = in_turn text n ++ text n
+
+-- Bytes were appended to the first `at` of an array: it holds those, then the added bytes, up to `end`.
+pub record Appended (old : List ℕ) (at : ℕ) (added : List ℕ) (new : List ℕ) (end : ℕ) : Type 0 where
+  pub after : end ≡ at + length added
+  pub held : take end new ≡ take at old ++ added

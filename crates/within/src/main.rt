@@ -22,7 +22,7 @@ fn text_of<const N: usize>(input: &[u8], out: &mut Text<N>)
     };
     let start = line::line_length(input) + 1;
     let mut results = [0u32; 512];
-    listing::put(&input[start..], Goal::InDrive(seconds), &mut results, out);
+    listing::append(&input[start..], Goal::InDrive(seconds), &mut results, out);
 }
 
 fn main(rt: HostRuntime) {

@@ -16,17 +16,17 @@ overflow_add-start g c =
     let given = sym (ap given_by c.in-Some.is) ∙ c.seconds_in.ensures in
     omega (arith, c.line_length-start.ensures, line_given _ _ given)
 
-pub slice_bounds-put-count : goal.slice_bounds-put-count
-slice_bounds-put-count g c =
+pub slice_bounds-append-count : goal.slice_bounds-append-count
+slice_bounds-append-count g c =
     let given = sym (ap given_by c.in-Some.is) ∙ c.seconds_in.ensures in
     omega (arith, c.line_length-start.ensures, line_given _ _ given)
 
-pub slice_bounds-put-start : goal.slice_bounds-put-start
-slice_bounds-put-start g c =
+pub slice_bounds-append-start : goal.slice_bounds-append-start
+slice_bounds-append-start g c =
     let given = sym (ap given_by c.in-Some.is) ∙ c.seconds_in.ensures in
     omega (arith, c.line_length-start.ensures, line_given _ _ given)
 
 pub returns-clause-text : goal.returns-clause-text
 returns-clause-text g c =
     let given = sym (ap given_by c.in-Some.is) ∙ c.seconds_in.ensures in
-    c.put.ensures.text ∙ ap (λ (l : List ℕ). c.args.out.now ++ l) (listed-is _ _ _ _ given (omega (arith, c.line_length-start.ensures)) refl)
+    c.append.ensures.text ∙ ap (λ (l : List ℕ). c.args.out.now ++ l) (listed-is _ _ _ _ given (omega (arith, c.line_length-start.ensures)) refl)
