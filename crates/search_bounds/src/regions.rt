@@ -3,7 +3,6 @@ ghost use Rattle.std.specs.Prelude.{◌≡◌, ◌<◌, length};
 ghost use Rattle.tree_layout.specs.Values.{region_at};
 ghost use Rattle.tree_layout.specs.Decode.{decode};
 ghost use Rattle.tree.specs.Arrays.{Laid};
-ghost use Rattle.query.specs.code.Aggregates.{code_of};
 ghost use Rattle.search_rules.specs.Bounds.{crew_bound};
 ghost use Rattle.search_bounds.specs.code.Rows.{rows_lower, rows_upper, Rows};
 ghost use Rattle.tree_layout.specs.code.Marks.{marks_at, RecordAt};
@@ -11,7 +10,6 @@ ghost use Rattle.search_bounds.specs.code.Bounds.{rows_crew, rows_bound, Crews};
 
 use crate::{numbers, rows};
 use book::Junction;
-use query::aggregate::Aggregate;
 use tree_layout::{Landmark, Region, landmarks, records};
 
 // "the crew's bound": of crew q for a landmark.
@@ -40,22 +38,15 @@ fn crew_region(tree: &[u8], at: usize, table: &[u32], rows: usize, q: Junction) 
 }
 
 // "then the aggregate over crews": of the record at a place.
-fn record_bound(
-    tree: &[u8],
-    at: usize,
-    table: &[u32],
-    rows: usize,
-    aggregate: Aggregate,
-    crews: &[u16],
-) -> u64
+fn record_bound(tree: &[u8], at: usize, table: &[u32], rows: usize, code: u8, crews: &[u16]) -> u64
     requires { RecordAt tree.now at × Rows table.now rows × Crews crews.now }
-    ensures { result ≡ rows_bound table.now rows (code_of aggregate) crews.now (marks_at tree.now at) }
+    ensures { result ≡ rows_bound table.now rows code crews.now (marks_at tree.now at) }
 {
     let mut x: u64 = 0;
     for q in crews {
         let q = Junction { number: *q };
         let w = u64::from(crew_region(tree, at, table, rows, q));
-        x = numbers::combine64(aggregate, x, w);
+        x = numbers::combine64(code, x, w);
     }
     x
 }
@@ -66,15 +57,15 @@ pub fn region_bound(
     places: &[usize],
     table: &[u32],
     rows: usize,
-    aggregate: Aggregate,
+    code: u8,
     crews: &[u16],
     r: Region,
 ) -> u64
     requires { Laid tree.now places.now × (r.number < length places.now) × Rows table.now rows
         × Crews crews.now }
-    ensures { result ≡ rows_bound table.now rows (code_of aggregate) crews.now
+    ensures { result ≡ rows_bound table.now rows code crews.now
         (region_at (decode tree.now).regions r.number).marks }
 {
     let at = places[r.number as usize];
-    record_bound(tree, at, table, rows, aggregate, crews)
+    record_bound(tree, at, table, rows, code, crews)
 }

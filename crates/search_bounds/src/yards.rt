@@ -1,7 +1,6 @@
 // What is computed of a yard by its leaf's landmark: f, and its bound.
 ghost use Rattle.std.specs.Prelude.{◌≡◌, ℕ, ◌≤◌, ◌<◌, length};
 ghost use mathlib.Core.List.{List, Memᴰ as Mem};
-ghost use Rattle.query.specs.code.Aggregates.{code_of};
 ghost use Rattle.road_layout.specs.Road.{junctions};
 ghost use Rattle.search_bounds.specs.code.Rows.{Rows, rows_lower};
 ghost use Rattle.search_bounds.specs.code.Bounds.{Crews};
@@ -10,16 +9,15 @@ ghost use Rattle.search_bounds.specs.code.Measures.{f_by, crew_abs_diff, yard_bo
 
 use crate::{numbers, rows};
 use book::Junction;
-use query::aggregate::Aggregate;
 
 // "f, the aggregate of |d(l, q) − d(l, p)|": of landmark l's distances to the crews and of an element's distance.
-pub fn f_of(out: &[u32], aggregate: Aggregate, distance: u32) -> u32
+pub fn f_of(out: &[u32], code: u8, distance: u32) -> u32
     requires { (length out.now ≤ 16) × Short out.now × (distance ≤ longest) }
-    ensures { result ≡ f_by (code_of aggregate) out.now distance }
+    ensures { result ≡ f_by code out.now distance }
 {
     let mut total: u32 = 0;
     for d in out {
-        total = numbers::combine(aggregate, total, d.abs_diff(distance));
+        total = numbers::combine(code, total, d.abs_diff(distance));
     }
     total
 }
@@ -64,20 +62,20 @@ pub fn yard_bound(
     rows: usize,
     crews: &[u16],
     out: &[u32],
-    aggregate: Aggregate,
+    code: u8,
     yard: Junction,
     distance: u32,
 ) -> u32
     requires { Rows table.now rows × Crews crews.now × (length out.now ≡ length crews.now)
         × (yard.number < 1024) × Short out.now × (distance ≤ longest)
         × ((q : ℕ) → Mem q crews.now → rows_lower table.now rows yard.number q ≤ longest) }
-    ensures { result ≡ yard_bound_by (code_of aggregate) table.now rows crews.now out.now
+    ensures { result ≡ yard_bound_by code table.now rows crews.now out.now
         yard.number distance (length crews.now) }
 {
     let mut total: u32 = 0;
     for j in 0..crews.len() {
         let x = crew_abs_diff(table, rows, crews, out, yard, distance, j);
-        total = numbers::combine(aggregate, total, x);
+        total = numbers::combine(code, total, x);
     }
     total
 }

@@ -7,7 +7,6 @@ ghost use Rattle.search_measure.specs.code.Cases.{ceiling_of};
 ghost use Rattle.search_order.specs.code.Listed.{entry_in};
 ghost use Rattle.search_held.specs.code.Rules.{rule_of};
 
-use query::aggregate::Aggregate;
 use search_order::{Entries, Entry};
 
 // What a search keeps of the yards that it measures: the first so many, or those within so many seconds.
@@ -17,10 +16,10 @@ pub enum Rule {
     InDrive(u32),
 }
 
-// What a search is asked: the aggregate, the limit of its steps, its rule, and the wanted kinds.
+// What a search is asked: the aggregate's code, the limit of its steps, its rule, and the wanted kinds.
 #[derive(Clone, Copy)]
 pub struct Asked {
-    pub aggregate: Aggregate,
+    pub aggregate: u8,
     pub limit: u32,
     pub rule: Rule,
     pub wanted: u8,

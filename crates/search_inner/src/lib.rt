@@ -2,7 +2,6 @@
 // An inner region is taken: it queues its children.
 ghost use Rattle.std.specs.Prelude.{◌≡◌, ◌<◌, length, set};
 ghost use Rattle.book.specs.Lists.{keep_if};
-ghost use Rattle.query.specs.code.Aggregates.{code_of};
 ghost use Rattle.tree_layout.specs.Decode.{decode, junction_count, landmark_count};
 ghost use Rattle.tree.specs.Arrays.{Laid};
 ghost use Rattle.tree.specs.Yards.{children_of};
@@ -11,7 +10,6 @@ ghost use Rattle.search_bounds.specs.code.Rows.{Rows};
 ghost use Rattle.search_bounds.specs.code.Bounds.{Crews};
 ghost use Rattle.search_inner.specs.code.Children.{wanted_in, key_of, put_keys, Ended, Slots};
 
-use query::aggregate::Aggregate;
 use search_bounds::regions;
 use search_held::Asked;
 use tree_layout::{Region, records};
@@ -31,7 +29,7 @@ fn key(
     places: &[usize],
     table: &[u32],
     rows: usize,
-    aggregate: Aggregate,
+    code: u8,
     crews: &[u16],
     c: Region,
     parent: u64,
@@ -39,9 +37,9 @@ fn key(
     requires { Laid tree.now places.now × (c.number < length places.now)
         × Rows table.now rows × Crews crews.now }
     ensures { result
-        ≡ key_of tree.now table.now rows (code_of aggregate) crews.now parent c.number }
+        ≡ key_of tree.now table.now rows code crews.now parent c.number }
 {
-    let x = regions::region_bound(tree, places, table, rows, aggregate, crews, c);
+    let x = regions::region_bound(tree, places, table, rows, code, crews, c);
     x.max(parent)
 }
 
@@ -64,7 +62,7 @@ pub fn open_inner(
     ensures { words.new
         ≡ put_keys
         (key_of tree.now table.now (landmark_count tree.now)
-        (code_of asked.aggregate) crews.now a)
+        asked.aggregate crews.now a)
         (length places.now) (junction_count tree.now)
         (keep_if (wanted_in tree.now asked.wanted)
         (children_of (decode tree.now).regions r.number))

@@ -2,7 +2,7 @@
 use mathlib.Core.Path.{◌≡◌, refl, sym, ap, ◌∙◌}
 use mathlib.Core.Bool.{Bool, true}
 use mathlib.Core.List.{List}
-use Prim.Native.Nat.{ℕ, ◌+◌, ◌≤◌, ◌<◌, max}
+use Prim.Native.Nat.{ℕ, zero, suc, ◌+◌, ◌≤◌, ◌<◌, max}
 use native.Mathlib.Omega.{arith}
 use lib.ListN.{get_or, set}
 use lib.Dec.{not_T}
@@ -14,6 +14,7 @@ use Rattle.tree_layout.specs.declared.Listed.{Listed}
 use Rattle.search_rules.specs.Queue.{unqueued, queued, word_at, pick}
 use Rattle.search_rules.specs.Step.{no_element, again_key}
 use Rattle.search_rules.proofs.Queue.{pick-range, queued-small, small-queued, not-queued}
+use Rattle.search_rules.proofs.Turns.{pick_first}
 use Rattle.search_rules.proofs.Steps.{again_none, again_by}
 use Rattle.search_state.specs.code.State.{yard_keys_at, firsts_at, bounds_at, gone_at, region_keys_in, yard_keys_in, firsts_in, picks_in, fs_in, bounds_in, gone_in}
 use Rattle.search_state.proofs.Cells.{Parts, parts_of_lem, part_at, store_key, store_yard, store_gone}
@@ -50,7 +51,7 @@ next_in_lem fs gone es n = refl
 
 -- an answer's word
 word-is : (fs : List ℕ) (gone : List Bool) (es : List Element) (n : ℕ) (r : Option Next) → IsNext fs gone es n r → word_in r ≡ next_word fs gone es n
-word-is fs gone es n None e = e
+word-is fs gone es n None e = e.1
 word-is fs gone es n (Some x) e = e.1
 
 -- the words of what was read
@@ -58,6 +59,15 @@ pub next_word_lem : (fs : List ℕ) (gone : List Bool) (es : List Element) (n pl
     → word ≡ word_at (words_of fs gone es) place → word ≡ next_word fs gone es n
 unfolding next_word
 next_word_lem fs gone es n place word p q = q ∙ rw p refl
+
+-- with none left the first has the least word
+pub first_picked : (ws : List ℕ) (n place word first : ℕ) → place ≡ pick ws n → word ≡ word_at ws place → first ≡ word_at ws 0 → first ≤ unqueued
+    → unqueued ≤ word → pick ws n ≡ 0
+first_picked ws n place word first p q e h k = go (pick ws n) (pick_first ws n 0) (omega (arith, q, ap (word_at ws) p))
+  where
+    go : (v : ℕ) → (0 < v → word_at ws v < word_at ws 0) → unqueued ≤ word_at ws v → v ≡ 0
+    go zero less most = refl
+    go (suc v) less most = absurd (omega (arith, less (omega arith)))
 
 -- ---- what is stored
 

@@ -1,7 +1,6 @@
 // A leaf's list: f and the bound of each of its yards, and which leaves next.
 ghost use Rattle.std.specs.Prelude.{◌≡◌, List, ℕ, ◌+◌, ◌≤◌, ◌<◌, length};
 ghost use Rattle.book.specs.Bytes.{u16_at};
-ghost use Rattle.query.specs.code.Aggregates.{code_of};
 ghost use Rattle.road_layout.specs.Road.{junctions};
 ghost use Rattle.book.specs.Open.{version};
 ghost use Rattle.tree_layout.specs.Sizes.{header_size, list_size, leaf_mark_size};
@@ -16,7 +15,6 @@ ghost use Rattle.search_leaf.specs.code.Leaves.{f_word, pass_over, list_at, elem
 
 use crate::{Form, Next, parts};
 use book::Junction;
-use query::aggregate::Aggregate;
 use search_queue::UNQUEUED;
 use tree_layout::{Header, records};
 
@@ -31,25 +29,23 @@ fn fill(
     rows: usize,
     crews: &[u16],
     out: &[u32],
-    aggregate: Aggregate,
+    code: u8,
     values: &mut [u32],
 )
     requires { FormedList list.now form × Rows table.now rows × Crews crews.now
         × (length out.now ≡ length crews.now) × Short out.now × Near 1024 (elements_of list.now form)
         × ShortList table.now rows crews.now (elements_of list.now form)
         × (length values.old ≡ value_count) }
-    ensures { values.new ≡ by_yards (f_in (code_of aggregate) out.now)
-        (bound_in (code_of aggregate) table.now rows crews.now out.now)
+    ensures { values.new ≡ by_yards (f_in code out.now)
+        (bound_in code table.now rows crews.now out.now)
         (elements_of list.now form) values.old }
 {
     let v = form.version;
     for k in 0..form.yards {
         let e = records::element(list, v, k);
         let y = e.yard;
-        let f = search_bounds::yards::f_of(out, aggregate, e.distance);
-        let bound = search_bounds::yards::yard_bound(
-            table, rows, crews, out, aggregate, y, e.distance,
-        );
+        let f = search_bounds::yards::f_of(out, code, e.distance);
+        let bound = search_bounds::yards::yard_bound(table, rows, crews, out, code, y, e.distance);
         let f_place = parts::f_at(y);
         let bound_place = parts::bound_at(y);
         values[f_place] = f;
@@ -82,7 +78,7 @@ pub fn open(
     table: &[u32],
     drives: &[u32],
     crews: &[u16],
-    aggregate: Aggregate,
+    code: u8,
     values: &mut [u32],
 )
     requires { IsDriven crews.now drives.now (u16_at tree.now at) × Rows table.now (landmark_count tree.now)
@@ -93,8 +89,8 @@ pub fn open(
         × (length values.old ≡ value_count) }
     ensures { (road : List ℕ) → Driven road crews.now drives.now
         → u16_at tree.now at < junctions road
-        → values.new ≡ by_yards (f_in (code_of aggregate) (to_crews road (u16_at tree.now at) crews.now))
-        (bound_in (code_of aggregate) table.now (landmark_count tree.now) crews.now
+        → values.new ≡ by_yards (f_in code (to_crews road (u16_at tree.now at) crews.now))
+        (bound_in code table.now (landmark_count tree.now) crews.now
         (to_crews road (u16_at tree.now at) crews.now))
         (list_at tree.now at yards) values.old }
 {
@@ -109,7 +105,7 @@ pub fn open(
         version: h.version,
         yards,
     };
-    fill(list, form, table, rows, crews, &out[..q], aggregate, values);
+    fill(list, form, table, rows, crews, &out[..q], code, values);
 }
 
 // The word of what stands among the f's: UNQUEUED for a yard that is not wanted.

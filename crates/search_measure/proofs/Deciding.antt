@@ -4,8 +4,6 @@ use mathlib.Core.Bool.{Bool, true, false, not}
 use Prim.Native.Nat.{ℕ, ◌≤◌, ◌<◌}
 use lib.Dec.{T}
 use borrow.Author.Tests.{lt-ltb, le-ltb}
-use Rattle.query.specs.code.Aggregates.{code_of}
-use Rattle.query.specs.declared.aggregate.Aggregate.{Aggregate}
 use Rattle.search_rules.specs.Bounds.{combine}
 use Rattle.search_rules.specs.Ceiling.{exceeds}
 use Rattle.search_rules.proofs.Exceeding.{exceeds-none, exceeds-some}
@@ -21,9 +19,9 @@ pub seconds_exceed : (c : Option ℕ) (s n : ℕ) (r : Bool) → c ≡ Some s �
 seconds_exceed c s n true e h k = rw e (sym (exceeds-some s n ∙ lt-ltb s n (h tt)))
 seconds_exceed c s n false e h k = rw e (sym (exceeds-some s n ∙ le-ltb s n (k tt)))
 
-pub over_by : (g : Aggregate) (spent : ℕ) (c : Option ℕ) (t n : ℕ) (r : Bool) → n ≡ combine (code_of g) spent t → r ≡ exceeds (ceiling_of c) n → r ≡ over (budget_of g spent c) t
+pub over_by : (code spent : ℕ) (c : Option ℕ) (t n : ℕ) (r : Bool) → n ≡ combine code spent t → r ≡ exceeds (ceiling_of c) n → r ≡ over (budget_of code spent c) t
 unfolding over
-over_by g spent c t n r e f = f ∙ ap (exceeds (ceiling_of c)) e
+over_by code spent c t n r e f = f ∙ ap (exceeds (ceiling_of c)) e
 
 -- a test that was answered
 pub over_yes : (r x : Bool) → r ≡ x → r ≡ true → T x

@@ -6,7 +6,6 @@ ghost use Rattle.road_layout.specs.Road.{junctions};
 ghost use Rattle.adjacency.specs.Arcs.{net};
 ghost use Rattle.adjacency.specs.Adjacency.{count_in};
 ghost use Rattle.road.specs.Dijkstra.{dist};
-ghost use Rattle.query.specs.code.Aggregates.{code_of};
 ghost use Rattle.search_rules.specs.Ceiling.{exceeds};
 ghost use Rattle.search_measure.specs.Way.{came_by, over, least_way, way_answer};
 ghost use Rattle.search_measure.specs.Facts.{Ways};
@@ -16,7 +15,6 @@ ghost use Rattle.search_measure.specs.code.Cases.{Steers, IsSteered, IsApart, Wr
 ghost use Rattle.search_measure.specs.code.Cases.{measured_of, Measurable, IsMeasurable};
 
 use book::Junction;
-use query::aggregate::Aggregate;
 use search_bounds::numbers;
 
 // The arc by which a least walk comes to a junction: the junction at its other end, and its seconds.
@@ -52,11 +50,11 @@ fn exceeds(ceiling: Option<u32>, total: u32) -> bool
 }
 
 // Whether the aggregate of the crews before and some seconds exceeds a ceiling.
-fn over(aggregate: Aggregate, spent: u32, ceiling: Option<u32>, t: u32) -> bool
+fn over(code: u8, spent: u32, ceiling: Option<u32>, t: u32) -> bool
     requires { spent + t ≤ 1072676880 }
-    ensures { result ≡ over (budget_of aggregate spent ceiling) t }
+    ensures { result ≡ over (budget_of code spent ceiling) t }
 {
-    exceeds(ceiling, numbers::combine(aggregate, spent, t))
+    exceeds(ceiling, numbers::combine(code, spent, t))
 }
 
 // The arc by which the row's crew comes to junction v: the first of v's whose other end is nearer by its seconds.
@@ -88,18 +86,18 @@ pub fn way(
     walked: &mut [u16],
     crew: Junction,
     yard: Junction,
-    aggregate: Aggregate,
+    code: u8,
     spent: u32,
     ceiling: Option<u32>,
 ) -> Arrival
     requires { IsSteered adj.now row.now crew.number × (yard.number < count_in adj.now)
         × (length row.now ≡ 1024) × (length walked.old ≡ 1024) × (spent ≤ most_spent) }
     ensures ways { (road : List ℕ) → Steers road adj.now row.now crew.number
-        → Ways (net road) (junctions road) (budget_of aggregate spent ceiling) crew.number yard.number
-        (least_way road (budget_of aggregate spent ceiling) crew.number yard.number) (ended_of result) }
+        → Ways (net road) (junctions road) (budget_of code spent ceiling) crew.number yard.number
+        (least_way road (budget_of code spent ceiling) crew.number yard.number) (ended_of result) }
     ensures walk { (road : List ℕ) → Steers road adj.now row.now crew.number
-        → (ended_of result ≡ way_answer road (budget_of aggregate spent ceiling) crew.number yard.number)
-        × Written (least_way road (budget_of aggregate spent ceiling) crew.number yard.number) (count_of result)
+        → (ended_of result ≡ way_answer road (budget_of code spent ceiling) crew.number yard.number)
+        × Written (least_way road (budget_of code spent ceiling) crew.number yard.number) (count_of result)
         walked.new }
 {
     let q = crew.number;
@@ -107,7 +105,7 @@ pub fn way(
     let mut t: u32 = 0;
     let mut n: usize = 0;
     'walking: loop {
-        if over(aggregate, spent, ceiling, t) {
+        if over(code, spent, ceiling, t) {
             return Arrival {
                 seconds: None,
                 count: n,
@@ -135,18 +133,18 @@ pub fn measure(
     rows: &[u32],
     crews: &[u16],
     walked: &mut [u16],
-    aggregate: Aggregate,
+    code: u8,
     ceiling: Option<u32>,
     yard: Junction,
 ) -> Option<Numbers>
     requires { IsMeasurable adj.now crews.now rows.now yard.number × (length walked.old ≡ 1024) }
     ensures measures { (road : List ℕ)
         → Measurable road adj.now crews.now rows.now yard.number
-        → Measures road (code_of aggregate) crews.now (ceiling_of ceiling) yard.number (measured_of result)
-        (yard_ways road (code_of aggregate) crews.now (ceiling_of ceiling) yard.number) }
+        → Measures road code crews.now (ceiling_of ceiling) yard.number (measured_of result)
+        (yard_ways road code crews.now (ceiling_of ceiling) yard.number) }
     ensures run { (road : List ℕ)
         → Measurable road adj.now crews.now rows.now yard.number
-        → measured_of result ≡ measure_yard road (code_of aggregate) crews.now (ceiling_of ceiling) yard.number }
+        → measured_of result ≡ measure_yard road code crews.now (ceiling_of ceiling) yard.number }
 {
     let mut total: u32 = 0;
     let mut furthest: u32 = 0;
@@ -159,12 +157,12 @@ pub fn measure(
             walked,
             crew,
             yard,
-            aggregate,
+            code,
             total,
             ceiling,
         );
         let seconds = arrival.seconds?;
-        total = numbers::combine(aggregate, total, seconds);
+        total = numbers::combine(code, total, seconds);
         furthest = furthest.max(seconds);
     }
     Some(Numbers { total, furthest })

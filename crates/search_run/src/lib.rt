@@ -1,7 +1,6 @@
 #![tactic(auto)]
 // A search: its steps up to a limit.
 ghost use Rattle.std.specs.Prelude.{◌≡◌, List, ℕ, length, replicate};
-ghost use Rattle.query.specs.code.Aggregates.{code_of};
 ghost use Rattle.tree_layout.specs.Values.{region_at};
 ghost use Rattle.tree_layout.specs.Decode.{decode, junction_count, landmark_count};
 ghost use Rattle.tree.specs.Arrays.{Laid};
@@ -50,7 +49,7 @@ fn queue_root(
         × (length words.old ≡ word_count (length places.now) (junction_count tree.now)) }
     ensures { words.new ≡ put_root (wanted_in tree.now asked.wanted 0)
         (length places.now) (junction_count tree.now)
-        (rows_bound table.now (landmark_count tree.now) (code_of asked.aggregate) crews.now
+        (rows_bound table.now (landmark_count tree.now) asked.aggregate crews.now
         (region_at (decode tree.now).regions 0).marks) words.old }
 {
     let h = records::header(tree);

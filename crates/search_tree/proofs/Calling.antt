@@ -13,12 +13,9 @@ use Rattle.work_area.specs.Work.{work_words, zeroed, work_after}
 use Rattle.work_area.proofs.Zeroing.{accepted-zeroed, refused-kept}
 use Rattle.adjacency.specs.Adjacency.{count_in}
 use Rattle.road_layout.specs.Road.{junctions}
-use Rattle.query.specs.code.Aggregates.{aggregate_by, code_of}
-use Rattle.query.specs.declared.aggregate.Aggregate.{Aggregate}
-use Rattle.query.proofs.Coding.{code_kept}
 use Rattle.query.specs.Query.{aggregate_of, k_of, query_refusal, query_of, Asked, Refused, query_book}
 use Rattle.query.specs.declared.Query.{Query}
-use Rattle.query.proofs.Reading.{read_asked, read_refused, its_aggregate, its_k, passing}
+use Rattle.query.proofs.Reading.{read_asked, read_refused, its_aggregate, its_k}
 use Rattle.tree_layout.specs.Decode.{tree_yard_count}
 use Rattle.tree_layout.specs.Reading.{header_of}
 use Rattle.tree_layout.specs.declared.Header.{Header}
@@ -53,10 +50,6 @@ module _ {road tree adj places ends : List ℕ} (d : District road tree adj plac
 
     pub asked_of : asked ≡ query_of query
     asked_of = sym found.1
-
-    -- with the code of an aggregate
-    pub asked_coded : (asked ≡ query_of query) × (asked.aggregate ≤ 1)
-    asked_coded = (asked_of, omega (arith, its_aggregate query asked asked_of, (passing query (junctions road) found.0).coded))
 
     -- a wanted byte of 0 does
     pub kinds-back : want.kinds ≡ 0 → 13 ≡ search_refusal road tree query want work results
@@ -125,10 +118,9 @@ module _ (road tree query : List ℕ) (want : Want) (work results : List ℕ) wh
         go (inr t) = g ∙ choose_no (search_answer road tree query want).settled _ results t ∙ sym (spent_keeps road tree query want (length work) results none t)
 
 -- what the code asks for is what the query and the call do
-pub asking-is : (query : List ℕ) (asked : Query) (want : Want) (g : Aggregate) (rule : Rule) → (asked ≡ query_of query) × (asked.aggregate ≤ 1)
-    → g ≡ aggregate_by asked.aggregate → rule ≡ rule_by asked.k want.drive
-    → record { code = code_of g; rule = rule; wanted = want.kinds } ≡ asking_by query want
-asking-is query asked want g rule (e, coded) f r =
-    let c : code_of g ≡ aggregate_of query = ap code_of f ∙ code_kept asked.aggregate coded ∙ its_aggregate query asked e in
+pub asking-is : (query : List ℕ) (asked : Query) (want : Want) (rule : Rule) → asked ≡ query_of query → rule ≡ rule_by asked.k want.drive
+    → record { code = asked.aggregate; rule = rule; wanted = want.kinds } ≡ asking_by query want
+asking-is query asked want rule e r =
+    let g : asked.aggregate ≡ aggregate_of query = its_aggregate query asked e in
     let k : asked.k ≡ k_of query = its_k query asked e in
-    rw (r, c, k) refl
+    rw (r, g, k) refl

@@ -10,7 +10,6 @@ ghost use Rattle.search_tree.specs.Found.{found_by};
 
 use crate::{Found, Goal, Want, accepted};
 use book::refusal::Refusal;
-use query::aggregate::Aggregate;
 use search_held::{Asked, Rule};
 use tree_layout::records;
 
@@ -83,7 +82,7 @@ pub fn answer(
     areas_refusal(most, work.len(), results.len())?;
     let rule = rule_of(asked.k, goal);
     let given = Asked {
-        aggregate: Aggregate::of(asked.aggregate),
+        aggregate: asked.aggregate,
         limit: asked.limit,
         rule,
         wanted,

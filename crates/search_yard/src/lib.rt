@@ -1,7 +1,6 @@
 #![tactic(auto)]
 // A yard is taken: it is measured, and held if the search's rule keeps it.
 ghost use Rattle.std.specs.Prelude.{◌≡◌, List, [], ◌∷◌, ℕ, ◌+◌, ◌≤◌, ◌<◌, length};
-ghost use Rattle.query.specs.code.Aggregates.{code_of};
 ghost use Rattle.search_rules.specs.Keeping.{keep_by};
 ghost use Rattle.search_rules.specs.Ceiling.{ceiling_by};
 ghost use Rattle.search_rules.specs.Theorems.{Sorted};
@@ -56,13 +55,13 @@ fn under_ceiling(
     requires { IsMeasurable adj.now crews.now drives.now y.number × (length walked.old ≡ 1024) }
     ensures measures { (road : List ℕ)
         → Measurable road adj.now crews.now drives.now y.number
-        → Measures road (code_of asked.aggregate) crews.now (ceiling_by (rule_of asked.rule) kept.now) y.number
+        → Measures road asked.aggregate crews.now (ceiling_by (rule_of asked.rule) kept.now) y.number
         (measured_of result)
-        (yard_ways road (code_of asked.aggregate) crews.now (ceiling_by (rule_of asked.rule) kept.now) y.number) }
+        (yard_ways road asked.aggregate crews.now (ceiling_by (rule_of asked.rule) kept.now) y.number) }
     ensures run { (road : List ℕ)
         → Measurable road adj.now crews.now drives.now y.number
         → measured_of result
-        ≡ measure_yard road (code_of asked.aggregate) crews.now (ceiling_by (rule_of asked.rule) kept.now) y.number }
+        ≡ measure_yard road asked.aggregate crews.now (ceiling_by (rule_of asked.rule) kept.now) y.number }
 {
     let ceiling = search_held::ceiling(kept, asked.rule);
     search_measure::measure(adj, drives, crews, walked, asked.aggregate, ceiling, y)
@@ -85,7 +84,7 @@ pub fn take(
     ensures held { (road : List ℕ)
         → Measurable road adj.now crews.now drives.now y.number
         → progress.new.kept ≡ keep_by (rule_of asked.rule)
-        (entry_on road (code_of asked.aggregate) crews.now y.number) progress.old.kept }
+        (entry_on road asked.aggregate crews.now y.number) progress.old.kept }
 {
     let count = progress.measured;
     progress.yards[count] = y.number;

@@ -21,9 +21,10 @@ abbrev pub word_in : Option Next → ℕ
 word_in None = unqueued
 word_in (Some e) = e.f
 
--- an answer is the next of n elements by its place and its f, and there is none exactly if none remains
+-- an answer is the next of n elements by its place and its f, and there is none exactly if none remains: the least word
+-- is then `unqueued`, and the first element has it
 abbrev pub IsNext : List ℕ → List Bool → List Element → ℕ → Option Next → Type 0
-IsNext fs gone es n None = unqueued ≡ next_word fs gone es n
+IsNext fs gone es n None = (pick (words_of fs gone es) n ≡ 0) × (unqueued ≡ next_word fs gone es n)
 IsNext fs gone es n (Some e) = (e.place ≡ pick (words_of fs gone es) n) × (e.f ≡ next_word fs gone es n) × (e.f ≢ unqueued)
 
 -- of a leaf's list of n elements, and the words and the yards' values of a search

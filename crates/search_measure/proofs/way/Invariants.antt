@@ -9,7 +9,7 @@ use Rattle.search_measure.proofs.way.Given as goal
 
 abbrev pub invariant-walking : goal.invariant-walking
 invariant-walking l = (length l.walked ≡ 1024)
-    × ((road : List ℕ) → Steers road l.adj l.row l.q → l.initial.v < count_in l.adj → Along road (budget_of l.aggregate l.spent l.ceiling) l.q l.initial.v l.walked l.v l.t l.n)
+    × ((road : List ℕ) → Steers road l.adj l.row l.q → l.initial.v < count_in l.adj → Along road (budget_of l.code l.spent l.ceiling) l.q l.initial.v l.walked l.v l.t l.n)
 
 abbrev pub decreases-walking : goal.decreases-walking
 decreases-walking l = 1024 - l.n

@@ -6,8 +6,6 @@ use Rattle.road_layout.specs.Road.{junctions}
 use Rattle.adjacency.specs.Adjacency.{count_in, Adjacency}
 use Rattle.road.specs.Dijkstra.{dist}
 use Rattle.road.specs.Facts.{Passing}
-use Rattle.query.specs.code.Aggregates.{code_of}
-use Rattle.query.specs.declared.aggregate.Aggregate.{Aggregate}
 use Rattle.search_rules.specs.Bounds.{aggregate}
 use Rattle.search_rules.specs.Ceiling as rules
 use Rattle.search_bounds.specs.code.Measures.{Driven}
@@ -21,8 +19,8 @@ ceiling_of None = none
 ceiling_of (Some s) = some s
 
 -- the definition's budget
-abbrev pub budget_of : Aggregate → ℕ → Given ℕ → Budget
-budget_of aggregate spent ceiling = budget (code_of aggregate) spent (ceiling_of ceiling)
+abbrev pub budget_of : ℕ → ℕ → Given ℕ → Budget
+budget_of code spent ceiling = budget code spent (ceiling_of ceiling)
 
 -- the definition's answer, by the seconds after which the crew is reached, if it is
 abbrev pub ended_in : Given ℕ → Ended

@@ -1,9 +1,8 @@
-use mathlib.Core.Path.{sym, ◌∙◌}
 use native.Mathlib.Omega.{arith}
 use Rattle.search_leaf.proofs.Scanning.{words_by, scanned_first, scanned_on, scanned_still, scanned_all}
 use Rattle.search_leaf.proofs.Numbering.{element-fits}
 use Rattle.search_leaf.proofs.Filling.{yard-near}
-use Rattle.search_leaf.proofs.Nexts.{next_word_lem}
+use Rattle.search_leaf.proofs.Nexts.{next_word_lem, first_picked}
 use Rattle.search_leaf.proofs.elements.next_element.Goals.{then-w-f, else-w-f}
 use Rattle.search_leaf.proofs.elements.next_element.Goals as goal
 
@@ -35,7 +34,10 @@ loop-k-preserved c =
 pub returns-then-f : goal.returns-then-f
 returns-then-f c =
     let s = scanned_all _ c.args.yards _ _ _ c.loop-k.invariant (omega arith) (omega arith) in
-    sym c.if-f.true ∙ next_word_lem _ _ _ _ _ _ s.0 s.1
+    let first = words_by _ _ _ _ _ 0 _ _ c.requires.0 c.element.ensures c.word_of-f.ensures in (
+      first_picked _ _ _ _ _ s.0 s.1 first (omega arith) (omega (arith, c.if-f.true)),
+      omega (arith, c.if-f.true, next_word_lem _ _ _ _ _ _ s.0 s.1),
+    )
 
 pub returns : goal.returns
 returns c =

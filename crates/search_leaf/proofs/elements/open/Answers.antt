@@ -1,7 +1,6 @@
 use mathlib.Core.Path.{refl, sym, ◌∙◌}
 use native.Mathlib.Omega.{arith}
 use lib.Seq.{length-take-le}
-use Rattle.query.specs.code.Aggregates.{code_of}
 use Rattle.book.specs.Open.{version}
 use Rattle.tree_layout.proofs.Sizes.{leaf_mark_are}
 use Rattle.tree_layout.proofs.Accessing.{its_version}
@@ -57,6 +56,6 @@ pub returns : goal.returns
 returns c =
     let t = c.to_crews in
     let j = c.junction-l.ensures in
-    λ road d n. opened-values _ c.args.at _ _ c.list-list.ensures _ c.header-h.ensures (code_of c.args.aggregate)
+    λ road d n. opened-values _ c.args.at _ _ c.list-list.ensures _ c.header-h.ensures c.args.code
     c.args.table.now c.args.crews.now t.new.out _ (t.auto.out ∙ length-take-le _ _ c.requires.0.driven.few) _ _
     c.fill.ensures road _ j (t.ensures road d (omega (arith, j)))

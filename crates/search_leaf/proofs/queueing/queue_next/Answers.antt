@@ -12,7 +12,7 @@ pub shape_of-words-in_default : goal.shape_of-words-in_default
 shape_of-words-in_default c = simp length-set
 
 pub returns-in_default : goal.returns-in_default
-returns-in_default c = none-queued _ _ _ _ _ c.args.words.now c.args.values.now _ c.in_default.ensures
+returns-in_default c = none-queued _ _ _ _ _ c.args.words.now c.args.values.now _ c.in_default.ensures.1
 
 pub element-requires : goal.element-requires
 element-requires c =

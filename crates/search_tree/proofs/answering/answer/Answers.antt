@@ -3,7 +3,7 @@ use Rattle.book.proofs.Refusals.{passed_on, refusal_some}
 use Rattle.query.proofs.Reading.{its_limit}
 use Rattle.tree.proofs.Fielding.{laid-header}
 use Rattle.search_tree.specs.Found.{drive_of, want_of}
-use Rattle.search_tree.proofs.Calling.{query-back, asked_coded, kinds-back, areas_last, most_of, turned_found, turned_work, turned_results}
+use Rattle.search_tree.proofs.Calling.{query-back, asked_of, kinds-back, areas_last, most_of, turned_found, turned_work, turned_results}
 use Rattle.search_tree.proofs.Calling.{asking-is, taken-facts, taken-found, taken-work, taken-results}
 use Rattle.search_tree.proofs.answering.answer.Goals as goal
 
@@ -55,12 +55,12 @@ search-requires c =
     let w = c.if-wanted-eq0.false in
     let l = most_of _ _ c.in_ok-asked.asked.k _ (drive_of c.args.want.goal) c.header-h.ensures c.most_yards-most.ensures in
     let a = c.in_ok-areas_refusal.ensures in
-    let o = asked_coded c.requires.district _ (want_of c.args.want) 0 0 _ n _ e in (
+    let o = asked_of c.requires.district _ (want_of c.args.want) 0 0 _ n _ e in (
       c.requires,
-      its_limit _ _ o.0,
+      its_limit _ _ o,
       λ road d. taken-facts _ _ _ (want_of c.args.want) c.args.work.now c.args.results.now
           (areas_last d _ (want_of c.args.want) _ _ _ n _ e w _ _ l a) _
-          (asking-is _ _ (want_of c.args.want) _ _ o c.of.ensures c.rule_of-rule.ensures),
+          (asking-is _ _ (want_of c.args.want) _ o c.rule_of-rule.ensures),
     )
 
 pub returns : goal.returns
@@ -72,7 +72,7 @@ returns c =
     let l = most_of _ _ c.in_ok-asked.asked.k _ (drive_of s.want.goal) c.header-h.ensures c.most_yards-most.ensures in
     let a = c.in_ok-areas_refusal.ensures in
     let f = c.search.ensures in
-    let o = asking-is _ _ (want_of s.want) _ _ (asked_coded c.requires.district _ (want_of s.want) 0 0 _ n _ e) c.of.ensures c.rule_of-rule.ensures in record {
+    let o = asking-is _ _ (want_of s.want) _ (asked_of c.requires.district _ (want_of s.want) 0 0 _ n _ e) c.rule_of-rule.ensures in record {
       found = λ road d. taken-found _ _ _ (want_of s.want) s.work.now s.results.now (areas_last d _ (want_of s.want) _ _ _ n _ e w _ _ l a) _ o _ (f.found road d);
       work = λ road d. taken-work _ _ _ (want_of s.want) s.work.now s.results.now (areas_last d _ (want_of s.want) _ _ _ n _ e w _ _ l a) _ f.work;
       results = λ road d. taken-results _ _ _ (want_of s.want) s.work.now s.results.now (areas_last d _ (want_of s.want) _ _ _ n _ e w _ _ l a) _ o _ (f.results road d);
