@@ -1,3 +1,4 @@
 pub mod Inserting
 pub mod Writing
 pub mod Counting
+pub mod Clearing

@@ -29,7 +29,7 @@ const MOST_WORDS: usize = 3581;
 const VALUES: usize = 2048;
 
 // What a search comes to: what it keeps, and the measured yards; the steps taken; and whether it is settled.
-#[derive(Drop)]
+#[derive(Clone, Copy)]
 pub struct Outcome {
     pub progress: Progress,
     pub taken: u32,

@@ -19,7 +19,7 @@ use search_order::{Entries, Entry};
 const MOST_YARDS: usize = 256;
 
 // What a search has come to beside its words: what it keeps, and the measured yards with their number.
-#[derive(Drop)]
+#[derive(Clone, Copy)]
 pub struct Progress {
     pub kept: Entries,
     pub yards: [u16; MOST_YARDS],
