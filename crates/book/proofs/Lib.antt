@@ -1,5 +1,6 @@
 pub mod Tests
 pub mod Choosing
+pub mod Filling
 pub mod Laws
 pub mod Opening
 pub mod Refusals

@@ -1,12 +1,13 @@
 -- What is printed: a junction's row, and the whole text by the answer of the reader. Assumes nothing.
 use mathlib.Core.Path.{◌≡◌, sym, ap, ◌∙◌}
-use mathlib.Core.List.{List, ◌++◌}
+use mathlib.Core.List.{List, ◌++◌, append-nil}
 use Prim.Native.Nat.{ℕ}
 use native.Mathlib.Omega.{arith}
 use lib.Dec.{eqb}
 use Rattle.book.proofs.Choosing.{choose_yes, choose_no}
 use Rattle.book.proofs.Lists.{eq→eqb, ne→neqb}
 use Rattle.text.specs.Text.{in_turn, refused_text}
+use Rattle.text.proofs.Appending.{turns_none}
 use Rattle.road_layout.specs.Road.{junctions, road_count}
 use Rattle.road_layout.specs.Layout.{Sound, Refused, told}
 use Rattle.adjacency.specs.Arcs.{net}
@@ -21,6 +22,10 @@ pub row_is : (b ds : List ℕ) (n u w f t : ℕ) → ds ≡ distances (net b) (j
     → line_of w f t ≡ row_text b u
 unfolding row_text
 row_is b ds n u w f t d e k g h = cc
+
+-- before any row there is none
+pub none_put : (text : ℕ → List ℕ) (out : List ℕ) (n : ℕ) → n ≡ 0 → out ≡ out ++ in_turn text n
+none_put text out n e = rw (e, turns_none text) (sym (append-nil out))
 
 module _ (b : List ℕ) where
   -- what is printed of a book that is refused

@@ -22,6 +22,13 @@ at-inside [] v h = absurd (omega arith)
 at-inside (x ∷ ds) zero h = refl
 at-inside (x ∷ ds) (suc v) h = at-inside ds v (le_of_suc-le-suc h)
 
+-- past its end it is the mark
+pub at-outside : (ds : List ℕ) (v : ℕ) → length ds ≤ v → at ds v ≡ far
+unfolding at
+at-outside [] v h = refl
+at-outside (x ∷ ds) zero h = absurd (omega arith)
+at-outside (x ∷ ds) (suc v) h = at-outside ds v (le_of_suc-le-suc h)
+
 module _ (ds queue : List ℕ) (v x : ℕ) (inside : v < length ds) where
   pub shortened : (queue' : List ℕ) → x < get_or ds v 0 → queue' ≡ put_leaf queue v (word x v)
       → reach (set ds v x) queue' ≡ shorten_both (reach ds queue) v x

@@ -61,9 +61,9 @@ module _ (tree : List ℕ) where
   read_size old new r e = ap length e ∙ overwrite-length root_place old r
 
   -- one more
-  pub read_next : (root : RecordAt tree 12) (old new : List ℕ) (r : ℕ) (k : Landmark) → new ≡ overwrite root_place r old → r < landmark_count tree
-      → k ≡ landmark_of (get_or (marks_at tree 12) r no_mark) → set new r k.place.number ≡ overwrite root_place (r + 1) old
-  read_next root old new r k e h f = rw (e, place_read tree 12 root r h k f) (overwrite-next root_place old r)
+  pub read_next : (root : RecordAt tree 12) (old new : List ℕ) (r v : ℕ) (k : Landmark) → new ≡ overwrite root_place r old → r < landmark_count tree
+      → k ≡ landmark_of (get_or (marks_at tree 12) r no_mark) → v ≡ k.place.number → set new r v ≡ overwrite root_place (r + 1) old
+  read_next root old new r v k e h f s = rw (s, e, place_read tree 12 root r h k f) (overwrite-next root_place old r)
 
   -- all of them
   pub read_all : (old new : List ℕ) (r : ℕ) → length old ≡ landmark_count tree → new ≡ overwrite root_place r old → r ≤ length new → length new ≤ r

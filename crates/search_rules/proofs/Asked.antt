@@ -35,6 +35,10 @@ module _ (road tree : List ℕ) (a : Asking) (crews : List ℕ) where
   unfolding search_of
   asked-rule = refl
 
+  pub yards_of_lem : i.tree.yards ≡ tree_yard_count tree
+  unfolding search_of
+  yards_of_lem = decode-yards tree
+
   module _ (p : Passed road tree crews) where
     -- every yard that may be reached is among them
     pub asked_covers : Covers i ys

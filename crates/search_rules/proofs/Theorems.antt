@@ -173,6 +173,9 @@ module _ (i : Instance) (a : Accepted i.tree) (limit : ℕ) where
   pub measured-few : WellFormed i → (answer i limit).measured ≤ length ys
   measured-few well = omega (arith, answer-measured i limit, (decided i well limit).measured-few ys (tree_covers i a))
 
+  pub accepted-measured : WellFormed i → (answer i limit).measured ≤ i.tree.yards
+  accepted-measured well = omega (arith, measured-few well, a.whole.yard-count, kept-length i.wants (tree_yards i.tree))
+
 -- ---- of a root that may not enter the queue
 
 module _ (i : Instance) (out : T (not (i.admits 0))) where

@@ -9,7 +9,7 @@ use native.Mathlib.Omega.{arith}
 use lib.ListN.{length, get_or, set, take, drop, length-set}
 use lib.Dec.{ltb}
 use Rattle.book.specs.Choose.{choose}
-use Rattle.book.proofs.Choosing.{choose_yes, choose_no}
+use Rattle.book.proofs.Choosing.{choose_yes, choose_no, choose_case}
 use lib.Seq.{get_or-set_same, get_or-set_other}
 use Rattle.std.proofs.Common.{cond, count_by}
 use Rattle.std.proofs.lemmas.List.Sums.{sum_by-cons}
@@ -113,6 +113,26 @@ ends-above i ends (suc n) j h =
 pub level-counted : (i : ℕ) (ends : List ℕ) → i < length ends → count_by (λ x. ltb i x) (take (i + 1) ends) ≡ level_by (λ j. get_or ends j 0) i
 unfolding level_by
 level-counted i ends h = rw add-one (ends-above i ends (suc i) 0 (omega arith))
+
+module _ (f : ℕ → ℕ) (i : ℕ) where
+  holders-most : (n j : ℕ) → holders f n j i ≤ n
+  unfolding holders
+  holders-most zero j = omega arith
+  holders-most (suc n) j = omega (
+    arith,
+    choose_case (λ (x : ℕ). x ≤ 1) (ltb i (f j)) {x = 1} {y = 0} (λ t. omega arith) (λ t. omega arith),
+    holders-most n
+        (suc j),
+  )
+
+  -- a level is at most the region's number and 1
+  pub level_few : level_by f i ≤ i + 1
+  unfolding level_by
+  level_few = omega (arith, holders-most (suc i) 0)
+
+  -- and so is a count on the way
+  pub level_most : (n j : ℕ) → n + holders f ((i + 1) - j) j i ≡ level_by f i → n ≤ i + 1
+  level_most n j z = omega (arith, level_few)
 
 -- two functions that agree up to a region give it the same level
 holders-same : (f g : ℕ → ℕ) (i n j : ℕ) → ((x : ℕ) → j ≤ x → x < j + n → f x ≡ g x) → holders f n j i ≡ holders g n j i

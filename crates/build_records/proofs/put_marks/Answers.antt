@@ -3,6 +3,7 @@ use Prim.Native.Nat.{◌-◌}
 use native.Mathlib.Omega.{arith}
 use Rattle.book.specs.Open.{version}
 use Rattle.adjacency.proofs.Linking.{few-junctions}
+use Rattle.road.proofs.Reading.{row_none, row_some}
 use Rattle.tree_layout.specs.Decode.{mark_size}
 use Rattle.yard.proofs.YardLayout.{five}
 use Rattle.build_records.proofs.Numbered.{yards-few}
@@ -26,7 +27,7 @@ pub loop-j-init : goal.loop-j-init
 loop-j-init c =
     let p = c.requires in (
       refl,
-      tt,
+      row_none _ _ _ (omega (arith, few-junctions p.0.range.adjacency.adjacent)),
       λ road limit b. marking_start _ _ _ _ _ _ _ _,
     )
 
@@ -42,7 +43,7 @@ walk_from-requires c =
     let i = c.loop-j.invariant in
     let h = landmark-low _ _ _ _ _ _ _ _ (p.1 p.0.range.adjacency.book p.0.range.adjacency.adjacent) p.0.range.some c.loop-j-test.true p.0.range.inside
     c.landmark_of-l.ensures in
-    (p.0.range.adjacency, i.0, h, i.1)
+    (p.0.range.adjacency, i.0, h, i.1.has)
 
 pub loop-j-preserved : goal.loop-j-preserved
 loop-j-preserved c =
@@ -50,7 +51,7 @@ loop-j-preserved c =
     let x = c.put_mark in
     let i = c.loop-j.invariant in (
       w.auto.row ∙ i.0,
-      (λ h. w.ensures),
+      row_some _ _ _ w.ensures,
       λ road limit b. marking_turn _ _ _ _ _ _ _ _ _ _ _ _ (i.2 road limit b) c.loop-j-test.true
           (given_mark_length _ _ _ _ _ _ _ _ ∙ sym (sized (goal.at.loop-j-preserved c).After-mark_size-size))
           (landmark-same _ _ _ _ _ _ _ (c.requires.1 road b) c.landmark_of-l.ensures) (x.ensures road (w.ensures road b) _ limit),

@@ -3,8 +3,12 @@ use mathlib.Core.Path.{ap, ◌∙◌}
 use native.Mathlib.Omega.{arith}
 use lib.ListN.{length, length-append}
 use Rattle.adjacency.proofs.Linking.{few-junctions}
-use Rattle.eccentricity.specs.Output.{heading}
+use Rattle.eccentricity.specs.Output.{heading, row_text}
+use Rattle.eccentricity.proofs.Printing.{none_put}
 use Rattle.eccentricity.proofs.rows.Goals as goal
+
+pub loop-u-init : goal.loop-u-init
+loop-u-init g c = (omega arith, λ b a. none_put (row_text b) _ _ (omega arith))
 
 pub row-requires : goal.row-requires
 row-requires g c =

@@ -3,11 +3,13 @@ use Prim.Native.Nat.{◌+◌, ◌≤◌, ◌<◌}
 use native.Mathlib.Omega.{arith}
 use lib.ListN.{length}
 use Rattle.book.specs.Open.{version}
+use Rattle.road.proofs.Reading.{row_none, row_some}
 use Rattle.tree_layout.specs.Sizes.{leaf_mark_size}
 use Rattle.tree_layout.specs.Decode.{landmark_count}
 use Rattle.tree_layout.proofs.Sizes.{leaf_mark_are}
 use Rattle.tree_layout.proofs.RecordFields.{all-marks-done}
 use Rattle.check_rules.proofs.Elements.{list-fits, list_length}
+use Rattle.check_distances.proofs.Rows.{few}
 use Rattle.check_distances.proofs.Listing.{list-placed, lists_on, lists_off}
 use Rattle.check_distances.proofs.lists.lists_true.Goals.{After-mark_place-at, In-loop-j}
 use Rattle.check_distances.proofs.lists.lists_true.Goals as goal
@@ -29,7 +31,7 @@ pub version-v-requires : goal.version-v-requires
 version-v-requires c = omega (arith, c.requires.0.stands.header)
 
 pub loop-j-init : goal.loop-j-init
-loop-j-init c = (refl, tt, λ road a. refl)
+loop-j-init c = (refl, row_none _ _ _ (omega (arith, few _ c.requires.0.roads)), λ road a. refl)
 
 pub mark_place-at-requires : goal.mark_place-at-requires
 mark_place-at-requires c = (c.requires.0.stands, number c)
@@ -43,7 +45,7 @@ walk_from-requires c =
     let p = c.requires in
     let i = c.loop-j.invariant in
     let h = list-placed _ _ _ p.0 p.1 p.2 _ (number (goal.at.walk_from-requires c).In-loop-j) _ c.mark_place-at.ensures _ c.junction-place.ensures in
-    (p.0.roads, i.0, h, i.1)
+    (p.0.roads, i.0, h, i.1.has)
 
 pub list-list-requires : goal.list-list-requires
 list-list-requires c =
@@ -68,7 +70,7 @@ loop-j-preserved c =
     let p = c.requires in
     let i = c.loop-j.invariant in (
       c.walk_from.auto.row ∙ i.0,
-      (λ h. c.walk_from.ensures),
+      row_some _ _ _ c.walk_from.ensures,
       (λ road a. lists_on _ _ _ p.0 p.1 p.2 _ (number (goal.at.loop-j-preserved c).In-loop-j) _ c.mark_place-at.ensures road _ _ _ _ _
           c.junction-place.ensures c.version-v.ensures (c.walk_from.ensures road a) c.list-list.ensures
           c.list_true.ensures c.if-not-list_true.false ∙ i.2 road a),

@@ -1,11 +1,10 @@
 use mathlib.Core.Path.{◌≡◌}
 use mathlib.Core.List.{List}
-use Prim.Native.Nat.{ℕ, ◌<◌}
-use Rattle.std.proofs.Common.{IfSome}
+use Prim.Native.Nat.{ℕ}
 use lib.ListN.{length, drop}
-use Rattle.adjacency.specs.Adjacency.{count_in, Adjacency}
+use Rattle.adjacency.specs.Adjacency.{Adjacency}
 use Rattle.road.specs.Dijkstra.{dist}
-use Rattle.road.specs.code.Rows.{RowFrom}
+use Rattle.road.proofs.Reading.{RowLast}
 use Rattle.yard.specs.Yards.{yards_of}
 use Rattle.tree_layout.specs.code.Marks.{marks_at}
 use Rattle.tree_layout.specs.Refusal.{all}
@@ -13,6 +12,6 @@ use Rattle.check_rules.specs.Truth.{true_span, within}
 use Rattle.check_distances.proofs.spans.spans_true.Given as goal
 
 abbrev pub invariant-loop-j : goal.invariant-loop-j
-invariant-loop-j l = (length l.ds ≡ 1024) × IfSome l.last (λ u. u.number < count_in l.adj → RowFrom l.adj l.ds u.number)
+invariant-loop-j l = (length l.ds ≡ 1024) × RowLast l.adj l.ds l.last
     × ((road : List ℕ) → Adjacency road l.adj → all (true_span (dist road) (within l.f.first.number l.f.after (yards_of l.yard))) (drop l.j (marks_at l.tree l.f.at))
     ≡ all (true_span (dist road) (within l.f.first.number l.f.after (yards_of l.yard))) (marks_at l.tree l.f.at))
