@@ -22,22 +22,33 @@ fn is_border(adj: &[u16], a: usize, s: usize, v: u16) -> bool
     false
 }
 
-// The border junctions of the range from a with s junctions, in rising order, listed in a lent area.
-pub fn border_list<'a>(adj: &[u16], a: Junction, s: usize, area: &'a mut [u16]) -> &'a [u16]
-    requires { IsAdjacency adj.now × (a.number + s ≤ 1024) × (s ≤ length area.old) }
-    ensures count { length result.now ≤ s }
+// Lists the border junctions of the range from a with s junctions, in rising order, at the start of a lent area: how many.
+pub fn border_list(adj: &[u16], a: Junction, s: usize, list: &mut [u16]) -> usize
+    requires { IsAdjacency adj.now × (a.number + s ≤ 1024) × (s ≤ length list.old) }
+    ensures count { result ≤ s }
     ensures list { (road : List ℕ) → Adjacency road adj.now
-        → result.now ≡ borders (roads road) a.number s }
+        → take result list.new ≡ borders (roads road) a.number s }
 {
     let low = a.number as usize;
     let mut n: usize = 0;
     for v in low..low + s {
         let number = v as u16;
         if is_border(adj, low, s, number) {
-            area[n] = number;
+            list[n] = number;
             n += 1;
         }
     }
+    n
+}
+
+// The border junctions of the range from a with s junctions, in rising order, listed in a lent area.
+pub fn borders_in<'a>(adj: &[u16], a: Junction, s: usize, area: &'a mut [u16]) -> &'a [u16]
+    requires { IsAdjacency adj.now × (a.number + s ≤ 1024) × (s ≤ length area.old) }
+    ensures count { length result.now ≤ s }
+    ensures list { (road : List ℕ) → Adjacency road adj.now
+        → result.now ≡ borders (roads road) a.number s }
+{
+    let n = border_list(adj, a, s, area);
     &area[..n]
 }
 

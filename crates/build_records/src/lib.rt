@@ -99,7 +99,7 @@ pub fn put_record(adj: &[u16], yb: &[u8], r: Record, tree: &mut [u8], at: usize)
 {
     let p = r.part;
     let mut area = [0u16; 1024];
-    let list = borders::border_list(adj, p.start, p.size, &mut area);
+    let list = borders::borders_in(adj, p.start, p.size, &mut area);
     let first = p.start;
     let v = book::version(yb);
     tree_encode::put_fields(

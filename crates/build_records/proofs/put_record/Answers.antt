@@ -5,8 +5,8 @@ use Rattle.build_records.proofs.Numbered.{yards-few}
 use Rattle.build_records.proofs.Records.{fields_room, room, ends, record_written}
 use Rattle.build_records.proofs.put_record.Goals as goal
 
-pub border_list-list-requires : goal.border_list-list-requires
-border_list-list-requires c =
+pub borders_in-list-requires : goal.borders_in-list-requires
+borders_in-list-requires c =
     let p = c.requires in
     let n = few-junctions p.0.range.adjacency.adjacent in
     (p.0.range.adjacency, omega (arith, p.0.range.inside, n), omega (arith, p.0.range.inside, n))
@@ -32,7 +32,7 @@ marks_at-start-requires c = omega (arith, fields_room _ _ _ _ _ _ 0 c.version-v.
 pub put_marks-requires : goal.put_marks-requires
 put_marks-requires c =
     let p = c.requires in
-    let l = c.border_list-list.ensures in (
+    let l = c.borders_in-list.ensures in (
       p.0,
       l.list,
       omega (arith, l.count, p.0.range.inside, few-junctions p.0.range.adjacency.adjacent),

@@ -13,7 +13,7 @@ loop-v-preserved c =
     let f = c.requires.1 in
     let h = c.loop-v-test.true in
     let e = c.is_border.ensures road b in
-    elim c.if-is_border.branch [ then-is_border w ↦ bordering_yes _ _ _ _ _ _ f i h _ _ (sym e ∙ w.if-is_border.true) w.area-is w.n-is | else-is_border w ↦ bordering_no _ _ _ _ _ _ f i h _ _ (sym e ∙ w.if-is_border.false) w.area-is w.n-is ]
+    elim c.if-is_border.branch [ then-is_border w ↦ bordering_yes _ _ _ _ _ _ f i h _ _ (sym e ∙ w.if-is_border.true) w.list-is w.n-is | else-is_border w ↦ bordering_no _ _ _ _ _ _ f i h _ _ (sym e ∙ w.if-is_border.false) w.list-is w.n-is ]
 
 pub returns-clause-list : goal.returns-clause-list
 returns-clause-list c = λ road b. bordering_end _ _ _ _ _ _ c.requires.1 (c.loop-v.invariant road b) c.loop-v-test.false

@@ -6,4 +6,4 @@ use Rattle.build_records.proofs.Scanning.{Bordering}
 use Rattle.build_records.proofs.borders.border_list.Given as goal
 
 abbrev pub invariant-loop-v : goal.invariant-loop-v
-invariant-loop-v l = (road : List ℕ) → Adjacency road l.adj → Bordering (roads road) l.low l.s l.area l.n l.v
+invariant-loop-v l = (road : List ℕ) → Adjacency road l.adj → Bordering (roads road) l.low l.s l.list l.n l.v
