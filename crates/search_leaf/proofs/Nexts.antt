@@ -50,7 +50,7 @@ unfolding next_in
 next_in_lem fs gone es n = refl
 
 -- an answer's word
-word-is : (fs : List ℕ) (gone : List Bool) (es : List Element) (n : ℕ) (r : Option Next) → IsNext fs gone es n r → word_in r ≡ next_word fs gone es n
+pub word-is : (fs : List ℕ) (gone : List Bool) (es : List Element) (n : ℕ) (r : Option Next) → IsNext fs gone es n r → word_in r ≡ next_word fs gone es n
 word-is fs gone es n None e = e.1
 word-is fs gone es n (Some x) e = e.1
 
@@ -109,10 +109,10 @@ module _ (regions junctions v : ℕ) (p : List ℕ) (n : ℕ) (ws vs : List ℕ)
       yard-is = rw (← ey, ← ea, ← eb, ← eg, ← ek, ev) refl
 
       pub queued-is : (after : Option Next) (x : ℕ)
-          → IsNext (fs_in junctions vs) (gone_in regions junctions (set (set ws g 0) k key)) (read_list v p n 0) n after
+          → word_in after ≡ next_word (fs_in junctions vs) (gone_in regions junctions (set (set ws g 0) k key)) (read_list v p n 0) n
           → x ≡ again_key (get_or ws a 0) (word_in after) → set (set (set ws g 0) k key) r x ≡ leaf_queued regions junctions (read_list v p n 0) n ws vs r
       queued-is after x w e =
-          rw (e, ea, word-is (fs_in junctions vs) (gone_in regions junctions (set (set ws g 0) k key)) (read_list v p n 0) n after w) refl
+          rw (e, ea, w) refl
           ∙ sym (queued_on regions junctions (read_list v p n 0) n ws vs r (set (set ws g 0) k key) yard-is there)
 
 -- ---- its parts

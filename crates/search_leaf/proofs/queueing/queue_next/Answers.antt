@@ -2,7 +2,7 @@ use native.Mathlib.Omega.{arith}
 use lib.ListN.{length-set}
 use Rattle.search_leaf.proofs.Numbering.{element-fits}
 use Rattle.search_leaf.proofs.Filling.{yard-near}
-use Rattle.search_leaf.proofs.Nexts.{next-inside, leaving-is, none-queued, queued-is}
+use Rattle.search_leaf.proofs.Nexts.{next-inside, leaving-is, none-queued, word-is, queued-is}
 use Rattle.search_leaf.proofs.queueing.queue_next.Goals as goal
 
 pub bounds-words-r : goal.bounds-words-r
@@ -45,10 +45,11 @@ bounds-words-r-2 c =
 pub returns : goal.returns
 returns c =
     let first = c.in-Some.ensures in
+    let after = c.next_element-after in
     let w = c.args.words.now in
     queued-is c.args.h.regions c.args.h.junctions _ _ _ w c.args.values.now c.args.r.number
     (omega (arith, first.1, first.2)) _
     (leaving-is _ _ _ _ _ w c.args.values.now c.requires.0 _ first.0 _ c.element.ensures)
     _ _ _ _ c.first_at.ensures c.bound_at.ensures c.gone_at-gone_place.ensures c.key_at-key_place.ensures _
     (rw c.from-bound.ensures at c.max.ensures)
-    _ _ c.next_element-after.ensures c.again_key.ensures
+    after.result _ (word-is _ _ _ _ _ after.ensures) c.again_key.ensures
